@@ -1,0 +1,5 @@
+mod Numbers
+mod Commands
+mod Lent
+mod Sending
+mod Said

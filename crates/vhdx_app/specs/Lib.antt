@@ -1,0 +1,6 @@
+pub mod Words
+pub mod PlainFile
+pub mod Statuses
+pub mod Dump
+pub mod Answers
+pub mod Printed
