@@ -40,7 +40,7 @@ has_item zone at id offset len flags =
 -- 2.6.1, 2.6.2: the five items that every file has
 abbrev pub has_items : List ℕ → ℕ → Bool
 has_items zone at =
-    has zone at (codes "metadata") && u16_at zone (at + 10) == 5
+    has zone at (codes "metadata") && u16_at zone (at + 8) == 0 && u16_at zone (at + 10) == 5
     && has_item zone (at + 32) FILE_PARAMETERS 65536 8 4 && has_item zone (at + 64) DISK_SIZE 65544 8 6
     && has_item zone (at + 96) DISK_ID 65552 16 6 && has_item zone (at + 128) LOGICAL_SECTOR 65568 4 6
     && has_item zone (at + 160) PHYSICAL_SECTOR 65572 4 6

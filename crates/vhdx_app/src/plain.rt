@@ -110,6 +110,7 @@ fn has_items(zone: &[u8], at: usize) -> bool
     ensures { result ≡ spec.has_items zone.now at }
 {
     has(zone, at, b"metadata")
+        && u16_at(zone, at + 8) == 0
         && u16_at(zone, at + 10) == 5
         && has_item(zone, at + 32, &FILE_PARAMETERS, 65_536, 8, 4)
         && has_item(zone, at + 64, &DISK_SIZE, 65_544, 8, 6)

@@ -220,9 +220,13 @@ fn refusals(rt: HostRuntime) -> Result<(), Fail> {
         len: LEN + 1,
         ..PLAIN
     };
-    // A byte of a reserved field, of a version, of an entry of the table, and one behind it.
+    // A byte of a reserved field twice, of a version, of an entry of the table, and one behind it.
     let reserved = Setting {
         damage: Some((0x3_000C, 1)),
+        ..PLAIN
+    };
+    let unused = Setting {
+        damage: Some((0x20_0008, 1)),
         ..PLAIN
     };
     let version = Setting {
@@ -246,6 +250,7 @@ fn refusals(rt: HostRuntime) -> Result<(), Fail> {
         ("f.vhdx", "8192", short, not_plain),
         ("f.vhdx", "0", long, not_plain),
         ("f.vhdx", "0", reserved, not_plain),
+        ("f.vhdx", "0", unused, not_plain),
         ("f.vhdx", "0", version, not_plain),
         ("f.vhdx", "0", block, not_plain),
         ("f.vhdx", "0", behind, not_plain),
