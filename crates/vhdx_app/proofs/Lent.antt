@@ -1,5 +1,5 @@
 -- A folder that lends one file and has it back.
-use Rattle.std.proofs.Common.{◌≡◌, ℕ, zero, suc, Bool, true, false, cond, List, [], ◌∷◌, Option, Some, None, ◌++◌, refl, sym, ap, subst, ◌∙◌, arith}
+use Rattle.std.proofs.Common.{◌≡◌, ℕ, zero, suc, Bool, true, false, cond, List, [], ◌∷◌, Option, Some, None, refl, sym, ap, subst, ◌∙◌, arith}
 use Rattle.std.specs.Prelude.{◌||◌, option_map, unwrap_or}
 use Rattle.std.specs.List.{IsDistinct}
 use Rattle.std.specs.Str.{bytes_eq}
@@ -7,7 +7,7 @@ use Rattle.std.proofs.lemmas.Bool.{or_left, or_right}
 use Rattle.std.proofs.lemmas.Option.{same_Some}
 use Rattle.store_model.specs.Disk.{WhereTold}
 use Rattle.store_model.specs.File.{File, seen}
-use Rattle.store_model.specs.Folder.{fresh, Held, has_name, file_named, with_file, seen_named, CanAttach, attached_trace, without, given_back, AreAway}
+use Rattle.store_model.specs.Folder.{Held, has_name, file_named, with_file, seen_named, CanAttach, attached_trace, without, given_back, AreAway}
 use Rattle.store_model.specs.Trace.{Trace, file_of}
 use Rattle.vhdx_app.specs.Dump.{AllIdle, contents_of, Listed}
 
@@ -104,17 +104,3 @@ contents_stay leaf folder lent after told is idle there back_is f folder_is =
     let trace = attached_trace (leaf ∷ []) f in
     ap (option_map contents_of) (back_is trace told_is ∙ ap (option_map (given_back trace)) lent_is)
     ∙ ap Some (back leaf f (file_of trace 0) (idle f folder_is) (there f folder_is) (seen-attached leaf f))
-
-fresh_one : List ℕ → List ℕ → Held
-fresh_one name bytes = record { name = name; file = Some (fresh bytes) }
-
-idle_one : (name bytes : List ℕ) → AllIdle (fresh_one name bytes ∷ [])
-unfolding fresh_one
-idle_one name bytes zero d h = (fresh bytes, refl, refl)
-idle_one name bytes (suc k) d h = absurd (omega arith)
-
--- a folder of one fresh file is idle
-pub one_idle : (folder : Option (List Held)) (slots : List Held) (name bytes : List ℕ) → Some slots ≡ Some [] → folder ≡ Some (slots ++ record { name = name; file = Some (fresh bytes) } ∷ []) → WhereTold folder AllIdle
-unfolding fresh_one
-one_idle folder slots name bytes none is t told =
-    subst AllIdle (ap (λ s. s ++ fresh_one name bytes ∷ []) (sym (same_Some slots [] none)) ∙ same_Some _ _ (sym is ∙ told)) (idle_one name bytes)

@@ -34,7 +34,7 @@ fn status_of(found: Found) -> Status
 }
 
 // So many zeros, on the heap.
-pub fn zeroed(alloc: Global, n: usize) -> Result<Vec<u8>, NoRoom>
+fn zeroed(alloc: Global, n: usize) -> Result<Vec<u8>, NoRoom>
     ensures { IfOk result (λ bytes. length bytes.items ≡ n) }
 {
     Ok(vec![in alloc; 0u8; n]?)

@@ -5,14 +5,13 @@ ghost use Rattle.mem_store.specs.HostTold.{hosted_by};
 ghost use Rattle.store_model.specs.Disk.{WhereTold};
 ghost use Rattle.vhdx_app.specs.Dump.{AllIdle};
 
-use crate::program::zeroed;
-use crate::{Status, run};
 use mem_store::{MemHost, MemIds, MemSink, MemSource, Room};
-use std::alloc::Global;
+use std::alloc::{AllocError, Global};
 use std::sync::Wait;
 use std::test::Fail;
 use std::thread::Threads;
 use store_model::IdleGate;
+use vhdx_app::{Status, run};
 use vx_base::{Guid, Name};
 
 const LEN: usize = 8_388_608;
@@ -40,6 +39,11 @@ const PLAIN: Setting = Setting {
     store: 0,
     sink: 0,
 };
+
+// So many zeros.
+fn zeroed(alloc: Global, n: usize) -> Result<Vec<u8>, AllocError> {
+    vec![in alloc; 0u8; n]
+}
 
 fn place(file: &mut [u8], at: usize, field: &[u8]) {
     for i in 0..field.len() {
@@ -111,7 +115,7 @@ fn place_metadata(file: &mut [u8]) -> Result<(), Fail> {
 
 // The fixed file of 8,192 sectors with blocks of 1 MB, its sector 1 filled with 5a.
 fn plain_file(alloc: Global, len: usize) -> Result<Vec<u8>, Fail> {
-    let mut file = zeroed(alloc, len).map_err(|_| "no memory")?;
+    let mut file = zeroed(alloc, len)?;
     place(&mut file, 0, b"vhdxfilev\0h\0d\0x\0_\0a\0p\0p\0");
     place_header(&mut file, 0x1_0000, 1);
     place_header(&mut file, 0x2_0000, 2);

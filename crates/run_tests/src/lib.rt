@@ -1,0 +1,5 @@
+//! Tests of the whole program over files in memory: what no clause says of `run`.
+#![tactic(auto)]
+
+#[cfg(test)]
+mod tests;
