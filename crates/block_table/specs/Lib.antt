@@ -1,0 +1,4 @@
+pub mod Overlaps
+pub mod Tables
+pub mod Refusals
+pub mod Findings
