@@ -1,5 +1,12 @@
 mod Numbers
 mod Commands
-mod Lent
 mod Sending
+mod Signatures
+mod Numbered
+mod Sectors
+mod Opened
+mod Lent
+mod Found
 mod Said
+mod OneAnswer
+mod MadeShow

@@ -1,38 +1,35 @@
 -- What was found is answered with its status.
-use Rattle.std.proofs.Common.{◌≡◌, ℕ, List, Option, refl, sym, subst}
+use Rattle.std.proofs.Common.{◌≡◌, ◌<◌, ℕ, List, Option, Result, Ok, Err, sym, ap, subst, ◌∙◌}
+use Rattle.std.specs.Prelude.{IfOk, codes}
 use Rattle.store_model.specs.Disk.{WhereTold}
-use Rattle.store_model.specs.Folder.{Held, seen_named}
-use Rattle.vhdx_app.specs.Answers.{text_of}
-use Rattle.vhdx_app.specs.Dump.{found_of}
-use Rattle.vhdx_app.specs.PlainFile.{plain_sector}
-use Rattle.vhdx_app.specs.Printed.{Answers, IsTextOf, Printed, Sent, status_of}
-use Rattle.vhdx_app.specs.declared.dump.Found.{Found}
-use Rattle.vhdx_app.specs.declared.dump.Found.TheVariants.{Missing, NotPlain, OutOfRange, Sector}
+use Rattle.store_model.specs.Folder.{Held}
+use Rattle.vx_base.specs.declared.NoRoom.{NoRoom}
+use Rattle.vhdx_app.specs.Answers.{fault_line}
+use Rattle.vhdx_app.specs.Causes.{Counts, CountsBy, IfCause, Meaning, refuses, host_failed, read_failed, no_memory, Says, SaysBy, cause_in, cause_of_dump, meaning_of_dump}
+use Rattle.vhdx_app.specs.Dump.{Finds}
+use Rattle.vhdx_app.specs.Printed.{IsTextOf, Printed, Sent, of_host, of_store}
+use Rattle.vhdx_app.specs.declared.refusal.DumpRefusal.{DumpRefusal}
 use Rattle.vhdx_app.specs.declared.status.Status.{Status}
 
-answers : (folder : Option (List Held)) (leaf : List ℕ) (first : ℕ) (found : Found) (sector text : List ℕ) → text ≡ text_of leaf first sector found → WhereTold folder (λ f. found ≡ found_of f leaf first) → (found ≡ Sector → WhereTold folder (λ f. sector ≡ plain_sector (seen_named leaf f) first)) → Answers folder leaf first (status_of found) text
-answers folder leaf first found sector text text_is found_is sector_is = record {
-  found = found;
-  sector = sector;
-  status_is = refl;
-  text_is = text_is;
-  found_is = found_is;
-  sector_is = sector_is;
-}
+module _ (folder : Option (List Held)) (leaf : List ℕ) (sector before faults : ℕ) where
+  said_by : (meaning : Meaning) (status : Status) (text : List ℕ) → WhereTold folder (λ f. IfCause (Finds f leaf sector) (cause_in meaning)) → CountsBy before faults meaning → SaysBy leaf meaning status text → IsTextOf folder leaf sector faults status text
+  said_by (refuses refusal) status text finds count (status_is, text_is) =
+      subst (λ s. IsTextOf folder leaf sector faults s text) (sym status_is) (record { refusal = refusal; text_is = text_is; finds = finds })
+  said_by (host_failed fault) status text finds count (status_is, text_is) =
+      subst (λ s. IsTextOf folder leaf sector faults s text) (sym status_is) (of_host (text_is ∙ ap (fault_line (codes "host")) count.1))
+  said_by (read_failed fault) status text finds count (status_is, text_is) =
+      subst (λ s. IsTextOf folder leaf sector faults s text) (sym status_is) (of_store fault.count count.1 text_is)
+  said_by no_memory status text finds count (status_is, text_is) =
+      subst (λ s. IsTextOf folder leaf sector faults s text) (sym status_is) text_is
 
-as_text : (folder : Option (List Held)) (leaf : List ℕ) (first faults : ℕ) (found : Found) (text : List ℕ) → Answers folder leaf first (status_of found) text → IsTextOf folder leaf first faults (status_of found) text
-as_text folder leaf first faults Missing text a = a
-as_text folder leaf first faults NotPlain text a = a
-as_text folder leaf first faults OutOfRange text a = a
-as_text folder leaf first faults Sector text a = a
-
-pub said_found : (folder : Option (List Held)) (leaf named : List ℕ) (first faults : ℕ) (found : Found) (status : Status) (sector text : List ℕ) → named ≡ leaf → status ≡ status_of found → text ≡ text_of leaf first sector found → WhereTold folder (λ f. found ≡ found_of f named first) → (found ≡ Sector → WhereTold folder (λ f. sector ≡ plain_sector (seen_named named f) first)) → IsTextOf folder leaf first faults status text
-said_found folder leaf named first faults found status sector text same status_is text_is found_is sector_is =
-    subst (λ s. IsTextOf folder leaf first faults s text) (sym status_is)
-    (as_text folder leaf first faults found text
-    (answers folder leaf first found sector text text_is
-    (subst (λ n. WhereTold folder (λ f. found ≡ found_of f n first)) same found_is)
-    (subst (λ n. found ≡ Sector → WhereTold folder (λ f. sector ≡ plain_sector (seen_named n f) first)) same sector_is)))
+-- a refusal is said as its line
+pub refusal_said : {T : Type 0} (status_of : T → Status) (text_of : T → List ℕ) (folder : Option (List Held)) (leaf named : List ℕ) (sector before faults : ℕ) (refusal : DumpRefusal) (result : Result T NoRoom) → named ≡ leaf
+    → WhereTold folder (λ f. IfCause (Finds f named sector) (cause_of_dump refusal)) → Counts before faults refusal
+    → IfOk result (λ r. Says leaf refusal (status_of r) (text_of r)) → IfOk result (λ r. IsTextOf folder leaf sector faults (status_of r) (text_of r))
+refusal_said status_of text_of folder leaf named sector before faults refusal (Ok r) same finds count said =
+    said_by folder leaf sector before faults (meaning_of_dump refusal) (status_of r) (text_of r)
+    (subst (λ n. WhereTold folder (λ f. IfCause (Finds f n sector) (cause_of_dump refusal))) same finds) count said
+refusal_said status_of text_of folder leaf named sector before faults refusal (Err e) same finds count said = said
 
 -- what was meant and sent for one name and number is for those that are the same
 pub printed_for : (folder : Option (List Held)) (leaf other : List ℕ) (first number faults : ℕ) (before after : Option (List ℕ)) (old new : ℕ) (meant result : Status) (text bytes : List ℕ) → leaf ≡ other → first ≡ number → bytes ≡ text → IsTextOf folder leaf first faults meant text → Sent before after old new meant bytes result → Printed folder other number faults before after old new result

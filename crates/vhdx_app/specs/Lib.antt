@@ -1,6 +1,9 @@
 pub mod Words
-pub mod PlainFile
 pub mod Statuses
-pub mod Dump
+pub mod Refusals
+pub mod Opening
+pub mod Causes
 pub mod Answers
+pub mod Dump
 pub mod Printed
+pub mod Laws

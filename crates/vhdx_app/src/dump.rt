@@ -1,124 +1,94 @@
-//! One sector of a plain file.
+//! One sector of the disk of a file without a parent.
 
-ghost use Rattle.std.specs.Prelude.{◌≡◌, ◌≢◌, ◌<◌, ◌≤◌, length, true, Some, option_map, IfOk, IfErr, OnOk};
-ghost use Rattle.store_model.specs.Disk.{WhereTold, ReadFailed};
+ghost use Rattle.std.specs.Prelude.{◌≡◌, ◌<◌, length, true, Some, Result, Ok, option_map, IfErr, OnOk};
+ghost use Rattle.store_model.specs.Disk.{WhereTold};
 ghost use Rattle.store_model.specs.File.{seen};
 ghost use Rattle.store_model.specs.Folder.{seen_named, has_name};
 ghost use Rattle.store_model.specs.Trace.{file_of};
-ghost use Rattle.vhdx_app.specs.Dump.{found_in, found_of, contents_of, AllIdle, IsStop};
-ghost use Rattle.vhdx_app.specs.PlainFile.{plain_sector};
+ghost use Rattle.vhdx_app.specs.Causes.{AnswersDump, AnswersIn, Counts, LeavesDump};
+ghost use Rattle.vhdx_app.specs.Dump.{contents_of, AllIdle};
 
-use crate::plain::is_plain;
-use store_model::{Host, HostFault, Store, StoreFault};
+use crate::layer::read_sector;
+use crate::open::open_file;
+use crate::refusal::{DumpRefusal, OpenRefusal};
+use std::alloc::Global;
+use store_model::{Host, Store};
 use vx_base::Name;
 
-/// Bytes of a plain file.
-const FILE_LEN: u64 = 8_388_608;
+/// Bytes of a sector.
+pub const SECTOR: usize = 512;
 
-/// Where its blocks begin, in bytes; what stands before them decides whether it is plain.
-const BLOCKS_AT: u64 = 4_194_304;
-
-/// What there is to show.
-#[derive(Clone, Copy, Debug, PartialEq, Eq)]
-pub enum Found {
-    /// No file has the name.
-    Missing,
-    /// The file isn't plain.
-    NotPlain,
-    /// The sector isn't on the disk.
-    OutOfRange,
-    /// The sector, read.
-    Sector,
-}
-
-/// Why nothing was found out.
-#[derive(Clone, Copy, Debug, PartialEq, Eq)]
-pub enum Stop {
-    Host(HostFault),
-    Store(StoreFault),
-}
-
-// Looks at the store's first file, and reads the sector.
+// Opens the store's first file, and reads the sector.
 fn look<S: Store>(
+    alloc: Global,
     store: &mut S,
     first: u64,
-    zone: &mut [u8],
     sector: &mut [u8],
-) -> Result<Found, StoreFault>
+) -> Result<(), DumpRefusal>
     requires files { 0 < (S.disk store.old).files }
-    requires zone { length zone.old ≡ 4194304 }
     requires sector { length sector.old ≡ 512 }
+    ensures answer { WhereTold (S.disk store.old).told (λ trace. AnswersIn (seen (file_of trace 0)) first sector.new result) }
     ensures stays { OnOk result (S.disk store.new ≡ S.disk store.old) }
-    ensures found { IfOk result (λ found. WhereTold (S.disk store.old).told (λ trace. found ≡ found_in (seen (file_of trace 0)) first)) }
-    ensures sector { IfOk result (λ found. found ≡ Found.Sector → WhereTold (S.disk store.old).told (λ trace. sector.new ≡ plain_sector (seen (file_of trace 0)) first)) }
-    ensures err { IfErr result (ReadFailed 0 (S.disk store.old) (S.disk store.new)) }
+    ensures err { IfErr result (LeavesDump (S.disk store.old) (S.disk store.new)) }
     ensures told { (S.disk store.new).told ≡ (S.disk store.old).told }
 {
-    if store.len(0)? != FILE_LEN {
-        return Ok(Found::NotPlain);
+    let parts = open_file(alloc, store, 0)?;
+    let sectors = parts.geometry.sectors;
+    if first >= sectors {
+        return Err(DumpRefusal::OutOfRange {
+            first,
+            count: 1,
+            sectors,
+        });
     }
-    store.read_at(0, 0, zone)?;
-    if !is_plain(zone) {
-        return Ok(Found::NotPlain);
-    }
-    if first >= 8_192 {
-        return Ok(Found::OutOfRange);
-    }
-    store.read_at(0, BLOCKS_AT + 512 * first, sector)?;
-    Ok(Found::Sector)
+    read_sector(store, 0, &parts, first, sector)?;
+    Ok(())
 }
 
 // The same of the file of this name, which is there.
 fn visit<H: Host>(
+    alloc: Global,
     host: &mut H,
     leaf: Name,
     first: u64,
-    zone: &mut [u8],
     sector: &mut [u8],
-) -> Result<Found, Stop>
+) -> Result<(), DumpRefusal>
     requires idle { WhereTold (H.hosted host.old).folder AllIdle }
     requires there { WhereTold (H.hosted host.old).folder (λ folder. has_name leaf folder ≡ true) }
-    requires zone { length zone.old ≡ 4194304 }
     requires sector { length sector.old ≡ 512 }
-    ensures found { IfOk result (λ found. WhereTold (H.hosted host.old).folder (λ folder. found ≡ found_in (seen_named leaf folder) first)) }
-    ensures sector { IfOk result (λ found. found ≡ Found.Sector → WhereTold (H.hosted host.old).folder (λ folder. sector.new ≡ plain_sector (seen_named leaf folder) first)) }
+    ensures answer { WhereTold (H.hosted host.old).folder (λ folder. AnswersIn (seen_named leaf folder) first sector.new result) }
     ensures stays { WhereTold (H.hosted host.old).folder (λ folder. option_map contents_of (H.hosted host.new).folder ≡ Some (contents_of folder)) }
     ensures quiet { OnOk result ((H.hosted host.new).faults ≡ (H.hosted host.old).faults) }
-    ensures err { IfErr result (IsStop (H.hosted host.old).faults (H.hosted host.new).faults) }
+    ensures counts { IfErr result (Counts (H.hosted host.old).faults (H.hosted host.new).faults) }
 {
     let names = [leaf];
     let mut store = match host.attach(&names) {
         Ok(store) => store,
-        Err(fault) => return Err(Stop::Host(fault)),
+        Err(fault) => return Err(DumpRefusal::File(OpenRefusal::Host(fault))),
     };
-    let looked = look(&mut store, first, zone, sector);
+    let looked = look(alloc, &mut store, first, sector);
     host.give_back(store);
-    match looked {
-        Ok(found) => Ok(found),
-        Err(fault) => Err(Stop::Store(fault)),
-    }
+    looked
 }
 
-/// What a dump of the sector finds. A sector that is found stands in the buffer; the files stay.
+/// Reads a sector of the disk of the file of this name into the buffer; the files stay.
 pub fn find<H: Host>(
+    alloc: Global,
     host: &mut H,
     leaf: Name,
     first: u64,
-    zone: &mut [u8],
     sector: &mut [u8],
-) -> Result<Found, Stop>
+) -> Result<(), DumpRefusal>
     requires idle { WhereTold (H.hosted host.old).folder AllIdle }
-    requires zone { length zone.old ≡ 4194304 }
     requires sector { length sector.old ≡ 512 }
-    ensures found { IfOk result (λ found. WhereTold (H.hosted host.old).folder (λ folder. found ≡ found_of folder leaf first)) }
-    ensures sector { IfOk result (λ found. found ≡ Found.Sector → WhereTold (H.hosted host.old).folder (λ folder. sector.new ≡ plain_sector (seen_named leaf folder) first)) }
+    ensures answer { WhereTold (H.hosted host.old).folder (λ folder. AnswersDump folder leaf first sector.new result) }
     ensures stays { WhereTold (H.hosted host.old).folder (λ folder. option_map contents_of (H.hosted host.new).folder ≡ Some (contents_of folder)) }
     ensures quiet { OnOk result ((H.hosted host.new).faults ≡ (H.hosted host.old).faults) }
-    ensures err { IfErr result (IsStop (H.hosted host.old).faults (H.hosted host.new).faults) }
+    ensures counts { IfErr result (Counts (H.hosted host.old).faults (H.hosted host.new).faults) }
 {
     match host.has(&leaf) {
-        Ok(true) => visit(host, leaf, first, zone, sector),
-        Ok(false) => Ok(Found::Missing),
-        Err(fault) => Err(Stop::Host(fault)),
+        Ok(true) => visit(alloc, host, leaf, first, sector),
+        Ok(false) => Err(DumpRefusal::File(OpenRefusal::FileMissing)),
+        Err(fault) => Err(DumpRefusal::File(OpenRefusal::Host(fault))),
     }
 }

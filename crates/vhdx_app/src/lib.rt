@@ -2,12 +2,16 @@
 #![tactic(auto)]
 
 mod dump;
-mod plain;
+mod laws;
+mod layer;
+mod open;
 mod print;
 mod program;
+mod refusal;
 mod status;
 mod text;
 mod words;
 
+pub use laws::{new_files_show, one_answer};
 pub use program::run;
 pub use status::Status;

@@ -1,18 +1,20 @@
 //! The whole program, over any host, streams, identifiers and gate.
 
-ghost use Rattle.std.specs.Prelude.{◌≡◌, ◌≢◌, ◌↔◌, ◌⊎◌, ℕ, List, Some, map, option_map, IfOk, length, string_bytes};
+ghost use Rattle.std.specs.Prelude.{◌≡◌, ◌≢◌, ◌↔◌, ◌⊎◌, ℕ, List, Some, map, option_map, IfOk, string_bytes};
 ghost use Rattle.store_model.specs.Cause.{Rose};
 ghost use Rattle.store_model.specs.Disk.{WhereTold};
+ghost use Rattle.vhdx_app.specs.Causes.{Says};
 ghost use Rattle.vhdx_app.specs.Dump.{AllIdle, contents_of};
 ghost use Rattle.vhdx_app.specs.Printed.{IsTextOf, Printed, Sent};
-ghost use Rattle.vhdx_app.specs.Printed as spec;
+ghost use Rattle.vhdx_app.specs.declared.refusal.DumpRefusal.TheVariants.{File};
 ghost use Rattle.vx_base.specs.Names.{IsName};
 ghost use Rattle.vhdx_app.specs.Words.{IsDump};
 
-use crate::dump::{Found, find};
+use crate::dump::{SECTOR, find};
 use crate::print::send;
+use crate::refusal::{DumpRefusal, OpenRefusal};
 use crate::status::Status;
-use crate::text::{found_text, stop_line};
+use crate::text::{fault_line, range_line, refused_line, sector_line};
 use crate::words::{Request, request_of};
 use std::alloc::Global;
 use std::sync::Wait;
@@ -20,24 +22,34 @@ use std::thread::Threads;
 use store_model::{Gate, Host, Ids, Sink, Source};
 use vx_base::{Name, NameRefusal, NoRoom};
 
-/// Bytes of a file that decide whether it is plain.
-const ZONE_LEN: usize = 4_194_304;
-
-// How a run ends that found this.
-fn status_of(found: Found) -> Status
-    ensures { result ≡ spec.status_of found }
+// How a run ends whose file is refused so, and what it prints.
+fn file_answer(alloc: Global, leaf: &str, refusal: OpenRefusal) -> Result<(Status, String), NoRoom>
+    ensures { IfOk result (λ r. Says leaf.now (File refusal) r.0 (string_bytes r.1)) }
 {
-    match found {
-        Found::Sector => Status::Done,
-        _ => Status::Refused,
+    match refusal {
+        OpenRefusal::Host(fault) => Ok((Status::Fault, fault_line(alloc, "host", fault.count)?)),
+        OpenRefusal::Store(fault) => Ok((Status::Fault, fault_line(alloc, "store", fault.count)?)),
+        OpenRefusal::NoRoom => Err(NoRoom),
+        _ => Ok((Status::Refused, refused_line(alloc, leaf, &refusal)?)),
     }
 }
 
-// So many zeros, on the heap.
-fn zeroed(alloc: Global, n: usize) -> Result<Vec<u8>, NoRoom>
-    ensures { IfOk result (λ bytes. length bytes.items ≡ n) }
+// How a run ends that is refused so, and what it prints.
+fn refusal_answer(
+    alloc: Global,
+    leaf: &str,
+    refusal: DumpRefusal,
+) -> Result<(Status, String), NoRoom>
+    ensures { IfOk result (λ r. Says leaf.now refusal r.0 (string_bytes r.1)) }
 {
-    Ok(vec![in alloc; 0u8; n]?)
+    match refusal {
+        DumpRefusal::File(refusal) => file_answer(alloc, leaf, refusal),
+        DumpRefusal::OutOfRange {
+            first,
+            count,
+            sectors,
+        } => Ok((Status::Refused, range_line(alloc, first, count, sectors)?)),
+    }
 }
 
 // What the request is answered.
@@ -58,17 +70,12 @@ fn answer<H: Host>(
         Err(NameRefusal::Bad) => unreachable!(),
         Err(NameRefusal::NoRoom) => return Err(NoRoom),
     };
-    let mut zone = zeroed(alloc, ZONE_LEN)?;
-    let mut sector = [0u8; 512];
-    match find(host, leaf, request.first, &mut zone, &mut sector) {
-        Ok(found) => {
-            let text = found_text(alloc, request, found, &sector)?;
-            Ok((status_of(found), text))
-        }
-        Err(stop) => Ok((Status::Fault, stop_line(alloc, stop)?)),
+    let mut sector = [0u8; SECTOR];
+    match find(alloc, host, leaf, request.first, &mut sector) {
+        Ok(()) => Ok((Status::Done, sector_line(alloc, request.first, &sector)?)),
+        Err(refusal) => refusal_answer(alloc, request.leaf, refusal),
     }
 }
-
 // Prints the text of this status. A fault of the sink ends the run with its own.
 fn deliver<K: Sink>(out: &mut K, status: Status, text: &[u8]) -> Status
     ensures { Sent (K.written out.old) (K.written out.new) (K.faults out.old) (K.faults out.new) status text.now result }
@@ -80,7 +87,7 @@ fn deliver<K: Sink>(out: &mut K, status: Status, text: &[u8]) -> Status
 }
 
 /// Runs the command that the words name, and prints its answer to the sink. The words `dump LEAF FIRST 1` print sector
-/// FIRST of the plain file LEAF.
+/// FIRST of the disk of the file LEAF, which has no parent and names no log.
 pub fn run<R: Threads + Wait, H: Host, S: Source, K: Sink, I: Ids, G: Gate>(
     _rt: &R,
     alloc: Global,

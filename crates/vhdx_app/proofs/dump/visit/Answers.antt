@@ -1,8 +1,9 @@
-use Rattle.std.proofs.Common.{zero, suc, ap, ◌∙◌, [], ◌∷◌, arith}
+use Rattle.std.proofs.Common.{zero, suc, refl, ap, subst, ◌∙◌, [], ◌∷◌, arith}
 use Rattle.std.specs.Prelude.{option_map}
-use Rattle.store_model.specs.Folder.{attached_trace}
-use Rattle.vhdx_app.specs.Dump.{found_in}
-use Rattle.vhdx_app.specs.PlainFile.{plain_sector}
+use Rattle.store_model.specs.Disk.{Disk}
+use Rattle.store_model.specs.Folder.{attached_trace, HasFailed, RoseWhere}
+use Rattle.vhdx_app.specs.Causes.{AnswersIn}
+use Rattle.vhdx_app.proofs.Found.{counts_of}
 use Rattle.vhdx_app.proofs.Lent.{distinct, can_attach, are_away, contents_stay, seen-attached}
 use Rattle.vhdx_app.proofs.dump.visit.Goals as goal
 
@@ -22,24 +23,10 @@ give_back-requires g c =
     }
     c.requires.there
 
-pub returns-in-Ok-looked-clause-found : goal.returns-in-Ok-looked-clause-found
-returns-in-Ok-looked-clause-found g c t told =
-    c.in-Ok-looked.ensures.found (attached_trace (c.args.leaf ∷ []) t) (ap (λ d. d.told) c.in-Ok.ensures.store ∙ ap (option_map (attached_trace (c.args.leaf ∷ []))) told)
-    ∙ ap (λ bytes. found_in bytes c.args.first) (seen-attached c.args.leaf t)
-
-pub returns-in-Ok-looked-clause-sector : goal.returns-in-Ok-looked-clause-sector
-returns-in-Ok-looked-clause-sector g c is t told =
-    c.in-Ok-looked.ensures.sector is (attached_trace (c.args.leaf ∷ []) t) (ap (λ d. d.told) c.in-Ok.ensures.store ∙ ap (option_map (attached_trace (c.args.leaf ∷ []))) told)
-    ∙ ap (λ bytes. plain_sector bytes c.args.first) (seen-attached c.args.leaf t)
-
-pub returns-in-Ok-looked-clause-stays : goal.returns-in-Ok-looked-clause-stays
-returns-in-Ok-looked-clause-stays g c =
-    contents_stay c.args.leaf _ _ _ _
-    record {
-      folder_is = ap (λ h. h.folder) c.in-Ok.ensures.ok;
-      told_is = c.look-looked.ensures.told ∙ ap (λ d. d.told) c.in-Ok.ensures.store;
-    }
-    c.requires.idle c.requires.there c.give_back.ensures.folder
+pub returns-clause-answer : goal.returns-clause-answer
+returns-clause-answer g c t told =
+    subst (λ bytes. AnswersIn bytes c.args.first c.look-looked.new.sector c.look-looked.result) (seen-attached c.args.leaf t)
+    (c.look-looked.ensures.answer (attached_trace (c.args.leaf ∷ []) t) (ap (λ d. d.told) c.in-Ok.ensures.store ∙ ap (option_map (attached_trace (c.args.leaf ∷ []))) told))
 
 pub returns-clause-stays : goal.returns-clause-stays
 returns-clause-stays g c =
@@ -49,3 +36,14 @@ returns-clause-stays g c =
       told_is = c.look-looked.ensures.told ∙ ap (λ d. d.told) c.in-Ok.ensures.store;
     }
     c.requires.idle c.requires.there c.give_back.ensures.folder
+
+pub returns-clause-counts : goal.returns-clause-counts
+returns-clause-counts g c =
+    counts_of _ _
+    record {
+      files = ap (λ (d : Disk). d.files) c.in-Ok.ensures.store;
+      reads = λ file. ap (λ (d : Disk). d.failed_reads file) c.in-Ok.ensures.store;
+      changes = λ file. ap (λ (d : Disk). d.failed_changes file) c.in-Ok.ensures.store;
+    }
+    _ _ (subst (λ n. RoseWhere (HasFailed (g.H.S.Store.disk c.look-looked.new.store)) n (g.H.Host.hosted c.give_back.new.self).faults) (ap (λ h. h.faults) c.in-Ok.ensures.ok) c.give_back.ensures.count)
+    c.look-looked.result c.look-looked.ensures.err

@@ -1,6 +1,7 @@
-use Rattle.vhdx_app.proofs.Said.{said_found}
+use Rattle.std.specs.Prelude.{string_bytes}
+use Rattle.vhdx_app.proofs.Said.{refusal_said}
 use Rattle.vhdx_app.proofs.program.answer.Goals as goal
 
-pub returns-in-Ok-find-clause-said : goal.returns-in-Ok-find-clause-said
-returns-in-Ok-find-clause-said g c =
-    said_found _ _ _ _ _ c.in-Ok-find.found _ c.find.new.sector _ c.in-Ok.ensures.name.0 c.status_of.ensures c.in_ok-text-in-Ok-find.ensures c.in-Ok-find.ensures.found c.in-Ok-find.ensures.sector
+pub returns-in-Err-clause-said : goal.returns-in-Err-clause-said
+returns-in-Err-clause-said g c =
+    refusal_said (λ r. r.0) (λ r. string_bytes r.1) _ _ _ _ _ _ _ _ c.in-Ok.ensures.name.0 c.in-Err.ensures.answer c.in-Err.ensures.counts c.refusal_answer.ensures

@@ -1,0 +1,9 @@
+use Rattle.std.proofs.Common.{refl, sym, subst}
+use Rattle.std.specs.Prelude.{string_bytes}
+use Rattle.vhdx_app.specs.Causes.{Says}
+use Rattle.vhdx_app.specs.declared.status.Status.TheVariants.{Refused}
+use Rattle.vhdx_app.proofs.program.refusal_answer.Goals as goal
+
+pub returns-in_ok-range_line-in-OutOfRange : goal.returns-in_ok-range_line-in-OutOfRange
+returns-in_ok-range_line-in-OutOfRange c =
+    subst (λ r. Says c.args.leaf.now r Refused (string_bytes c.in_ok-range_line-in-OutOfRange.field-0)) (sym c.in-OutOfRange.is) (refl, c.in_ok-range_line-in-OutOfRange.ensures c.args.leaf.now)
