@@ -1,5 +1,5 @@
 -- What all entries of a table tell.
-use Rattle.std.proofs.Common.{◌≡◌, ℕ, ◌+◌, ◌*◌, ◌<◌, true, false, List, Contains, Option, Some, None, sym, ◌∙◌, ap, subst, inl, inr, arith}
+use Rattle.std.proofs.Common.{◌≡◌, ℕ, ◌+◌, ◌*◌, ◌<◌, ◌&&◌, nat_lt, true, false, List, Contains, Option, Some, None, sym, ◌∙◌, ap, subst, inl, inr, arith}
 use Rattle.std.proofs.lemmas.Bool.{and_parts, and_from, ltb-true, lt-ltb}
 use Rattle.std.proofs.lemmas.List.Elements.{All-contains}
 use Rattle.vx_base.specs.declared.parts.Parts.{Parts}
@@ -9,7 +9,7 @@ use Rattle.vhdx_format.specs.FileParts.{shape_of, taken_areas}
 use Rattle.vhdx_format.specs.HeldBlocks.{Area, Overlap, IsPayloadEntry, HoldsBlock, payload, BlocksOverlap, IsLowestPair, IsSoundTable}
 use Rattle.vhdx_format.specs.Layers.{Shape, block_count, table_entry, place_at}
 use Rattle.vhdx_format.proofs.LayerLemmas.{entries_within}
-use Rattle.vhdx_format.proofs.SizeLemmas.{ratio_in_range}
+use Rattle.vhdx_format.proofs.SizeLemmas.{block_least, ratio_in_range}
 use Rattle.vhdx_format.specs.Rules.{BlockPlace, BlockOverlap}
 use Rattle.block_table.specs.declared.overlaps.Block.{Block}
 use Rattle.block_table.specs.Overlaps.{AreOverlapping}
@@ -84,7 +84,7 @@ module _ (parts : Parts) (table : HasTable parts) where
         let b = held_area p file j y table.no_parent o.1.3 in
         let c = block_of i x o.1.2 in
         let d = block_of j y o.1.3 in
-        let both = and_parts _ _ o.1.4 in
+        let both = and_parts (nat_lt x.at (y.at + y.len)) (nat_lt y.at (x.at + x.len)) (and_parts (nat_lt x.at (y.at + y.len) && nat_lt y.at (x.at + x.len)) (nat_lt 0 x.len && nat_lt 0 y.len) o.1.4).0 in
         let x_at : x.at ≡ c.block.unit * megabyte = a.at ∙ ap (λ (n : ℕ). n * megabyte) c.place in
         let y_at : y.at ≡ d.block.unit * megabyte = b.at ∙ ap (λ (n : ℕ). n * megabyte) d.place in
         record {
@@ -120,7 +120,9 @@ module _ (parts : Parts) (table : HasTable parts) where
         common a b =
             let x : place_at p file (o.a).index ≡ (o.a).unit * megabyte = ap (λ (n : ℕ). n * megabyte) a.place in
             let y : place_at p file (o.b).index ≡ (o.b).unit * megabyte = ap (λ (n : ℕ). n * megabyte) b.place in
-            and_from _ _ (lt-ltb _ _ (below_in_bytes _ _ _ _ _ parts.block x y b.len o.common.first)) (lt-ltb _ _ (below_in_bytes _ _ _ _ _ parts.block y x a.len o.common.second))
+            let some : nat_lt 0 parts.block ≡ true = lt-ltb 0 parts.block (omega (arith, block_least parts.block table.block)) in
+            and_from _ _ (and_from _ _ (lt-ltb _ _ (below_in_bytes _ _ _ _ _ parts.block x y b.len o.common.first)) (lt-ltb _ _ (below_in_bytes _ _ _ _ _ parts.block y x a.len o.common.second)))
+            (and_from _ _ some some)
 
     pub first_pair : misplaced ≡ None → (i j : ℕ) → IsLowestPair (AreOverlapping blocks) i j → IsFirstBroken p taken file (BlockOverlap i j)
     first_pair none i j h = (good_states, good_places none, (held_pair i j h.0, λ k l lower o. h.1 k l lower (listed_pair k l o)))

@@ -257,7 +257,7 @@ fn each_is_refused<R: Threads + Wait>(
 fn damaged_heads(rt: HostRuntime) -> Result<(), Fail> {
     // A field of header copy 2 stands at 131,072 + its place; the table in use is the first, its entries at 196,624
     // (block allocation table) and 196,656 (metadata).
-    let cases: [(&[Patch], &str); 11] = [
+    let cases: [(&[Patch], &str); 12] = [
         (&[(131_138, &[2])], "4 BadVersion f.vhdx version 2 log 0"),
         (
             &[(131_120, &[1]), (131_136, &[1])],
@@ -287,6 +287,10 @@ fn damaged_heads(rt: HostRuntime) -> Result<(), Fail> {
         (&[(196_642, &[0x10])], "9 RegionPlace f.vhdx bat"),
         (&[(196_642, &[0x20])], "9 RegionPlace f.vhdx bat"),
         (&[(196_674, &[0x50])], "9 RegionPlace f.vhdx metadata"),
+        (
+            &[(196_674, &[0x38]), (196_682, &[0])],
+            "9 RegionPlace f.vhdx metadata",
+        ),
     ];
     each_is_refused(&rt, rt.alloc(), EMPTY, &cases)
 }
