@@ -103,7 +103,7 @@ module _ (file signature creator z1 h1 z2 h2 z3 r1 r2 z4 log items z5 tail : Lis
       }
 
 -- a copy within the zone is the copy within the file
-copy_in_zone : (file : List ℕ) (copy : ℕ) → copy ≤ 2 → header_copy (bytes_at file 0 196608) copy ≡ bytes_at file (65536 * copy) 4096
+pub copy_in_zone : (file : List ℕ) (copy : ℕ) → copy ≤ 2 → header_copy (bytes_at file 0 196608) copy ≡ bytes_at file (65536 * copy) 4096
 copy_in_zone file copy few = bytes_of_front file 196608 (65536 * copy) 4096 (omega arith)
 
 -- ---- the sizes
@@ -140,7 +140,7 @@ pub record IsHead (file_write data_write : List ℕ) (m : Metadata) : Type 0 whe
 zero_guid : IsGuid zero_bytes
 zero_guid = record { bytes = bytes-literal zero_bytes refl; len = refl }
 
-length-header : (h : Header) → length (header_bytes h) ≡ 4096
+pub length-header : (h : Header) → length (header_bytes h) ≡ 4096
 unfolding header_bytes header_with
 length-header h = omega (arith, length-zeros 4016)
 

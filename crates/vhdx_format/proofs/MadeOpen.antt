@@ -295,7 +295,7 @@ pub fixed_files_open : FixedFilesOpen
 fixed_files_open = fixed_opens
 
 -- a part of zeros is zeros
-zeros_within : (n k l : ℕ) → k + l ≤ n → bytes_at (zeros n) k l ≡ zeros l
+pub zeros_within : (n k l : ℕ) → k + l ≤ n → bytes_at (zeros n) k l ≡ zeros l
 unfolding bytes_at zeros
 zeros_within n k l h = let left : l ≤ n - k = omega arith in ap (λ (xs : List ℕ). take l xs) (drop-replicate {X = ℕ} k n 0) ∙ take-replicate {X = ℕ} l (n - k) 0 left
 
