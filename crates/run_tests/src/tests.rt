@@ -453,6 +453,83 @@ fn faults(rt: HostRuntime) -> Result<(), Fail> {
     Ok(())
 }
 
+// What a run of these words over the file prints with this status.
+fn prints<R: Threads + Wait>(
+    rt: &R,
+    alloc: Global,
+    file: &[u8],
+    words: &[&str],
+    status: Status,
+    text: &str,
+) -> Result<bool, Fail> {
+    let (met, out) = attempt(rt, alloc, words, file, NOTHING_FAILS)?;
+    Ok(met == status && out.bytes.as_slice() == text.as_bytes())
+}
+
+#[test]
+fn ranges(rt: HostRuntime) -> Result<(), Fail> {
+    let moved = Plan {
+        blocks: [5, 4, 0, 0],
+        ..SMALL
+    };
+    let patches: &[Patch] = &[(6_290_944, &[0x5A; 512]), (4_194_304, &[0xA5; 512])];
+    let file = patched(rt.alloc(), moved, patches)?;
+    // The last sector of a block and the first of the next one, which stands before it in the file.
+    let mut lines = line_of(rt.alloc(), "2047", "5a")?;
+    let next = line_of(rt.alloc(), "2048", "a5")?;
+    lines.push_str(next.as_str())?;
+    let words = ["dump", "f.vhdx", "2047", "2"];
+    assert!(rt; prints(&rt, rt.alloc(), &file, &words, Status::Done, lines.as_str())?);
+    let refused = [
+        ("0", "0", "refused 31 EmptyRange\n"),
+        ("4097", "0", "refused 31 EmptyRange\n"),
+        ("0", "2049", "refused 33 TooLong count 2049 limit 2048\n"),
+        (
+            "4095",
+            "2",
+            "refused 32 OutOfRange first 4095 count 2 sectors 4096\n",
+        ),
+        (
+            "4096",
+            "1",
+            "refused 32 OutOfRange first 4096 count 1 sectors 4096\n",
+        ),
+        (
+            "18446744073709551615",
+            "1",
+            "refused 32 OutOfRange first 18446744073709551615 count 1 sectors 4096\n",
+        ),
+    ];
+    for (first, count, line) in refused {
+        let words = ["dump", "f.vhdx", first, count];
+        assert!(rt;
+            prints(&rt, rt.alloc(), &file, &words, Status::Refused, line)?,
+            "{line}"
+        );
+    }
+    let words = ["dump", "f.vhdx", "2048", "2048"];
+    let (status, out) = attempt(&rt, rt.alloc(), &words, &file, NOTHING_FAILS)?;
+    assert_eq!(rt; (status, out.bytes.len()), (Status::Done, 2_048 * 1_030));
+    Ok(())
+}
+
+#[test]
+fn help_and_version(rt: HostRuntime) -> Result<(), Fail> {
+    let usage = "Usage: vhdx dump LEAF FIRST COUNT\n       vhdx --help\n       vhdx --version\n";
+    assert!(rt; prints(&rt, rt.alloc(), &[], &["--help"], Status::Done, usage)?);
+    assert!(rt;
+        prints(
+            &rt,
+            rt.alloc(),
+            &[],
+            &["--version"],
+            Status::Done,
+            "vhdx 0.1\n"
+        )?
+    );
+    Ok(())
+}
+
 #[test]
 fn usage(rt: HostRuntime) -> Result<(), Fail> {
     let cases = [
@@ -465,7 +542,7 @@ fn usage(rt: HostRuntime) -> Result<(), Fail> {
         ["dump", "f.vhdx", "+1", "1"],
         ["dump", "f.vhdx", "0x1", "1"],
         ["dump", "f.vhdx", "18446744073709551616", "1"],
-        ["dump", "f.vhdx", "0", "2"],
+        ["dump", "f.vhdx", "0", "-1"],
     ];
     for words in cases {
         let (status, out) = attempt(&rt, rt.alloc(), &words, &[], NOTHING_FAILS)?;

@@ -1,6 +1,6 @@
 -- What is found in a file, and what the host counts, from what opening and reading answer.
-use Rattle.std.proofs.Common.{◌≡◌, ◌≢◌, ℕ, ◌+◌, ◌<◌, ◌≤◌, true, List, Option, Some, None, Result, Ok, Err, sym, ap, subst, ◌∙◌, arith}
-use Rattle.std.specs.Prelude.{OnOk, IfErr}
+use Rattle.std.proofs.Common.{◌≡◌, ℕ, ◌+◌, ◌<◌, ◌≤◌, true, List, Option, Some, None, Result, Ok, Err, sym, ap, subst, ◌∙◌, arith}
+use Rattle.std.specs.Prelude.{IfErr}
 use Rattle.std.specs.Result.{IsErrAnd}
 use Rattle.store_model.specs.Cause.{Rose}
 use Rattle.store_model.specs.Disk.{Disk, ReadFailed}
@@ -18,23 +18,23 @@ use Rattle.vhdx_app.specs.declared.refusal.DumpRefusal.TheVariants.{File}
 use Rattle.vhdx_app.specs.declared.refusal.OpenRefusal.{OpenRefusal}
 
 -- a file that isn't opened refuses the sector
-by_cause : (file : List ℕ) (sector : ℕ) (cause : Option Refusal) → IfCause (Opens file) cause → IfCause (FindsIn file sector) cause
-by_cause file sector None h = tt
-by_cause file sector (Some refusal) h = dump.refused refusal h
+by_cause : (file : List ℕ) (first count : ℕ) (cause : Option Refusal) → IfCause (Opens file) cause → IfCause (FindsIn file first count) cause
+by_cause file first count None h = tt
+by_cause file first count (Some refusal) h = dump.refused refusal h
 
-pub unopened : (file : List ℕ) (sector : ℕ) (bytes : List ℕ) (result : Result (Unit {0}) DumpRefusal) (refusal : OpenRefusal) → IsErrAnd result (λ e. e ≡ File refusal) → IfCause (Opens file) (cause_of refusal) → AnswersIn file sector bytes result
-unopened file sector bytes (Ok done) refusal is h = absurd is
-unopened file sector bytes (Err e) refusal is h = subst (λ e. IfCause (FindsIn file sector) (cause_of_dump e)) (sym is) (by_cause file sector (cause_of refusal) h)
+pub unopened : (file : List ℕ) (first count : ℕ) (result : Result (List ℕ) DumpRefusal) (refusal : OpenRefusal) → IsErrAnd result (λ e. e ≡ File refusal) → IfCause (Opens file) (cause_of refusal) → AnswersIn file first count result
+unopened file first count (Ok bytes) refusal is h = absurd is
+unopened file first count (Err e) refusal is h = subst (λ e. IfCause (FindsIn file first count) (cause_of_dump e)) (sym is) (by_cause file first count (cause_of refusal) h)
 
 -- what is found in a file is found in the folder that has it
-there_cause : (folder : List Held) (leaf : List ℕ) (sector : ℕ) (cause : Option Refusal) → has_name leaf folder ≡ true → IfCause (FindsIn (seen_named leaf folder) sector) cause → IfCause (Finds folder leaf sector) cause
-there_cause folder leaf sector None has h = tt
-there_cause folder leaf sector (Some refusal) has h = dump.there _ has h
+there_cause : (folder : List Held) (leaf : List ℕ) (first count : ℕ) (cause : Option Refusal) → has_name leaf folder ≡ true → IfCause (FindsIn (seen_named leaf folder) first count) cause → IfCause (Finds folder leaf first count) cause
+there_cause folder leaf first count None has h = tt
+there_cause folder leaf first count (Some refusal) has h = dump.there _ has h
 
-pub there_answers : (folder : List Held) (leaf : List ℕ) (sector : ℕ) (bytes : List ℕ) (result : Result (Unit {0}) DumpRefusal) → has_name leaf folder ≡ true
-    → AnswersIn (seen_named leaf folder) sector bytes result → AnswersDump folder leaf sector bytes result
-there_answers folder leaf sector bytes (Ok done) has h = dump.there _ has h
-there_answers folder leaf sector bytes (Err e) has h = there_cause folder leaf sector (cause_of_dump e) has h
+pub there_answers : (folder : List Held) (leaf : List ℕ) (first count : ℕ) (result : Result (List ℕ) DumpRefusal) → has_name leaf folder ≡ true
+    → AnswersIn (seen_named leaf folder) first count result → AnswersDump folder leaf first count result
+there_answers folder leaf first count (Ok bytes) has h = dump.there _ has h
+there_answers folder leaf first count (Err e) has h = there_cause folder leaf first count (cause_of_dump e) has h
 
 -- an opened file has a sound table
 pub sound_of : (file : List ℕ) (parts : Parts) → Opens file (Ok parts) → IsSoundTable (shape_of parts) (taken_areas parts) file
@@ -69,6 +69,6 @@ module _ (old new : Disk) (fresh : IsFresh old) (before now : ℕ) (count : Rose
   by_meaning (read_failed fault) h = of_store fault h
   by_meaning no_memory h = quiet h
 
-  pub counts_of : (result : Result (Unit {0}) DumpRefusal) → IfErr result (LeavesDump old new) → IfErr result (Counts before now)
+  pub counts_of : (result : Result (List ℕ) DumpRefusal) → IfErr result (LeavesDump old new) → IfErr result (Counts before now)
   counts_of (Ok done) h = h
   counts_of (Err refusal) h = by_meaning (meaning_of_dump refusal) h

@@ -1,12 +1,17 @@
 mod Numbers
 mod Commands
+mod Walked
+mod Stages
+mod Told
 mod Sending
 mod Signatures
 mod Numbered
 mod Sectors
+mod Runs
 mod Opened
 mod Lent
 mod Found
 mod Said
 mod OneAnswer
 mod MadeShow
+mod Lines

@@ -1,20 +1,30 @@
 -- New files are opened, and show their disks.
-use Rattle.std.proofs.Common.{◌≡◌, ℕ, ◌*◌, ◌/◌, ◌<◌, ◌≤◌, cond, true, false, List, length, Option, Some, Ok, Err, refl, sym, ap, ◌∙◌}
+use Rattle.std.proofs.Common.{◌≡◌, ℕ, ◌+◌, ◌*◌, ◌/◌, ◌<◌, ◌≤◌, cond, true, false, List, length, Option, Some, Ok, Err, refl, sym, ap, ◌∙◌, arith}
 use Rattle.std.specs.Prelude.{not}
 use Rattle.uuid.specs.Parts.{zero_bytes}
 use Rattle.vx_base.specs.declared.parts.Parts.{Parts}
-use Rattle.vhdx_format.specs.Fields.{is_zero_id, bytes_at, zeros}
+use Rattle.vx_base.specs.Fields.{zeros}
+use Rattle.vhdx_format.specs.Fields.{is_zero_id, bytes_at}
 use Rattle.vhdx_format.specs.FileParts as format
 use Rattle.vhdx_format.specs.FileParts.{read_parts}
 use Rattle.vhdx_format.specs.MadeFiles.{base_metadata, dynamic_file, fixed_file_holding, fixed_len}
 use Rattle.vhdx_format.specs.MadeLaws.{IsMakeable, OpensAs, made_parts}
 use Rattle.vhdx_format.specs.Rules.{◌>>=◌, unless}
 use Rattle.vhdx_format.proofs.MadeOpen.{dynamic_files_open, fixed_files_open}
-use Rattle.vhdx_app.specs.Dump.{FindsIn, found, out_of_range}
+use Rattle.vhdx_app.specs.Dump.{found, out_of_range}
 use Rattle.vhdx_app.specs.Laws.{MadeFilesShow, Shows}
 use Rattle.vhdx_app.specs.Opening.{Opens, opened, by_format, read_file}
 use Rattle.vhdx_app.specs.Refusals.{LogNamed, Differencing}
+use Rattle.std.proofs.lemmas.Grind.{div_ceil_times}
+use Rattle.std.proofs.lemmas.List.{length-replicate}
+use Rattle.vhdx_format.proofs.MadeOpen.{zeros_within}
+use Rattle.vhdx_format.proofs.SizeLemmas.{block_least}
 use Rattle.vhdx_app.proofs.Numbered.{next_numbers}
+use Rattle.vhdx_app.proofs.Runs.{bytes_in, length_at}
+
+zeros_len : (n : ℕ) → length (zeros n) ≡ n
+unfolding zeros
+zeros_len n = length-replicate n 0
 
 -- a file that opens with numbers that name no log and no parent
 opens_made : (file : List ℕ) (parts : Parts) (sector : ℕ → Option (List ℕ)) → OpensAs file parts sector → parts.header.log ≡ zero_bytes → parts.parent ≡ false → Opens file (Ok parts)
@@ -27,10 +37,14 @@ opens_made file parts sector opens log parent =
     ∙ ap (λ b. cond b (Err Differencing) (Ok parts)) parent)
     opens.table
 
-shows : (file : List ℕ) (parts : Parts) (bytes : ℕ → List ℕ) → OpensAs file parts (λ s. Some (bytes s)) → Opens file (Ok parts) → Shows file parts.geometry.sectors bytes
-shows file parts bytes opens is = record {
-  on_disk = λ s below. found parts (bytes s) is below (opens.layer s below);
-  beyond = λ s past. out_of_range parts is past;
+shows : (file : List ℕ) (parts : Parts) (sector : ℕ → List ℕ) (bytes : ℕ → ℕ → List ℕ) → OpensAs file parts (λ s. Some (sector s)) → Opens file (Ok parts)
+    → ((first count : ℕ) → first + count ≤ parts.geometry.sectors → length (bytes first count) ≡ 512 * count)
+    → ((first count i : ℕ) → i < count → bytes_at (bytes first count) (512 * i) 512 ≡ sector (first + i))
+    → Shows file parts.geometry.sectors bytes
+shows file parts sector bytes opens is len each = record {
+  on_disk = λ first count some most within. found parts (bytes first count) is some most within
+      (record { len = len first count within; each = λ i below. opens.layer (first + i) (omega (arith, within, below)) ∙ ap Some (sym (each first count i below)) });
+  beyond = λ first count some most past. out_of_range parts is some most past;
 }
 
 pub made_show : (file_write data_write disk : List ℕ) (size block : ℕ) → IsMakeable file_write data_write disk size block → MadeFilesShow file_write data_write disk size block
@@ -38,8 +52,13 @@ unfolding format.parts_of
 made_show fw dw disk size block ok = record {
   dynamic =
       let opens = dynamic_files_open fw dw disk size block ok in
-      shows (dynamic_file fw dw disk size block) (made_parts fw dw (base_metadata size block false disk)) (λ s. zeros 512) opens (opens_made _ _ _ opens refl refl);
+      shows (dynamic_file fw dw disk size block) (made_parts fw dw (base_metadata size block false disk)) (λ s. zeros 512) (λ first count. zeros (512 * count)) opens (opens_made _ _ _ opens refl refl)
+      (λ first count within. zeros_len (512 * count)) (λ first count i below. zeros_within (512 * count) (512 * i) 512 (omega (arith, below)));
   fixed = λ bytes len.
       let opens = fixed_files_open fw dw disk size block bytes ok len in
-      shows (fixed_file_holding fw dw disk size block bytes) (made_parts fw dw (base_metadata size block true disk)) (λ s. bytes_at bytes (512 * s) 512) opens (opens_made _ _ _ opens refl refl);
-}
+      shows (fixed_file_holding fw dw disk size block bytes) (made_parts fw dw (base_metadata size block true disk)) (λ s. bytes_at bytes (512 * s) 512) (λ first count. bytes_at bytes (512 * first) (512 * count)) opens (opens_made _ _ _ opens refl refl)
+      (λ first count within. length_at bytes (512 * first) (512 * count) (room bytes len first count within))
+      (λ first count i below. bytes_in bytes (512 * first) (512 * count) (512 * i) 512 (omega (arith, below)) ∙ ap (λ k. bytes_at bytes k 512) (let place : 512 * first + 512 * i ≡ 512 * (first + i) = omega arith in place));
+} where
+  room : (bytes : List ℕ) → length bytes ≡ fixed_len size block → (first count : ℕ) → first + count ≤ size / 512 → 512 * first + 512 * count ≤ length bytes
+  room bytes len first count within = omega (arith, len, within, (div_ceil_times size block (omega (arith, block_least block ok.of_block))).0)

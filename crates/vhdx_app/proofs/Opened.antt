@@ -1,5 +1,5 @@
 -- The answers of opening, from those of its parts.
-use Rattle.std.proofs.Common.{◌≡◌, ℕ, List, Option, Some, None, Result, Ok, Err, sym, ap, subst, ◌∙◌}
+use Rattle.std.proofs.Common.{◌≡◌, ℕ, List, Option, Some, None, Result, Ok, Err, sym, ap, subst}
 use Rattle.std.specs.Result.{IsErrAnd}
 use Rattle.block_table.specs.Refusals.{RefusesFirst, rule_of}
 use Rattle.block_table.specs.declared.TableRefusal.{TableRefusal}

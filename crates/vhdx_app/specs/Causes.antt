@@ -25,7 +25,7 @@ use Rattle.vhdx_app.specs.declared.status.Status.TheVariants.{Refused, Fault, No
 use Rattle.vhdx_app.specs.declared.refusal.OpenRefusal.{OpenRefusal}
 use Rattle.vhdx_app.specs.declared.refusal.OpenRefusal.TheVariants.{NotVhdx, TooShort, NoHeader, BadVersion, BadLogPlace, LogNamed, NoRegionTable, UnknownRegion, MissingRegion, RegionPlace, BadMetadataTable, UnknownItem, MissingItem, BadItem, SectorSize, Differencing, BadBatState, BlockPlace, BlockOverlap, FileMissing, Host, Store, NoRoom}
 use Rattle.vhdx_app.specs.declared.refusal.DumpRefusal.{DumpRefusal}
-use Rattle.vhdx_app.specs.declared.refusal.DumpRefusal.TheVariants.{File, OutOfRange}
+use Rattle.vhdx_app.specs.declared.refusal.DumpRefusal.TheVariants.{File, EmptyRange, TooLong, OutOfRange}
 
 -- a refusal of a codec, as one of opening
 abbrev pub of_header : HeaderRefusal → OpenRefusal
@@ -88,6 +88,8 @@ meaning_of NoRoom = no_memory
 
 abbrev pub meaning_of_dump : DumpRefusal → Meaning
 meaning_of_dump (File refusal) = meaning_of refusal
+meaning_of_dump EmptyRange = refuses refusals.EmptyRange
+meaning_of_dump (TooLong count limit) = refuses (refusals.TooLong count limit)
 meaning_of_dump (OutOfRange first count sectors) = refuses (refusals.OutOfRange first count sectors)
 
 -- a fault and want of memory say nothing of the file
@@ -116,14 +118,14 @@ abbrev pub AnswersOpening : List ℕ → Result Parts OpenRefusal → Type 0
 AnswersOpening file (Ok parts) = Opens file (Ok parts)
 AnswersOpening file (Err refusal) = IfCause (Opens file) (cause_of refusal)
 
--- the answer on a sector of a file, and of a file in the folder: with Ok its bytes are these
-abbrev pub AnswersIn : List ℕ → ℕ → List ℕ → Result (Unit {0}) DumpRefusal → Type 0
-AnswersIn file sector bytes (Ok done) = FindsIn file sector (Ok bytes)
-AnswersIn file sector bytes (Err refusal) = IfCause (FindsIn file sector) (cause_of_dump refusal)
+-- the answer on sectors of a file, and of a file in the folder
+abbrev pub AnswersIn : List ℕ → ℕ → ℕ → Result (List ℕ) DumpRefusal → Type 0
+AnswersIn file first count (Ok bytes) = FindsIn file first count (Ok bytes)
+AnswersIn file first count (Err refusal) = IfCause (FindsIn file first count) (cause_of_dump refusal)
 
-abbrev pub AnswersDump : List Held → List ℕ → ℕ → List ℕ → Result (Unit {0}) DumpRefusal → Type 0
-AnswersDump folder leaf sector bytes (Ok done) = Finds folder leaf sector (Ok bytes)
-AnswersDump folder leaf sector bytes (Err refusal) = IfCause (Finds folder leaf sector) (cause_of_dump refusal)
+abbrev pub AnswersDump : List Held → List ℕ → ℕ → ℕ → Result (List ℕ) DumpRefusal → Type 0
+AnswersDump folder leaf first count (Ok bytes) = Finds folder leaf first count (Ok bytes)
+AnswersDump folder leaf first count (Err refusal) = IfCause (Finds folder leaf first count) (cause_of_dump refusal)
 
 -- the host's count rose where a call of the host or of the store failed, and a host's fault tells it; else it stays
 abbrev pub CountsBy : ℕ → ℕ → Meaning → Type 0

@@ -1,25 +1,35 @@
--- What a dump of one sector finds.
-use Rattle.std.specs.Prelude.{◌≡◌, ◌<◌, ◌≤◌, ℕ, true, false, List, map, Option, Some, option_map, Result, Ok, Err, All}
+-- What a dump finds.
+use Rattle.std.specs.Prelude.{◌≡◌, ◌<◌, ◌≤◌, ◌+◌, ◌*◌, ◌^◌, ℕ, true, false, List, length, map, Option, Some, option_map, Result, Ok, Err, All}
 use Rattle.store_model.specs.File.{File, seen, is_synced}
 use Rattle.store_model.specs.Folder.{Held, has_name, seen_named}
 use Rattle.vx_base.specs.declared.parts.Parts.{Parts}
-use Rattle.vhdx_format.specs.FileParts.{shape_of}
-use Rattle.vhdx_format.specs.Layers.{layer_sector}
-use Rattle.vhdx_app.specs.Opening.{Opens}
-use Rattle.vhdx_app.specs.Refusals.{Refusal, FileMissing, OutOfRange}
+use Rattle.vhdx_app.specs.Opening.{HasSectors, Opens}
+use Rattle.vhdx_app.specs.Refusals.{Refusal, FileMissing, EmptyRange, TooLong, OutOfRange}
 
--- In a file of these bytes: the sector's bytes as its blocks have them, or what refuses it.
-pub data FindsIn (file : List ℕ) (sector : ℕ) : Result (List ℕ) Refusal → Type 0 where
-  refused : (refusal : Refusal) → Opens file (Err refusal) → FindsIn file sector (Err refusal)
-  out_of_range : (parts : Parts) → Opens file (Ok parts) → parts.geometry.sectors ≤ sector
-      → FindsIn file sector (Err (OutOfRange sector 1 parts.geometry.sectors))
-  found : (parts : Parts) (bytes : List ℕ) → Opens file (Ok parts) → sector < parts.geometry.sectors
-      → layer_sector (shape_of parts) file sector ≡ Some bytes → FindsIn file sector (Ok bytes)
+-- so many sectors are read at once, at most: 1 MB
+abbrev pub read_limit : ℕ
+read_limit = 2048
+
+-- In a file of these bytes: the sectors' bytes as its blocks have them, or what refuses them. The file is opened first; then
+-- the range is looked at.
+pub data FindsIn (file : List ℕ) (first count : ℕ) : Result (List ℕ) Refusal → Type 0 where
+  refused : (refusal : Refusal) → Opens file (Err refusal) → FindsIn file first count (Err refusal)
+  empty_range : (parts : Parts) → Opens file (Ok parts) → count ≡ 0 → FindsIn file first count (Err EmptyRange)
+  too_long : (parts : Parts) → Opens file (Ok parts) → read_limit < count → FindsIn file first count (Err (TooLong count read_limit))
+  out_of_range : (parts : Parts) → Opens file (Ok parts) → 0 < count → count ≤ read_limit → parts.geometry.sectors < first + count
+      → FindsIn file first count (Err (OutOfRange first count parts.geometry.sectors))
+  found : (parts : Parts) (bytes : List ℕ) → Opens file (Ok parts) → 0 < count → count ≤ read_limit → first + count ≤ parts.geometry.sectors
+      → HasSectors parts file first count bytes → FindsIn file first count (Ok bytes)
 
 -- In the folder.
-pub data Finds (folder : List Held) (leaf : List ℕ) (sector : ℕ) : Result (List ℕ) Refusal → Type 0 where
-  missing : has_name leaf folder ≡ false → Finds folder leaf sector (Err FileMissing)
-  there : (result : Result (List ℕ) Refusal) → has_name leaf folder ≡ true → FindsIn (seen_named leaf folder) sector result → Finds folder leaf sector result
+pub data Finds (folder : List Held) (leaf : List ℕ) (first count : ℕ) : Result (List ℕ) Refusal → Type 0 where
+  missing : has_name leaf folder ≡ false → Finds folder leaf first count (Err FileMissing)
+  there : (result : Result (List ℕ) Refusal) → has_name leaf folder ≡ true → FindsIn (seen_named leaf folder) first count result → Finds folder leaf first count result
+
+-- the bytes of so many sectors, whose numbers are numbers of 64 bits
+pub record IsGiven (first count : ℕ) (bytes : List ℕ) : Type 0 where
+  pub len : length bytes ≡ 512 * count
+  pub end : first + count < 2 ^ 64
 
 -- a file's name, and what a read gives of it, if it isn't away
 pub record Listed : Type 0 where

@@ -1,4 +1,5 @@
 pub mod Words
+pub mod Parsing
 pub mod Statuses
 pub mod Refusals
 pub mod Opening

@@ -1,10 +1,12 @@
 -- How a file without a parent is opened.
-use Rattle.std.specs.Prelude.{◌≡◌, ℕ, not, List, Result, Ok, Err}
+use Rattle.std.specs.Prelude.{◌≡◌, ◌<◌, ◌+◌, ◌*◌, ℕ, not, List, length, Some, Result, Ok, Err}
 use Rattle.vx_base.specs.declared.parts.Parts.{Parts}
 use Rattle.vhdx_format.specs.Rules.{BrokenRule, ◌>>=◌, unless}
 use Rattle.vhdx_format.specs.Fields.{is_zero_id}
 use Rattle.vhdx_format.specs.FileParts.{read_head, read_parts, shape_of, taken_areas}
 use Rattle.vhdx_format.specs.HeldBlocks.{IsSoundTable}
+use Rattle.vhdx_format.specs.Fields.{bytes_at}
+use Rattle.vhdx_format.specs.Layers.{layer_sector}
 use Rattle.block_table.specs.Tables.{IsFirstBroken}
 use Rattle.vhdx_app.specs.Refusals.{Refusal, Breaks, LogNamed, Differencing}
 
@@ -27,3 +29,8 @@ pub data Opens (file : List ℕ) : Result Parts Refusal → Type 0 where
   refused : (refusal : Refusal) → read_file file ≡ Err refusal → Opens file (Err refusal)
   bad_table : (parts : Parts) (rule : BrokenRule) → read_file file ≡ Ok parts → IsFirstBroken (shape_of parts) (taken_areas parts) file rule → Opens file (Err (Breaks rule))
   opened : (parts : Parts) → read_file file ≡ Ok parts → IsSoundTable (shape_of parts) (taken_areas parts) file → Opens file (Ok parts)
+
+-- These bytes are those of so many sectors of the disk of an opened file, one behind the other.
+pub record HasSectors (parts : Parts) (file : List ℕ) (first count : ℕ) (bytes : List ℕ) : Type 0 where
+  pub len : length bytes ≡ 512 * count
+  pub each : (i : ℕ) → i < count → layer_sector (shape_of parts) file (first + i) ≡ Some (bytes_at bytes (512 * i) 512)

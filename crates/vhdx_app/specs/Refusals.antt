@@ -10,6 +10,8 @@ pub data Refusal : Type 0 where
   Breaks : BrokenRule → Refusal  -- the file breaks a rule of its format
   LogNamed : Refusal  -- it names a log, which isn't replayed yet
   Differencing : Refusal  -- it has a parent, which isn't followed yet
+  EmptyRange : Refusal  -- no sectors are asked for
+  TooLong : (count limit : ℕ) → Refusal  -- more sectors are asked for at once than are given
   OutOfRange : (first count sectors : ℕ) → Refusal  -- the disk has fewer sectors
 
 -- ---- the values that a line tells, by their names
@@ -82,14 +84,18 @@ refusal_name FileMissing = codes "21 FileMissing"
 refusal_name (Breaks rule) = rule_name rule
 refusal_name LogNamed = codes "30 LogNamed"
 refusal_name Differencing = codes "51 Differencing"
+refusal_name EmptyRange = codes "31 EmptyRange"
+refusal_name (TooLong count limit) = codes "33 TooLong"
 refusal_name (OutOfRange first count sectors) = codes "32 OutOfRange"
 
--- a range is one of the disk, so that its line names no file
+-- a range is one of the disk, so that its lines name no file
 abbrev pub refused_file : List ℕ → Refusal → List ℕ
 refused_file leaf FileMissing = codes " " ++ leaf
 refused_file leaf (Breaks rule) = codes " " ++ leaf
 refused_file leaf LogNamed = codes " " ++ leaf
 refused_file leaf Differencing = codes " " ++ leaf
+refused_file leaf EmptyRange = []
+refused_file leaf (TooLong count limit) = []
 refused_file leaf (OutOfRange first count sectors) = []
 
 abbrev pub refusal_values : Refusal → List ℕ
@@ -97,6 +103,8 @@ refusal_values FileMissing = []
 refusal_values (Breaks rule) = rule_values rule
 refusal_values LogNamed = []
 refusal_values Differencing = []
+refusal_values EmptyRange = []
+refusal_values (TooLong count limit) = number_field (codes "count") count ++ number_field (codes "limit") limit
 refusal_values (OutOfRange first count sectors) = number_field (codes "first") first ++ number_field (codes "count") count ++ number_field (codes "sectors") sectors
 
 abbrev pub refusal_line : List ℕ → Refusal → List ℕ

@@ -1,48 +1,94 @@
-//! One sector of the disk of a file without a parent.
+//! Sectors of the disk of a file without a parent.
 
-ghost use Rattle.std.specs.Prelude.{◌≡◌, ◌<◌, length, true, Some, Result, Ok, option_map, IfErr, OnOk};
+ghost use Rattle.std.specs.Prelude.{◌≡◌, ◌<◌, ◌≤◌, ◌+◌, ◌*◌, ◌^◌, length, true, None, Some, option_map, IfErr, IfOk, OnOk};
+ghost use Rattle.block_table.specs.Tables.{HasTable};
+ghost use Rattle.vhdx_format.specs.FileParts.{shape_of, taken_areas};
+ghost use Rattle.vhdx_format.specs.HeldBlocks.{IsSoundTable};
+ghost use Rattle.vhdx_app.specs.Opening.{HasSectors};
 ghost use Rattle.store_model.specs.Disk.{WhereTold};
 ghost use Rattle.store_model.specs.File.{seen};
 ghost use Rattle.store_model.specs.Folder.{seen_named, has_name};
 ghost use Rattle.store_model.specs.Trace.{file_of};
-ghost use Rattle.vhdx_app.specs.Causes.{AnswersDump, AnswersIn, Counts, LeavesDump};
-ghost use Rattle.vhdx_app.specs.Dump.{contents_of, AllIdle};
+ghost use Rattle.vhdx_app.specs.Causes.{AnswersDump, AnswersIn, Counts, LeavesDump, cause_of_dump};
+ghost use Rattle.vhdx_app.specs.Dump.{contents_of, AllIdle, IsGiven};
 
-use crate::layer::read_sector;
+use crate::layer::{SECTOR, read_sectors};
 use crate::open::open_file;
 use crate::refusal::{DumpRefusal, OpenRefusal};
-use std::alloc::Global;
+use std::alloc::{AllocError, Global};
 use store_model::{Host, Store};
-use vx_base::Name;
+use vx_base::{Bytes, Name, Parts};
 
-/// Bytes of a sector.
-pub const SECTOR: usize = 512;
+/// So many sectors are read at once, at most.
+const READ_LIMIT: u64 = 2_048;
 
-// Opens the store's first file, and reads the sector.
+// So many zeros, on the heap.
+fn zeroed(alloc: Global, n: u64) -> Result<Vec<u8>, AllocError>
+    ensures { IfOk result (λ bytes. length bytes.items ≡ n) }
+{
+    vec![in alloc; 0u8; n as usize]
+}
+
+// The sectors of the store's first file, which is opened.
+fn sectors_of<S: Store>(
+    alloc: Global,
+    store: &mut S,
+    parts: &Parts,
+    first: u64,
+    count: u64,
+) -> Result<Bytes, DumpRefusal>
+    requires there { 0 < (S.disk store.old).files }
+    requires table { HasTable parts.now }
+    requires served { parts.now.geometry.sector ≡ 512 }
+    requires on_disk { first + count ≤ parts.now.geometry.sectors }
+    requires most { count ≤ 2048 }
+    requires inside { WhereTold (S.disk store.old).told (λ trace. parts.now.bat_at + parts.now.bat_len ≤ length (seen (file_of trace 0))) }
+    requires size { WhereTold (S.disk store.old).told (λ trace. length (seen (file_of trace 0)) < 2 ^ 64) }
+    requires sound { WhereTold (S.disk store.old).told (λ trace. IsSoundTable (shape_of parts.now) (taken_areas parts.now) (seen (file_of trace 0))) }
+    ensures sectors { IfOk result (λ bytes. WhereTold (S.disk store.old).told (λ trace. HasSectors parts.now (seen (file_of trace 0)) first count bytes)) }
+    ensures len { IfOk result (λ bytes. length bytes ≡ 512 * count) }
+    ensures outside { IfErr result (λ refusal. cause_of_dump refusal ≡ None) }
+    ensures stays { OnOk result (S.disk store.new ≡ S.disk store.old) }
+    ensures err { IfErr result (LeavesDump (S.disk store.old) (S.disk store.new)) }
+{
+    let mut bytes = zeroed(alloc, SECTOR * count)?;
+    read_sectors(store, 0, parts, first, count, bytes.as_mut_slice())?;
+    Ok(Bytes::from_vec(bytes))
+}
+
+// Opens the store's first file, and reads the sectors.
 fn look<S: Store>(
     alloc: Global,
     store: &mut S,
     first: u64,
-    sector: &mut [u8],
-) -> Result<(), DumpRefusal>
-    requires files { 0 < (S.disk store.old).files }
-    requires sector { length sector.old ≡ 512 }
-    ensures answer { WhereTold (S.disk store.old).told (λ trace. AnswersIn (seen (file_of trace 0)) first sector.new result) }
+    count: u64,
+) -> Result<Bytes, DumpRefusal>
+    requires { 0 < (S.disk store.old).files }
+    ensures answer { WhereTold (S.disk store.old).told (λ trace. AnswersIn (seen (file_of trace 0)) first count result) }
+    ensures given { IfOk result (IsGiven first count) }
     ensures stays { OnOk result (S.disk store.new ≡ S.disk store.old) }
     ensures err { IfErr result (LeavesDump (S.disk store.old) (S.disk store.new)) }
     ensures told { (S.disk store.new).told ≡ (S.disk store.old).told }
 {
     let parts = open_file(alloc, store, 0)?;
     let sectors = parts.geometry.sectors;
-    if first >= sectors {
+    if count == 0 {
+        return Err(DumpRefusal::EmptyRange);
+    }
+    if count > READ_LIMIT {
+        return Err(DumpRefusal::TooLong {
+            count,
+            limit: READ_LIMIT,
+        });
+    }
+    if first.saturating_add(count) > sectors {
         return Err(DumpRefusal::OutOfRange {
             first,
-            count: 1,
+            count,
             sectors,
         });
     }
-    read_sector(store, 0, &parts, first, sector)?;
-    Ok(())
+    Ok(sectors_of(alloc, store, &parts, first, count)?)
 }
 
 // The same of the file of this name, which is there.
@@ -51,13 +97,13 @@ fn visit<H: Host>(
     host: &mut H,
     leaf: Name,
     first: u64,
-    sector: &mut [u8],
-) -> Result<(), DumpRefusal>
+    count: u64,
+) -> Result<Bytes, DumpRefusal>
     requires idle { WhereTold (H.hosted host.old).folder AllIdle }
     requires there { WhereTold (H.hosted host.old).folder (λ folder. has_name leaf folder ≡ true) }
-    requires sector { length sector.old ≡ 512 }
-    ensures answer { WhereTold (H.hosted host.old).folder (λ folder. AnswersIn (seen_named leaf folder) first sector.new result) }
+    ensures answer { WhereTold (H.hosted host.old).folder (λ folder. AnswersIn (seen_named leaf folder) first count result) }
     ensures stays { WhereTold (H.hosted host.old).folder (λ folder. option_map contents_of (H.hosted host.new).folder ≡ Some (contents_of folder)) }
+    ensures given { IfOk result (IsGiven first count) }
     ensures quiet { OnOk result ((H.hosted host.new).faults ≡ (H.hosted host.old).faults) }
     ensures counts { IfErr result (Counts (H.hosted host.old).faults (H.hosted host.new).faults) }
 {
@@ -66,28 +112,28 @@ fn visit<H: Host>(
         Ok(store) => store,
         Err(fault) => return Err(DumpRefusal::File(OpenRefusal::Host(fault))),
     };
-    let looked = look(alloc, &mut store, first, sector);
+    let looked = look(alloc, &mut store, first, count);
     host.give_back(store);
     looked
 }
 
-/// Reads a sector of the disk of the file of this name into the buffer; the files stay.
+/// Reads sectors of the disk of the file of this name; the files stay.
 pub fn find<H: Host>(
     alloc: Global,
     host: &mut H,
     leaf: Name,
     first: u64,
-    sector: &mut [u8],
-) -> Result<(), DumpRefusal>
+    count: u64,
+) -> Result<Bytes, DumpRefusal>
     requires idle { WhereTold (H.hosted host.old).folder AllIdle }
-    requires sector { length sector.old ≡ 512 }
-    ensures answer { WhereTold (H.hosted host.old).folder (λ folder. AnswersDump folder leaf first sector.new result) }
+    ensures answer { WhereTold (H.hosted host.old).folder (λ folder. AnswersDump folder leaf first count result) }
     ensures stays { WhereTold (H.hosted host.old).folder (λ folder. option_map contents_of (H.hosted host.new).folder ≡ Some (contents_of folder)) }
+    ensures given { IfOk result (IsGiven first count) }
     ensures quiet { OnOk result ((H.hosted host.new).faults ≡ (H.hosted host.old).faults) }
     ensures counts { IfErr result (Counts (H.hosted host.old).faults (H.hosted host.new).faults) }
 {
     match host.has(&leaf) {
-        Ok(true) => visit(alloc, host, leaf, first, sector),
+        Ok(true) => visit(alloc, host, leaf, first, count),
         Ok(false) => Err(DumpRefusal::File(OpenRefusal::FileMissing)),
         Err(fault) => Err(DumpRefusal::File(OpenRefusal::Host(fault))),
     }

@@ -65,6 +65,13 @@ pub enum OpenRefusal {
 pub enum DumpRefusal {
     /// The file isn't opened, or not read.
     File(OpenRefusal),
+    /// No sectors are asked for.
+    EmptyRange,
+    /// More sectors are asked for at once than are given.
+    TooLong {
+        count: u64,
+        limit: u64,
+    },
     /// The disk has fewer sectors.
     OutOfRange {
         first: u64,
@@ -196,5 +203,17 @@ impl From<StoreFault> for DumpRefusal {
 
     fn from(fault: StoreFault) -> Self {
         DumpRefusal::File(OpenRefusal::Store(fault))
+    }
+}
+
+impl From<AllocError> for DumpRefusal {
+    ghost use Rattle.std.specs.Prelude.{◌≡◌};
+    ghost use Rattle.vhdx_app.specs.declared.refusal.DumpRefusal.TheVariants.{File};
+    ghost use Rattle.vhdx_app.specs.declared.refusal.OpenRefusal.TheVariants.{NoRoom};
+
+    ghost from_gives = { λ _ e. e ≡ File NoRoom };
+
+    fn from(_: AllocError) -> Self {
+        DumpRefusal::File(OpenRefusal::NoRoom)
     }
 }

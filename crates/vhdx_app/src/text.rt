@@ -4,7 +4,8 @@ ghost use Rattle.std.specs.Prelude.{◌≡◌, ◌++◌, ℕ, List, IfOk, IfSome
 ghost use Rattle.uuid.specs.Text.{braced_text, lower};
 ghost use Rattle.vhdx_app.specs.Answers as spec;
 ghost use Rattle.vhdx_app.specs.Causes.{cause_of};
-ghost use Rattle.vhdx_app.specs.Refusals.{OutOfRange, id_field, number_field, refusal_line, refusal_name, refusal_values, region_field};
+ghost use Rattle.vhdx_app.specs.Dump.{IsGiven};
+ghost use Rattle.vhdx_app.specs.Refusals.{OutOfRange, TooLong, id_field, number_field, refusal_line, refusal_name, refusal_values, region_field};
 
 use crate::refusal::OpenRefusal;
 use std::alloc::Global;
@@ -12,14 +13,28 @@ use std::fmt::Write;
 use vhdx_format::Region;
 use vx_base::{Guid, NoRoom};
 
-/// A sector's number and its bytes in lower-case hexadecimal digits.
-pub fn sector_line(alloc: Global, number: u64, sector: &[u8]) -> Result<String, NoRoom>
-    ensures { IfOk result (λ text. string_bytes text ≡ spec.sector_line number sector.now) }
+// A sector's number and its bytes in lower-case hexadecimal digits.
+fn push_sector(alloc: Global, text: &mut String, number: u64, sector: &[u8]) -> Result<(), NoRoom>
+    ensures { OnOk result (string_bytes text.new ≡ string_bytes text.old ++ spec.sector_line number sector.now) }
 {
     let digits = hex::encode(alloc, sector)?;
-    let mut text = String::new(alloc);
     let digits = digits.as_str();
     write!(text, "{number} {digits}\n")?;
+    Ok(())
+}
+
+/// A line for each of the sectors from `first` on.
+pub fn sector_lines(alloc: Global, first: u64, count: u64, sectors: &[u8]) -> Result<String, NoRoom>
+    requires { IsGiven first count sectors.now }
+    ensures { IfOk result (λ text. string_bytes text ≡ spec.sector_lines first sectors.now count) }
+{
+    let mut text = String::new(alloc);
+    let mut rest = sectors;
+    for number in first..first + count {
+        let (sector, behind) = rest.split_at(512);
+        push_sector(alloc, &mut text, number, sector)?;
+        rest = behind;
+    }
     Ok(text)
 }
 
@@ -123,8 +138,24 @@ pub fn refused_line(alloc: Global, leaf: &str, refusal: &OpenRefusal) -> Result<
     Ok(text)
 }
 
+/// The line of more sectors than are given at once.
+pub fn too_long_line(alloc: Global, count: u64, limit: u64) -> Result<String, NoRoom>
+    ensures { IfOk result (λ text. (leaf : List ℕ) → string_bytes text ≡ refusal_line leaf (TooLong count limit)) }
+{
+    let mut text = String::from_str(alloc, "refused 33 TooLong")?;
+    push_number(&mut text, "count", count)?;
+    push_number(&mut text, "limit", limit)?;
+    text.push_str("\n")?;
+    Ok(text)
+}
+
 /// The line of sectors that aren't on the disk.
-pub fn range_line(alloc: Global, first: u64, count: u64, sectors: u64) -> Result<String, NoRoom>
+pub fn out_of_range_line(
+    alloc: Global,
+    first: u64,
+    count: u64,
+    sectors: u64,
+) -> Result<String, NoRoom>
     ensures { IfOk result (λ text. (leaf : List ℕ) → string_bytes text ≡ refusal_line leaf (OutOfRange first count sectors)) }
 {
     let mut text = String::from_str(alloc, "refused 32 OutOfRange")?;

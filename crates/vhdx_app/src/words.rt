@@ -1,20 +1,61 @@
 //! The words of the command line.
 
-ghost use Rattle.std.specs.Prelude.{◌≡◌, ◌<◌, ◌≤◌, ◌^◌, ◌*◌, ◌+◌, ◌-◌, ℕ, List, Some, None, MatchOption, SomeIff, IsTrue, map, string_bytes, length, slice_index_or, []};
+ghost use Rattle.std.specs.Prelude.{◌≡◌, ◌≢◌, ◌<◌, ◌≤◌, ◌^◌, ◌*◌, ◌+◌, ◌-◌, ℕ, List, Some, None, MatchOption, IfOk, SomeIff, IsTrue, map, option_map, string_bytes, codes};
 ghost use Rattle.std.specs.Char.{is_ascii_digit};
 ghost use Rattle.std.specs.List.{list_all};
 ghost use Rattle.std.specs.Str.Parse.{digits_value};
-ghost use Rattle.vhdx_app.specs.Words.{IsDump, is_dump_form, number_of};
+ghost use Rattle.clap.specs.Words.{app_of, subcommand_rows_of};
+ghost use Rattle.vhdx_app.specs.Words.{Asks, AsksNothing, help_text, number_of, version_text};
+ghost use Rattle.vhdx_app.specs.Parsing.{AreValues, IsGiven, dump_rows, given_by, NotSpelt, SpellsDump, the_app};
 
-use vx_base::is_name;
+use clap::error::ErrorKind;
+use clap::{Arg, ArgAction, ArgMatches, Command};
+use std::alloc::Global;
+use vx_base::{NoRoom, is_name};
 
-/// One sector of one file.
+/// What the words ask for.
 #[derive(Clone, Copy)]
-pub struct Request<'a> {
-    /// The name of the file.
-    pub leaf: &'a str,
-    /// The number of the sector.
-    pub first: u64,
+pub enum Request<'a> {
+    /// Sectors of one file.
+    Dump {
+        /// The name of the file.
+        leaf: &'a str,
+        /// The number of the first sector.
+        first: u64,
+        /// How many sectors.
+        count: u64,
+    },
+    /// How the program is called.
+    Help,
+    /// Which version the program is.
+    Version,
+}
+
+// What a parse of the words gives, before the values of `dump` are read.
+#[derive(Clone, Copy)]
+enum Given<'a> {
+    Values {
+        leaf: &'a str,
+        first: &'a str,
+        count: &'a str,
+    },
+    Help,
+    Version,
+    Nothing,
+}
+
+/// What `--help` prints.
+pub fn help() -> &'static str
+    ensures { result.now ≡ help_text }
+{
+    "Usage: vhdx dump LEAF FIRST COUNT\n       vhdx --help\n       vhdx --version\n"
+}
+
+/// What `--version` prints.
+pub fn version() -> &'static str
+    ensures { result.now ≡ version_text }
+{
+    "vhdx 0.1\n"
 }
 
 // Whether a text is decimal digits.
@@ -59,36 +100,115 @@ fn number(digits: &[u8]) -> Option<u64>
     value_of(digits)
 }
 
-// A word.
-fn word(words: &[String], i: usize) -> &str
-    requires { i < length words.now }
-    ensures { result.now ≡ slice_index_or (map string_bytes words.now) i [] }
+// The command line: `dump` with its three values, `--help` and `--version`.
+fn command<'a>(alloc: Global) -> Result<Command<'a>, NoRoom>
+    ensures { IfOk result (λ c. app_of c ≡ the_app) }
 {
-    words[i].as_str()
+    let leaf = Arg::new(alloc, "leaf").required(true);
+    let first = Arg::new(alloc, "first").required(true);
+    let count = Arg::new(alloc, "count").required(true);
+    let dump = Command::new(alloc, "dump")
+        .arg(leaf)?
+        .arg(first)?
+        .arg(count)?;
+    let help = Arg::new(alloc, "help").long("help").action(ArgAction::Help);
+    let version = Arg::new(alloc, "version")
+        .long("version")
+        .action(ArgAction::Version);
+    let command = Command::new(alloc, "vhdx")
+        .no_binary_name(true)
+        .disable_help_flag(true)
+        .disable_version_flag(true)
+        .disable_help_subcommand(true)
+        .subcommand_required(true)
+        .arg(help)?
+        .arg(version)?
+        .subcommand(dump)?;
+    Ok(command)
 }
 
-// Whether the words are `dump`, a name, any word and `1`.
-fn is_dump(words: &[String]) -> bool
-    ensures { result ≡ is_dump_form (map string_bytes words.now) }
+// What a parse of the words gives.
+fn parsed<'a>(alloc: Global, words: &'a [String]) -> Result<Given<'a>, NoRoom>
+    ensures { IfOk result (IsGiven (map string_bytes words.entry.now)) }
 {
-    words.len() == 4
-        && word(words, 0) == "dump"
-        && word(words, 3) == "1"
-        && is_name(word(words, 1).as_bytes())
+    let command = command(alloc)?;
+    match command.try_get_matches_from(words) {
+        Ok(matches) => Ok(values_given(&matches)),
+        Err(error) => refused(error.kind()),
+    }
 }
 
-/// What the words ask for: `dump LEAF FIRST 1`, LEAF a name, FIRST a number below 2^64 in decimal digits.
-pub fn request_of(words: &[String]) -> Option<Request<'_>>
-    ensures { MatchOption result ((leaf : List ℕ) (first : ℕ) → IsDump (map string_bytes words.now) leaf first → ⊥) (λ request. IsDump (map string_bytes words.now) request.leaf.now request.first) }
+// The values of `dump` in the matches.
+fn values_given<'a>(matches: &ArgMatches<'a>) -> Given<'a>
+    ensures { (a b c : List ℕ) → subcommand_rows_of matches.entry.now ≡ Some (codes "dump", dump_rows a b c) → AreValues a b c result }
 {
-    if !is_dump(words) {
+    let Some((_, dump)) = matches.subcommand() else {
+        return Given::Nothing;
+    };
+    three_values(
+        dump.get_str("leaf"),
+        dump.get_str("first"),
+        dump.get_str("count"),
+    )
+}
+
+// Three values, where all are there.
+fn three_values<'a>(
+    leaf: Option<&'a str>,
+    first: Option<&'a str>,
+    count: Option<&'a str>,
+) -> Given<'a>
+    ensures { (a b c : List ℕ) → option_map (λ s. s.now) leaf.entry ≡ Some a → option_map (λ s. s.now) first.entry ≡ Some b → option_map (λ s. s.now) count.entry ≡ Some c → AreValues a b c result }
+{
+    let Some(leaf) = leaf else {
+        return Given::Nothing;
+    };
+    let Some(first) = first else {
+        return Given::Nothing;
+    };
+    let Some(count) = count else {
+        return Given::Nothing;
+    };
+    Given::Values { leaf, first, count }
+}
+
+// What a parse without matches says of the words.
+fn refused<'a>(kind: ErrorKind) -> Result<Given<'a>, NoRoom>
+    ensures { IfOk result (λ g. (kind ≢ ErrorKind.OutOfMemory) × (g ≡ given_by kind)) }
+{
+    match kind {
+        ErrorKind::OutOfMemory => Err(NoRoom),
+        ErrorKind::DisplayHelp => Ok(Given::Help),
+        ErrorKind::DisplayVersion => Ok(Given::Version),
+        _ => Ok(Given::Nothing),
+    }
+}
+
+// The request for sectors of a file, where the values are a name and two numbers.
+fn dump_of<'a>(leaf: &'a str, first: &str, count: &str) -> Option<Request<'a>>
+    ensures { MatchOption result (NotSpelt leaf.entry.now first.now count.now) (SpellsDump leaf.entry.now first.now count.now) }
+{
+    if !is_name(leaf.as_bytes()) {
         return None;
     }
-    match number(word(words, 2).as_bytes()) {
-        Some(first) => Some(Request {
-            leaf: word(words, 1),
-            first,
-        }),
-        None => None,
+    Some(Request::Dump {
+        leaf,
+        first: number(first.as_bytes())?,
+        count: number(count.as_bytes())?,
+    })
+}
+
+/// What the words ask for: `dump LEAF FIRST COUNT`, `--help` or `--version`; None where it is none of these.
+pub fn request_of(alloc: Global, words: &[String]) -> Result<Option<Request<'_>>, NoRoom>
+    ensures { IfOk result (λ request. MatchOption request (AsksNothing (map string_bytes words.now)) (Asks (map string_bytes words.now))) }
+{
+    match parsed(alloc, words)? {
+        Given::Values { leaf, first, count } => Ok(dump_of(leaf, first, count)),
+        Given::Help => Ok(Some(Request::Help)),
+        Given::Version => Ok(Some(Request::Version)),
+        Given::Nothing => Ok(None),
     }
 }
+
+#[cfg(test)]
+mod tests;

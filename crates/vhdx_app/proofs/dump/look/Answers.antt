@@ -1,21 +1,31 @@
-use Rattle.std.proofs.Common.{sym, ap, ◌∙◌}
+use Rattle.std.proofs.Common.{◌≤◌, ◌*◌, ◌^◌, sym, ap, subst, ◌∙◌, arith}
 use Rattle.store_model.specs.File.{seen}
 use Rattle.store_model.specs.Trace.{file_of}
-use Rattle.vhdx_app.specs.Dump.{out_of_range, found}
+use Rattle.vhdx_app.specs.Dump.{empty_range, too_long, out_of_range, found}
 use Rattle.vhdx_app.proofs.Found.{unopened, sound_of}
 use Rattle.vhdx_app.proofs.dump.look.Goals as goal
 
 pub returns-in_err-parts-clause-answer : goal.returns-in_err-parts-clause-answer
-returns-in_err-parts-clause-answer g c t told = unopened (seen (file_of t 0)) c.args.first _ _ _ c.from_residual.ensures.1 (c.in_err-parts.ensures.opens t told)
+returns-in_err-parts-clause-answer g c t told = unopened (seen (file_of t 0)) c.args.first c.args.count _ _ c.from_residual.ensures.1 (c.in_err-parts.ensures.opens t told)
 
-pub returns-then-first-sectors-clause-answer : goal.returns-then-first-sectors-clause-answer
-returns-then-first-sectors-clause-answer g c t told = out_of_range c.in_ok-parts.parts (c.in_ok-parts.ensures.opens t told) c.if-first-sectors.true
+pub returns-then-count-eq0-clause-answer : goal.returns-then-count-eq0-clause-answer
+returns-then-count-eq0-clause-answer g c t told = empty_range c.in_ok-parts.parts (c.in_ok-parts.ensures.opens t told) c.if-count-eq0.true
 
-pub read_sector-requires-clause-sound : goal.read_sector-requires-clause-sound
-read_sector-requires-clause-sound g c t told =
+pub returns-then-count-gt-READ_LIMIT-clause-answer : goal.returns-then-count-gt-READ_LIMIT-clause-answer
+returns-then-count-gt-READ_LIMIT-clause-answer g c t told = too_long c.in_ok-parts.parts (c.in_ok-parts.ensures.opens t told) c.if-count-gt-READ_LIMIT.true
+
+pub returns-then-saturating_add-sectors-clause-answer : goal.returns-then-saturating_add-sectors-clause-answer
+returns-then-saturating_add-sectors-clause-answer g c t told =
+    out_of_range c.in_ok-parts.parts (c.in_ok-parts.ensures.opens t told) (omega (arith, c.if-count-eq0.false)) c.if-count-gt-READ_LIMIT.false
+    (omega (arith, c.if-saturating_add-sectors.true, c.saturating_add.ensures))
+
+pub sectors_of-requires-clause-sound : goal.sectors_of-requires-clause-sound
+sectors_of-requires-clause-sound g c t told =
     sound_of (seen (file_of t 0)) c.in_ok-parts.parts (c.in_ok-parts.ensures.opens t (sym (ap (λ d. d.told) c.in_ok-parts.ensures.store) ∙ told))
 
 pub returns-clause-answer : goal.returns-clause-answer
 returns-clause-answer g c t told =
-    found c.in_ok-parts.parts _ (c.in_ok-parts.ensures.opens t told) c.if-first-sectors.false
-    (c.in_ok-read_sector.ensures.sector t (ap (λ d. d.told) c.in_ok-parts.ensures.store ∙ told))
+    let few : c.in_ok-parts.parts.geometry.sectors * 512 ≤ 2 ^ 46 = subst (λ n. c.in_ok-parts.parts.geometry.sectors * n ≤ 2 ^ 46) c.in_ok-parts.ensures.served c.in_ok-parts.ensures.table.most in
+    found c.in_ok-parts.parts _ (c.in_ok-parts.ensures.opens t told) (omega (arith, c.if-count-eq0.false)) c.if-count-gt-READ_LIMIT.false
+    (omega (arith, c.if-saturating_add-sectors.false, c.saturating_add.ensures, few))
+    (c.in_ok-sectors_of.ensures.sectors t (ap (λ d. d.told) c.in_ok-parts.ensures.store ∙ told))

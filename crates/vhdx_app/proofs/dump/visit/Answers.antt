@@ -1,4 +1,4 @@
-use Rattle.std.proofs.Common.{zero, suc, refl, ap, subst, ◌∙◌, [], ◌∷◌, arith}
+use Rattle.std.proofs.Common.{zero, suc, ap, subst, ◌∙◌, [], ◌∷◌, arith}
 use Rattle.std.specs.Prelude.{option_map}
 use Rattle.store_model.specs.Disk.{Disk}
 use Rattle.store_model.specs.Folder.{attached_trace, HasFailed, RoseWhere}
@@ -25,7 +25,7 @@ give_back-requires g c =
 
 pub returns-clause-answer : goal.returns-clause-answer
 returns-clause-answer g c t told =
-    subst (λ bytes. AnswersIn bytes c.args.first c.look-looked.new.sector c.look-looked.result) (seen-attached c.args.leaf t)
+    subst (λ bytes. AnswersIn bytes c.args.first c.args.count c.look-looked.result) (seen-attached c.args.leaf t)
     (c.look-looked.ensures.answer (attached_trace (c.args.leaf ∷ []) t) (ap (λ d. d.told) c.in-Ok.ensures.store ∙ ap (option_map (attached_trace (c.args.leaf ∷ []))) told))
 
 pub returns-clause-stays : goal.returns-clause-stays

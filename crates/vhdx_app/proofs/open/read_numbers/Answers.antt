@@ -3,7 +3,7 @@ use Rattle.store_model.specs.File.{seen}
 use Rattle.store_model.specs.Trace.{file_of}
 use Rattle.vx_base.specs.declared.parts.Parts.{Parts}
 use Rattle.vhdx_format.specs.FileParts.{read_parts}
-use Rattle.vhdx_format.specs.Rules.{◌>>=◌, Refuses, unless}
+use Rattle.vhdx_format.specs.Rules.{Refuses, unless}
 use Rattle.vhdx_app.specs.Causes.{cause_of}
 use Rattle.vhdx_app.specs.Opening.{by_format}
 use Rattle.vhdx_app.specs.Refusals.{Differencing}

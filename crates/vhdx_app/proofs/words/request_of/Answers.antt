@@ -1,17 +1,11 @@
-use Rattle.std.proofs.Common.{◌≡◌, ◌∙◌, sym, ap, subst}
-use Rattle.std.specs.Prelude.{Some, map, string_bytes}
-use Rattle.vhdx_app.proofs.Commands.{dump_of_form, no_number}
-use Rattle.vhdx_app.specs.Words.{IsDump, number_of}
+use Rattle.std.proofs.Common.{map, subst, List, ℕ}
+use Rattle.std.specs.Prelude.{string_bytes}
+use Rattle.vhdx_app.specs.Parsing.{IsGiven}
+use Rattle.vhdx_app.proofs.Commands.{values_spelt}
 use Rattle.vhdx_app.proofs.words.request_of.Goals as goal
 
-pub returns-in-Some : goal.returns-in-Some
-returns-in-Some c =
-    let read_ : number_of c.as_bytes.result.now ≡ Some c.in-Some.first = sym c.number.ensures ∙ c.in-Some.is in
-    let text = c.as_bytes.ensures.value ∙ c.word.ensures in
-    let is = dump_of_form _ c.in-Some.first (sym c.is_dump.ensures ∙ c.if-not-is_dump.false) (ap number_of (sym text) ∙ read_) in
-    subst (λ leaf. IsDump (map string_bytes c.args.words.now) leaf c.in-Some.first) (sym c.word-in-Some.ensures) is
-
-pub returns-in-None : goal.returns-in-None
-returns-in-None c =
-    let text = c.as_bytes.ensures.value ∙ c.word.ensures in
-    no_number _ (ap number_of (sym text) ∙ sym c.number.ensures ∙ c.in-None.is)
+pub returns-in-Values : goal.returns-in-Values
+returns-in-Values c =
+    let words : List (List ℕ) = map string_bytes c.args.words.now in
+    let has = subst (IsGiven words) c.in-Values.is c.in_ok-leaf.ensures in
+    values_spelt words c.in-Values.leaf.now c.in-Values.first.now c.in-Values.count.now c.dump_of.result has c.dump_of.ensures
