@@ -1,5 +1,5 @@
 -- How a run ends, and what it prints.
-use Rattle.std.specs.Prelude.{◌≡◌, ℕ, ◌<◌, List, Option, Ok, Err, take, codes}
+use Rattle.std.specs.Prelude.{◌≡◌, ℕ, ◌<◌, ◌*◌, List, length, Option, Ok, Err, take, codes}
 use Rattle.std.specs.Io.KnownBytes.{Appends}
 use Rattle.store_model.specs.Cause.{Rose}
 use Rattle.store_model.specs.Disk.{WhereTold}
@@ -13,6 +13,7 @@ use Rattle.vhdx_app.specs.declared.status.Status.TheVariants.{Done, Refused, Usa
 -- the lines of the sectors; where the folder is told, their bytes are those that the file has
 pub record ShowsSectors (folder : Option (List Held)) (leaf : List ℕ) (first count : ℕ) (text : List ℕ) : Type 0 where
   pub bytes : List ℕ
+  pub whole : length bytes ≡ 512 * count
   pub text_is : text ≡ sector_lines first bytes count
   pub finds : WhereTold folder (λ f. Finds f leaf first count (Ok bytes))
 
