@@ -22,3 +22,4 @@ pub mod MadeTables
 pub mod MadeOpen
 pub mod WrittenLocators
 pub mod ChildLocators
+pub mod EntryWriting

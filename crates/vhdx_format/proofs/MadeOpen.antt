@@ -40,11 +40,11 @@ module _ (size block : ℕ) (least : 2 ^ 20 ≤ block) (some : 0 < size) (most :
       let below : size / block < 2 ^ 26 + 1 = div_below size block (2 ^ 26 + 1) (omega (arith, least)) (omega (arith, least, most)) in
       omega (arith, below)
 
-  entries_some : 0 < table_entries size 512 block false
+  pub entries_some : 0 < table_entries size 512 block false
   unfolding table_entries
   entries_some = omega (arith, blocks_some)
 
-  entries_few : table_entries size 512 block false ≤ 2 ^ 28
+  pub entries_few : table_entries size 512 block false ≤ 2 ^ 28
   unfolding table_entries
   entries_few = omega (arith, blocks_few, div-le_self (div_ceil size block - 1) (ratio_of 512 block))
 
@@ -120,7 +120,7 @@ dynamic_files_open = dynamic_opens
 -- ---- a fixed file
 
 -- blocks in megabytes
-block_units : (block : ℕ) → IsBlockSize block → block / megabyte * megabyte ≡ block
+pub block_units : (block : ℕ) → IsBlockSize block → block / megabyte * megabyte ≡ block
 block_units block b =
     let p = block_power block b in
     let turned : block ≡ 2 ^ p.power * 2 ^ 20 = p.is ∙ ap (λ (n : ℕ). 2 ^ n) (let e : 20 + p.power ≡ p.power + 20 = omega arith in e) ∙ pow-add 2 p.power 20 in
@@ -323,14 +323,14 @@ module _ (size block : ℕ) (b : IsBlockSize block) (some : 0 < size) (most : si
   chunks_some =
       omega (arith, div-div_ceil 0 (div_ceil size block) (ratio_of 512 block) (ratio_in_range 512 block refl b).0 (blocks_some size block (block_least block b) some most))
 
-  child_entries_some : 0 < table_entries size 512 block true
+  pub child_entries_some : 0 < table_entries size 512 block true
   unfolding table_entries
   child_entries_some =
       let one : 1 * 1 ≤ div_ceil (div_ceil size block) (ratio_of 512 block) * (ratio_of 512 block + 1) =
       mul-le 1 1 (div_ceil (div_ceil size block) (ratio_of 512 block)) (ratio_of 512 block + 1) chunks_some (omega arith) in
       omega (arith, one)
 
-  child_entries_few : table_entries size 512 block true ≤ 2 ^ 28
+  pub child_entries_few : table_entries size 512 block true ≤ 2 ^ 28
   unfolding table_entries
   child_entries_few =
       let ratio = ratio_in_range 512 block refl b in
@@ -339,26 +339,26 @@ module _ (size block : ℕ) (b : IsBlockSize block) (some : 0 < size) (most : si
       omega (arith, row, chunks_few, blocks_few size block (block_least block b) some most, ratio.1)
 
 -- a child's locator has a little more than its name
-length-child : (parent_id parent_file : List ℕ) → IsName parent_file → IsUtf8 parent_file → length (locator_bytes (child_pairs parent_id parent_file)) ≤ 4096
+pub length-child : (parent_id parent_file : List ℕ) → IsName parent_file → IsUtf8 parent_file → length (locator_bytes (child_pairs parent_id parent_file)) ≤ 4096
 unfolding by_index
 length-child parent_id parent_file n u =
     let few : length (text_units parent_file) ≤ 510 = omega (arith, length-name parent_file n, text_units_few parent_file u) in
     let path : length (codes ".\\" ++ text_units parent_file) ≡ 2 + length (text_units parent_file) = omega arith in
     omega (arith, length-locator (child_pairs parent_id parent_file), few)
 
-module _ (file_write data_write : List ℕ) (block : ℕ) (parent_id parent_file : List ℕ) (parent : Metadata) (w : IsMakeable file_write data_write parent.disk parent.size block)
+module _ (file_write data_write disk : List ℕ) (size block : ℕ) (parent_id parent_file : List ℕ) (w : IsMakeable file_write data_write disk size block)
     (n : IsName parent_file) (u : IsUtf8 parent_file) where
   abbrev m : Metadata
-  m = child_metadata block parent_id parent_file parent
+  m = child_metadata size block disk parent_id parent_file
 
   abbrev child : List ℕ
-  child = child_file file_write data_write block parent_id parent_file parent
+  child = child_file file_write data_write disk size block parent_id parent_file
 
-  child_some : 0 < table_entries parent.size 512 block true
-  child_some = child_entries_some parent.size block w.of_block (omega (arith, w.one_sector)) w.most
+  child_some : 0 < table_entries size 512 block true
+  child_some = child_entries_some size block w.of_block (omega (arith, w.one_sector)) w.most
 
-  child_few : table_entries parent.size 512 block true ≤ 2 ^ 28
-  child_few = child_entries_few parent.size block w.of_block (omega (arith, w.one_sector)) w.most
+  child_few : table_entries size 512 block true ≤ 2 ^ 28
+  child_few = child_entries_few size block w.of_block (omega (arith, w.one_sector)) w.most
 
   some_same : (a b : List ℕ) → Some a ≡ Some b → a ≡ b
   some_same a b e = cc

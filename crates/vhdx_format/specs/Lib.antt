@@ -11,6 +11,7 @@ pub mod Updates
 pub mod Locators
 pub mod Logs
 pub mod TornWrites
+pub mod WrittenEntries
 pub mod RingLaws
 pub mod EntryLaws
 pub mod SequenceLaws

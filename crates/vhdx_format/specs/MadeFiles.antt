@@ -91,20 +91,20 @@ unfoldable pub fixed_file : List ℕ → List ℕ → List ℕ → ℕ → ℕ �
 fixed_file file_write data_write disk size block = fixed_file_holding file_write data_write disk size block (zeros (fixed_len size block))
 
 -- the metadata of a child: its parent's size and disk, and a locator that names it
-abbrev pub child_metadata : ℕ → List ℕ → List ℕ → Metadata → Metadata
-child_metadata block parent_id parent_file parent = record {
+abbrev pub child_metadata : ℕ → ℕ → List ℕ → List ℕ → List ℕ → Metadata
+child_metadata size block disk parent_id parent_file = record {
   block = block;
   leave = false;
   parent = true;
-  size = parent.size;
-  disk = parent.disk;
+  size = size;
+  disk = disk;
   logical = 512;
   physical = 4096;
   locator = Some (locator_bytes (child_pairs parent_id parent_file));
   retired = None;
 }
 
-unfoldable pub child_file : List ℕ → List ℕ → ℕ → List ℕ → List ℕ → Metadata → List ℕ
-child_file file_write data_write block parent_id parent_file parent =
-    let m = child_metadata block parent_id parent_file parent in
+unfoldable pub child_file : List ℕ → List ℕ → List ℕ → ℕ → ℕ → List ℕ → List ℕ → List ℕ
+child_file file_write data_write disk size block parent_id parent_file =
+    let m = child_metadata size block disk parent_id parent_file in
     file_head file_write data_write m ++ zeros (made_bat_len m)

@@ -54,7 +54,7 @@ NewFixedFilesOpen = (file_write data_write disk : List ℕ) (size block : ℕ) �
 
 -- A new child opens with the numbers that were meant, and has no sector of its own.
 abbrev pub ChildFilesOpen : Type 0
-ChildFilesOpen = (file_write data_write : List ℕ) (block : ℕ) (parent_id parent_file : List ℕ) (parent : Metadata)
-    → IsMakeable file_write data_write parent.disk parent.size block → IsName parent_file → IsUtf8 parent_file
-    → OpensAs (child_file file_write data_write block parent_id parent_file parent)
-    (made_parts file_write data_write (child_metadata block parent_id parent_file parent)) (λ s. None)
+ChildFilesOpen = (file_write data_write disk : List ℕ) (size block : ℕ) (parent_id parent_file : List ℕ)
+    → IsMakeable file_write data_write disk size block → IsName parent_file → IsUtf8 parent_file
+    → OpensAs (child_file file_write data_write disk size block parent_id parent_file)
+    (made_parts file_write data_write (child_metadata size block disk parent_id parent_file)) (λ s. None)

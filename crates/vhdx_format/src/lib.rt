@@ -4,6 +4,7 @@
 
 mod layer_laws;
 mod locator;
+mod log_entry;
 mod log_laws;
 mod made_laws;
 mod metadata;
@@ -14,6 +15,7 @@ mod texts;
 
 pub use layer_laws::{entries_are_apart, layer_is_by_sector, sectors_have_entries};
 pub use locator::{Locator, Pair};
+pub use log_entry::{EntryHead, Page};
 pub use log_laws::{entry_is_all_or_nothing, replay_keeps_settled_bytes, replayed_file_is_settled};
 pub use made_laws::{
     child_files_open, children_name_parents, dynamic_files_open, fixed_files_open,
@@ -21,7 +23,8 @@ pub use made_laws::{
 pub use metadata::{Item, Metadata, MetadataEntry};
 pub use places::{MEGABYTE, is_whole_megabytes, is_within, overlaps};
 pub use read_back::{
-    headers_are_read_back, locators_are_read_back, metadata_are_read_back, regions_are_read_back,
+    entries_are_read_back, headers_are_read_back, locators_are_read_back, metadata_are_read_back,
+    regions_are_read_back,
 };
 pub use regions::{Region, RegionEntry, Regions};
 pub use texts::{name_in, put_units, text_of, text_of_units, units_len, units_of};

@@ -1,0 +1,14 @@
+use Rattle.std.proofs.Common.{◌-◌}
+use Rattle.log_find.specs.KnownEntries.{AreKnown}
+use Rattle.log_find.proofs.Walk.{HasWalked}
+use Rattle.log_find.proofs.walk_to.Given as goal
+
+abbrev pub invariant-loop-entry : goal.invariant-loop-entry
+invariant-loop-entry l =
+    record {
+      walked : HasWalked l.log l.id l.ring l.last l.first l.entry l.total l.entries;
+      known : AreKnown l.log l.id l.ring l.known;
+    }
+
+abbrev pub decreases-loop-entry : goal.decreases-loop-entry
+decreases-loop-entry l = l.last.number - l.entry.number
