@@ -1,7 +1,22 @@
-//! Tests of the whole program over files in memory: what no clause says of `run`.
+//! Tests of the whole program over files in memory: what no clause says of `run`. And of the making of files and the
+//! writing of headers over them.
 #![tactic(auto)]
 
 #[cfg(test)]
+mod common;
+#[cfg(test)]
+mod damaged;
+#[cfg(test)]
+mod dump;
+#[cfg(test)]
 mod files;
 #[cfg(test)]
-mod tests;
+mod headers;
+#[cfg(test)]
+mod info;
+#[cfg(test)]
+mod make;
+#[cfg(test)]
+mod making;
+#[cfg(test)]
+mod words;

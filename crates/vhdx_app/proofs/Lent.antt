@@ -5,11 +5,13 @@ use Rattle.std.specs.List.{IsDistinct}
 use Rattle.std.specs.Str.{bytes_eq}
 use Rattle.std.proofs.lemmas.Bool.{or_left, or_right}
 use Rattle.std.proofs.lemmas.Option.{same_Some}
-use Rattle.store_model.specs.Disk.{WhereTold}
-use Rattle.store_model.specs.File.{File, seen}
-use Rattle.store_model.specs.Folder.{Held, has_name, file_named, with_file, seen_named, CanAttach, attached_trace, without, given_back, AreAway}
+use Rattle.store_model.specs.Disk.{Disk, WhereTold}
+use Rattle.store_model.specs.File.{File, is_synced, seen}
+use Rattle.store_model.specs.Folder.{Held, Hosted, has_name, file_named, with_file, seen_named, CanAttach, attached_trace, without, given_back, AreAway}
 use Rattle.store_model.specs.Trace.{Trace, file_of}
-use Rattle.vhdx_app.specs.Dump.{AllIdle, contents_of, Listed}
+use Rattle.file_open.specs.Causes.{Meaning, refuses, host_failed, store_failed, no_memory}
+use Rattle.file_open.specs.Opening as opening
+use Rattle.vhdx_app.specs.Folders.{AllIdle, Lends, LendsNone, contents_of, Listed}
 
 pub distinct : (leaf : List ℕ) → IsDistinct bytes_eq (leaf ∷ [])
 unfolding IsDistinct
@@ -104,3 +106,56 @@ contents_stay leaf folder lent after told is idle there back_is f folder_is =
     let trace = attached_trace (leaf ∷ []) f in
     ap (option_map contents_of) (back_is trace told_is ∙ ap (option_map (given_back trace)) lent_is)
     ∙ ap Some (back leaf f (file_of trace 0) (idle f folder_is) (there f folder_is) (seen-attached leaf f))
+
+-- what was lent, and left as it was
+pub lent_as : (leaf : List ℕ) (old new : Hosted) (lent : Disk) (told : Option Trace) → Lends leaf old new lent → told ≡ lent.told → IsLent leaf old.folder new.folder told
+lent_as leaf old new lent told lends same = record {
+  folder_is = ap (λ h. h.folder) lends.host_is;
+  told_is = same ∙ ap (λ d. d.told) lends.disk_is;
+}
+
+-- a folder of which nothing is lent stays
+pub stays_unlent : (leaf : List ℕ) (old new : Hosted) (meaning : Meaning opening.Refusal) → LendsNone leaf old new meaning → WhereTold old.folder (λ f. option_map contents_of new.folder ≡ Some (contents_of f))
+stays_unlent leaf old new (refuses refusal) (is, none, same) f told = ap (λ h. option_map contents_of h.folder) same ∙ ap (option_map contents_of) told
+stays_unlent leaf old new (host_failed fault) failed f told = ap (λ h. option_map contents_of h.folder) failed.stays ∙ ap (option_map contents_of) told
+stays_unlent leaf old new (store_failed fault) h f told = absurd h
+stays_unlent leaf old new no_memory h f told = absurd h
+
+-- ---- nothing is unsynced
+
+back_idle : (leaf : List ℕ) (folder : List Held) (file : File) → AllIdle folder → is_synced file ≡ true → AllIdle (with_file leaf (Some file) (with_file leaf None folder))
+back_idle leaf [] file idle synced = λ k d h. absurd (omega (arith, h))
+back_idle leaf (held ∷ folder) file idle synced = by_name (bytes_eq held.name leaf) refl (back_idle leaf folder file (rest_idle held folder idle) synced) where
+  by_name : (b : Bool) → bytes_eq held.name leaf ≡ b → AllIdle (with_file leaf (Some file) (with_file leaf None folder)) → AllIdle (with_file leaf (Some file) (with_file leaf None (held ∷ folder)))
+  by_name true e further =
+      subst (λ b. AllIdle (with_file leaf (Some file) (cond b (record held { file = None } ∷ folder) (held ∷ with_file leaf None folder)))) (sym e)
+      (subst (λ b. AllIdle (cond b (record held { file = Some file } ∷ folder) (record held { file = None } ∷ with_file leaf (Some file) folder))) (sym e) here)
+    where
+      here : AllIdle (record held { file = Some file } ∷ folder)
+      here zero d h = (file, refl, synced)
+      here (suc k) d h = idle (suc k) d h
+  by_name false e further =
+      subst (λ b. AllIdle (with_file leaf (Some file) (cond b (record held { file = None } ∷ folder) (held ∷ with_file leaf None folder)))) (sym e)
+      (subst (λ b. AllIdle (cond b (record held { file = Some file } ∷ with_file leaf None folder) (held ∷ with_file leaf (Some file) (with_file leaf None folder)))) (sym e) there)
+    where
+      there : AllIdle (held ∷ with_file leaf (Some file) (with_file leaf None folder))
+      there zero d h = idle zero d (omega arith)
+      there (suc k) d h = further k d (omega (arith, h))
+
+synced_attached : (leaf : List ℕ) (folder : List Held) → is_synced (file_of (attached_trace (leaf ∷ []) folder) 0) ≡ true
+unfolding file_of
+synced_attached leaf folder = refl
+
+pub idle_stays : (leaf : List ℕ) (folder lent after : Option (List Held)) (told : Option Trace) → IsLent leaf folder lent told → WhereTold folder AllIdle → WhereTold told (λ trace. after ≡ option_map (given_back trace) lent) → WhereTold folder (λ f. WhereTold after AllIdle)
+idle_stays leaf folder lent after told is idle back_is f folder_is a after_is =
+    let told_is : told ≡ Some (attached_trace (leaf ∷ []) f) = is.told_is ∙ ap (option_map (attached_trace (leaf ∷ []))) folder_is in
+    let lent_is : lent ≡ Some (with_file leaf None f) = is.folder_is ∙ ap (option_map (without (leaf ∷ []))) folder_is in
+    let trace = attached_trace (leaf ∷ []) f in
+    subst AllIdle (same_Some _ _ (sym (ap (option_map (given_back trace)) lent_is) ∙ sym (back_is trace told_is) ∙ after_is))
+    (back_idle leaf f (file_of trace 0) (idle f folder_is) (synced_attached leaf f))
+
+pub idle_unlent : (leaf : List ℕ) (old new : Hosted) (meaning : Meaning opening.Refusal) → LendsNone leaf old new meaning → WhereTold old.folder AllIdle → WhereTold old.folder (λ f. WhereTold new.folder AllIdle)
+idle_unlent leaf old new (refuses refusal) (is, none, same) idle f told a after = idle a (sym (ap (λ h. h.folder) same) ∙ after)
+idle_unlent leaf old new (host_failed fault) failed idle f told a after = idle a (sym (ap (λ h. h.folder) failed.stays) ∙ after)
+idle_unlent leaf old new (store_failed fault) h idle f told a after = absurd h
+idle_unlent leaf old new no_memory h idle f told a after = absurd h

@@ -1,41 +1,26 @@
 -- New files are opened, and show their disks.
-use Rattle.std.proofs.Common.{◌≡◌, ℕ, ◌+◌, ◌*◌, ◌/◌, ◌<◌, ◌≤◌, cond, true, false, List, length, Option, Some, Ok, Err, refl, sym, ap, ◌∙◌, arith}
-use Rattle.std.specs.Prelude.{not}
-use Rattle.uuid.specs.Parts.{zero_bytes}
+use Rattle.std.proofs.Common.{◌≡◌, ℕ, ◌+◌, ◌*◌, ◌/◌, ◌<◌, ◌≤◌, true, false, List, length, Some, Ok, sym, ap, ◌∙◌, arith}
 use Rattle.vx_base.specs.declared.parts.Parts.{Parts}
 use Rattle.vx_base.specs.Fields.{zeros}
-use Rattle.vhdx_format.specs.Fields.{is_zero_id, bytes_at}
+use Rattle.vhdx_format.specs.Fields.{bytes_at}
 use Rattle.vhdx_format.specs.FileParts as format
 use Rattle.vhdx_format.specs.FileParts.{read_parts}
 use Rattle.vhdx_format.specs.MadeFiles.{base_metadata, dynamic_file, fixed_file_holding, fixed_len}
 use Rattle.vhdx_format.specs.MadeLaws.{IsMakeable, OpensAs, made_parts}
-use Rattle.vhdx_format.specs.Rules.{◌>>=◌, unless}
 use Rattle.vhdx_format.proofs.MadeOpen.{dynamic_files_open, fixed_files_open}
 use Rattle.vhdx_app.specs.Dump.{found, out_of_range}
 use Rattle.vhdx_app.specs.Laws.{MadeFilesShow, Shows}
-use Rattle.vhdx_app.specs.Opening.{Opens, opened, by_format, read_file}
-use Rattle.vhdx_app.specs.Refusals.{LogNamed, Differencing}
+use Rattle.file_open.specs.Opening.{Opens}
+use Rattle.file_open.proofs.MadeOpened.{are_opened}
 use Rattle.std.proofs.lemmas.Grind.{div_ceil_times}
 use Rattle.std.proofs.lemmas.List.{length-replicate}
 use Rattle.vhdx_format.proofs.MadeOpen.{zeros_within}
 use Rattle.vhdx_format.proofs.SizeLemmas.{block_least}
-use Rattle.vhdx_app.proofs.Numbered.{next_numbers}
-use Rattle.vhdx_app.proofs.Runs.{bytes_in, length_at}
+use Rattle.layer_file.proofs.Runs.{bytes_in, length_at}
 
 zeros_len : (n : ℕ) → length (zeros n) ≡ n
 unfolding zeros
 zeros_len n = length-replicate n 0
-
--- a file that opens with numbers that name no log and no parent
-opens_made : (file : List ℕ) (parts : Parts) (sector : ℕ → Option (List ℕ)) → OpensAs file parts sector → parts.header.log ≡ zero_bytes → parts.parent ≡ false → Opens file (Ok parts)
-unfolding read_file next_numbers
-opens_made file parts sector opens log parent =
-    opened parts
-    (ap (λ r. by_format r >>= next_numbers file) opens.head
-    ∙ ap (λ id. cond (not (is_zero_id id)) (Err LogNamed) (by_format (read_parts parts.header file) >>= λ (p : Parts). unless p.parent Differencing (Ok p))) log
-    ∙ ap (λ r. by_format r >>= λ (p : Parts). unless p.parent Differencing (Ok p)) opens.numbers
-    ∙ ap (λ b. cond b (Err Differencing) (Ok parts)) parent)
-    opens.table
 
 shows : (file : List ℕ) (parts : Parts) (sector : ℕ → List ℕ) (bytes : ℕ → ℕ → List ℕ) → OpensAs file parts (λ s. Some (sector s)) → Opens file (Ok parts)
     → ((first count : ℕ) → first + count ≤ parts.geometry.sectors → length (bytes first count) ≡ 512 * count)
@@ -52,11 +37,11 @@ unfolding format.parts_of
 made_show fw dw disk size block ok = record {
   dynamic =
       let opens = dynamic_files_open fw dw disk size block ok in
-      shows (dynamic_file fw dw disk size block) (made_parts fw dw (base_metadata size block false disk)) (λ s. zeros 512) (λ first count. zeros (512 * count)) opens (opens_made _ _ _ opens refl refl)
+      shows (dynamic_file fw dw disk size block) (made_parts fw dw (base_metadata size block false disk)) (λ s. zeros 512) (λ first count. zeros (512 * count)) opens (are_opened fw dw disk size block ok).dynamic
       (λ first count within. zeros_len (512 * count)) (λ first count i below. zeros_within (512 * count) (512 * i) 512 (omega (arith, below)));
   fixed = λ bytes len.
       let opens = fixed_files_open fw dw disk size block bytes ok len in
-      shows (fixed_file_holding fw dw disk size block bytes) (made_parts fw dw (base_metadata size block true disk)) (λ s. bytes_at bytes (512 * s) 512) (λ first count. bytes_at bytes (512 * first) (512 * count)) opens (opens_made _ _ _ opens refl refl)
+      shows (fixed_file_holding fw dw disk size block bytes) (made_parts fw dw (base_metadata size block true disk)) (λ s. bytes_at bytes (512 * s) 512) (λ first count. bytes_at bytes (512 * first) (512 * count)) opens ((are_opened fw dw disk size block ok).fixed bytes len)
       (λ first count within. length_at bytes (512 * first) (512 * count) (room bytes len first count within))
       (λ first count i below. bytes_in bytes (512 * first) (512 * count) (512 * i) 512 (omega (arith, below)) ∙ ap (λ k. bytes_at bytes k 512) (let place : 512 * first + 512 * i ≡ 512 * (first + i) = omega arith in place));
 } where

@@ -3,8 +3,11 @@ use Rattle.std.specs.Prelude.{ℕ, zero, suc, ◌+◌, List, [], ◌++◌, take,
 use Rattle.hex.specs.Hex.{encode_lower}
 
 -- a sector's line: its number, a space, and its bytes in lower-case hexadecimal digits
+abbrev pub sector_bytes : List ℕ → List ℕ
+sector_bytes bytes = codes " " ++ encode_lower bytes ++ codes "\n"
+
 abbrev pub sector_line : ℕ → List ℕ → List ℕ
-sector_line number bytes = decimal number ++ codes " " ++ encode_lower bytes ++ codes "\n"
+sector_line number bytes = decimal number ++ sector_bytes bytes
 
 -- the lines of n sectors, whose bytes stand one behind the other
 unfoldable pub sector_lines : ℕ → List ℕ → ℕ → List ℕ

@@ -1,18 +1,18 @@
--- What refuses a dump, and the line that says so.
+-- What refuses a command, and the line that says so.
 use Rattle.std.specs.Prelude.{ℕ, List, [], ◌++◌, codes, decimal}
 use Rattle.uuid.specs.Text.{braced_text, lower}
 use Rattle.vhdx_format.specs.Rules.{BrokenRule, NotVhdx, TooShort, NoHeader, BadVersion, BadLogPlace, TruncatedBelowLog, NoRegionTable, UnknownRegion, MissingRegion, RegionPlace, BadMetadataTable, UnknownItem, MissingItem, BadItem, SectorSize, BadBatState, BlockPlace, BlockOverlap, BitmapMissing, BadLocator, NoParentName}
+use Rattle.file_open.specs.Opening as opening
 use Rattle.vhdx_format.specs.declared.regions.Region.{Region}
 use Rattle.vhdx_format.specs.declared.regions.Region.TheVariants.{Bat, Metadata}
 
 pub data Refusal : Type 0 where
-  FileMissing : Refusal  -- no file has the name
-  Breaks : BrokenRule → Refusal  -- the file breaks a rule of its format
-  LogNamed : Refusal  -- it names a log, which isn't replayed yet
-  Differencing : Refusal  -- it has a parent, which isn't followed yet
+  OfFile : opening.Refusal → Refusal  -- a file isn't opened
   EmptyRange : Refusal  -- no sectors are asked for
   TooLong : (count limit : ℕ) → Refusal  -- more sectors are asked for at once than are given
   OutOfRange : (first count sectors : ℕ) → Refusal  -- the disk has fewer sectors
+  NameTaken : Refusal  -- a file has the name of the one to be made
+  IdUnfit : (id : List ℕ) → Refusal  -- an identifier that was drawn can't be a new one
 
 -- ---- the values that a line tells, by their names
 
@@ -77,35 +77,46 @@ rule_values (BadLocator entry) = number_field (codes "entry") entry
 rule_values NoParentName = []
 rule_values (SectorSize sector) = number_field (codes "sector") sector
 
+-- ---- a file that isn't opened
+
+abbrev pub file_refusal_name : opening.Refusal → List ℕ
+file_refusal_name opening.FileMissing = codes "21 FileMissing"
+file_refusal_name (opening.Breaks rule) = rule_name rule
+file_refusal_name opening.LogNamed = codes "30 LogNamed"
+file_refusal_name opening.Differencing = codes "51 Differencing"
+
+abbrev pub file_refusal_values : opening.Refusal → List ℕ
+file_refusal_values opening.FileMissing = []
+file_refusal_values (opening.Breaks rule) = rule_values rule
+file_refusal_values opening.LogNamed = []
+file_refusal_values opening.Differencing = []
+
 -- ---- the line: `refused`, number and name, the file, the values
 
 abbrev pub refusal_name : Refusal → List ℕ
-refusal_name FileMissing = codes "21 FileMissing"
-refusal_name (Breaks rule) = rule_name rule
-refusal_name LogNamed = codes "30 LogNamed"
-refusal_name Differencing = codes "51 Differencing"
+refusal_name (OfFile refusal) = file_refusal_name refusal
 refusal_name EmptyRange = codes "31 EmptyRange"
 refusal_name (TooLong count limit) = codes "33 TooLong"
 refusal_name (OutOfRange first count sectors) = codes "32 OutOfRange"
+refusal_name NameTaken = codes "27 NameTaken"
+refusal_name (IdUnfit id) = codes "44 IdUnfit"
 
--- a range is one of the disk, so that its lines name no file
+-- a range is one of the disk, and an identifier is told alone, so that their lines name no file
 abbrev pub refused_file : List ℕ → Refusal → List ℕ
-refused_file leaf FileMissing = codes " " ++ leaf
-refused_file leaf (Breaks rule) = codes " " ++ leaf
-refused_file leaf LogNamed = codes " " ++ leaf
-refused_file leaf Differencing = codes " " ++ leaf
-refused_file leaf EmptyRange = []
-refused_file leaf (TooLong count limit) = []
-refused_file leaf (OutOfRange first count sectors) = []
+refused_file file (OfFile refusal) = codes " " ++ file
+refused_file file EmptyRange = []
+refused_file file (TooLong count limit) = []
+refused_file file (OutOfRange first count sectors) = []
+refused_file file NameTaken = codes " " ++ file
+refused_file file (IdUnfit id) = []
 
 abbrev pub refusal_values : Refusal → List ℕ
-refusal_values FileMissing = []
-refusal_values (Breaks rule) = rule_values rule
-refusal_values LogNamed = []
-refusal_values Differencing = []
+refusal_values (OfFile refusal) = file_refusal_values refusal
 refusal_values EmptyRange = []
 refusal_values (TooLong count limit) = number_field (codes "count") count ++ number_field (codes "limit") limit
+refusal_values NameTaken = []
+refusal_values (IdUnfit id) = codes " " ++ braced_text lower id
 refusal_values (OutOfRange first count sectors) = number_field (codes "first") first ++ number_field (codes "count") count ++ number_field (codes "sectors") sectors
 
 abbrev pub refusal_line : List ℕ → Refusal → List ℕ
-refusal_line leaf refusal = codes "refused " ++ refusal_name refusal ++ refused_file leaf refusal ++ refusal_values refusal ++ codes "\n"
+refusal_line file refusal = codes "refused " ++ refusal_name refusal ++ refused_file file refusal ++ refusal_values refusal ++ codes "\n"

@@ -4,17 +4,18 @@ ghost use Rattle.std.specs.Prelude.{◌≡◌, ◌<◌, ◌≤◌, ◌+◌, ◌*
 ghost use Rattle.block_table.specs.Tables.{HasTable};
 ghost use Rattle.vhdx_format.specs.FileParts.{shape_of, taken_areas};
 ghost use Rattle.vhdx_format.specs.HeldBlocks.{IsSoundTable};
-ghost use Rattle.vhdx_app.specs.Opening.{HasSectors};
+ghost use Rattle.layer_file.specs.Sectors.{HasSectors};
 ghost use Rattle.store_model.specs.Disk.{WhereTold};
 ghost use Rattle.store_model.specs.File.{seen};
-ghost use Rattle.store_model.specs.Folder.{seen_named, has_name};
 ghost use Rattle.store_model.specs.Trace.{file_of};
 ghost use Rattle.vhdx_app.specs.Causes.{AnswersDump, AnswersIn, Counts, LeavesDump, cause_of_dump};
-ghost use Rattle.vhdx_app.specs.Dump.{contents_of, AllIdle, IsGiven};
+ghost use Rattle.vhdx_app.specs.Dump.{IsGiven};
+ghost use Rattle.vhdx_app.specs.Folders.{AllIdle, SameContents};
 
-use crate::layer::{SECTOR, read_sectors};
-use crate::open::open_file;
-use crate::refusal::{DumpRefusal, OpenRefusal};
+use crate::folder::lend;
+use crate::refusal::DumpRefusal;
+use file_open::open_file;
+use layer_file::{SECTOR, read_sectors};
 use std::alloc::{AllocError, Global};
 use store_model::{Host, Store};
 use vx_base::{Bytes, Name, Parts};
@@ -91,32 +92,6 @@ fn look<S: Store>(
     Ok(sectors_of(alloc, store, &parts, first, count)?)
 }
 
-// The same of the file of this name, which is there.
-fn visit<H: Host>(
-    alloc: Global,
-    host: &mut H,
-    leaf: Name,
-    first: u64,
-    count: u64,
-) -> Result<Bytes, DumpRefusal>
-    requires idle { WhereTold (H.hosted host.old).folder AllIdle }
-    requires there { WhereTold (H.hosted host.old).folder (λ folder. has_name leaf folder ≡ true) }
-    ensures answer { WhereTold (H.hosted host.old).folder (λ folder. AnswersIn (seen_named leaf folder) first count result) }
-    ensures stays { WhereTold (H.hosted host.old).folder (λ folder. option_map contents_of (H.hosted host.new).folder ≡ Some (contents_of folder)) }
-    ensures given { IfOk result (IsGiven first count) }
-    ensures quiet { OnOk result ((H.hosted host.new).faults ≡ (H.hosted host.old).faults) }
-    ensures counts { IfErr result (Counts (H.hosted host.old).faults (H.hosted host.new).faults) }
-{
-    let names = [leaf];
-    let mut store = match host.attach(&names) {
-        Ok(store) => store,
-        Err(fault) => return Err(DumpRefusal::File(OpenRefusal::Host(fault))),
-    };
-    let looked = look(alloc, &mut store, first, count);
-    host.give_back(store);
-    looked
-}
-
 /// Reads sectors of the disk of the file of this name; the files stay.
 pub fn find<H: Host>(
     alloc: Global,
@@ -127,14 +102,14 @@ pub fn find<H: Host>(
 ) -> Result<Bytes, DumpRefusal>
     requires idle { WhereTold (H.hosted host.old).folder AllIdle }
     ensures answer { WhereTold (H.hosted host.old).folder (λ folder. AnswersDump folder leaf first count result) }
-    ensures stays { WhereTold (H.hosted host.old).folder (λ folder. option_map contents_of (H.hosted host.new).folder ≡ Some (contents_of folder)) }
+    ensures idle { WhereTold (H.hosted host.old).folder (λ folder. WhereTold (H.hosted host.new).folder AllIdle) }
+    ensures stays { SameContents (H.hosted host.old).folder (H.hosted host.new).folder }
     ensures given { IfOk result (IsGiven first count) }
     ensures quiet { OnOk result ((H.hosted host.new).faults ≡ (H.hosted host.old).faults) }
     ensures counts { IfErr result (Counts (H.hosted host.old).faults (H.hosted host.new).faults) }
 {
-    match host.has(&leaf) {
-        Ok(true) => visit(alloc, host, leaf, first, count),
-        Ok(false) => Err(DumpRefusal::File(OpenRefusal::FileMissing)),
-        Err(fault) => Err(DumpRefusal::File(OpenRefusal::Host(fault))),
-    }
+    let mut store = lend(host, leaf)?;
+    let looked = look(alloc, &mut store, first, count);
+    host.give_back(store);
+    looked
 }

@@ -1,46 +1,20 @@
 //! What a run prints.
 
-ghost use Rattle.std.specs.Prelude.{◌≡◌, ◌++◌, ℕ, List, IfOk, IfSome, OnOk, codes, string_bytes};
+ghost use Rattle.std.specs.Prelude.{◌≡◌, ◌++◌, [], IfOk, IfSome, OnOk, codes, string_bytes};
 ghost use Rattle.uuid.specs.Text.{braced_text, lower};
-ghost use Rattle.vhdx_app.specs.Answers as spec;
-ghost use Rattle.vhdx_app.specs.Causes.{cause_of};
-ghost use Rattle.vhdx_app.specs.Dump.{IsGiven};
-ghost use Rattle.vhdx_app.specs.Refusals.{OutOfRange, TooLong, id_field, number_field, refusal_line, refusal_name, refusal_values, region_field};
+ghost use Rattle.vhdx_app.specs.Info as info;
+ghost use Rattle.file_open.specs.Causes.{cause_of};
+ghost use Rattle.vhdx_app.specs.Refusals.{IdUnfit, NameTaken, OfFile, OutOfRange, TooLong, file_refusal_name, file_refusal_values, id_field, number_field, refusal_line, region_field};
 
-use crate::refusal::OpenRefusal;
+use file_open::OpenRefusal;
 use std::alloc::Global;
 use std::fmt::Write;
-use vhdx_format::Region;
-use vx_base::{Guid, NoRoom};
-
-// A sector's number and its bytes in lower-case hexadecimal digits.
-fn push_sector(alloc: Global, text: &mut String, number: u64, sector: &[u8]) -> Result<(), NoRoom>
-    ensures { OnOk result (string_bytes text.new ≡ string_bytes text.old ++ spec.sector_line number sector.now) }
-{
-    let digits = hex::encode(alloc, sector)?;
-    let digits = digits.as_str();
-    write!(text, "{number} {digits}\n")?;
-    Ok(())
-}
-
-/// A line for each of the sectors from `first` on.
-pub fn sector_lines(alloc: Global, first: u64, count: u64, sectors: &[u8]) -> Result<String, NoRoom>
-    requires { IsGiven first count sectors.now }
-    ensures { IfOk result (λ text. string_bytes text ≡ spec.sector_lines first sectors.now count) }
-{
-    let mut text = String::new(alloc);
-    let mut rest = sectors;
-    for number in first..first + count {
-        let (sector, behind) = rest.split_at(512);
-        push_sector(alloc, &mut text, number, sector)?;
-        rest = behind;
-    }
-    Ok(text)
-}
+use vhdx_format::{MEGABYTE, Region};
+use vx_base::{Guid, NoRoom, Parts};
 
 // The number and the name of what refuses a file.
 fn name_of(refusal: &OpenRefusal) -> &'static str
-    ensures { IfSome (cause_of refusal.now) (λ cause. result.now ≡ refusal_name cause) }
+    ensures { IfSome (cause_of refusal.now) (λ cause. result.now ≡ file_refusal_name cause) }
 {
     match refusal {
         OpenRefusal::NotVhdx => "1 NotVhdx",
@@ -94,7 +68,7 @@ fn push_region(text: &mut String, region: Region) -> Result<(), NoRoom>
 
 // The values of what refuses a file.
 fn push_values(text: &mut String, refusal: &OpenRefusal) -> Result<(), NoRoom>
-    ensures { OnOk result (IfSome (cause_of refusal.now) (λ cause. string_bytes text.new ≡ string_bytes text.old ++ refusal_values cause)) }
+    ensures { OnOk result (IfSome (cause_of refusal.now) (λ cause. string_bytes text.new ≡ string_bytes text.old ++ file_refusal_values cause)) }
 {
     match *refusal {
         OpenRefusal::TooShort { length } => push_number(text, "length", length),
@@ -127,12 +101,12 @@ fn push_values(text: &mut String, refusal: &OpenRefusal) -> Result<(), NoRoom>
 }
 
 /// The line of what refuses the file of this name; of faults and of want of memory nothing is known.
-pub fn refused_line(alloc: Global, leaf: &str, refusal: &OpenRefusal) -> Result<String, NoRoom>
-    ensures { IfOk result (λ text. IfSome (cause_of refusal.now) (λ cause. string_bytes text ≡ refusal_line leaf.now cause)) }
+pub fn refused_line(alloc: Global, file: &str, refusal: &OpenRefusal) -> Result<String, NoRoom>
+    ensures { IfOk result (λ text. IfSome (cause_of refusal.now) (λ cause. string_bytes text ≡ refusal_line file.now (OfFile cause))) }
 {
     let mut text = String::new(alloc);
     let name = name_of(refusal);
-    write!(text, "refused {name} {leaf}")?;
+    write!(text, "refused {name} {file}")?;
     push_values(&mut text, refusal)?;
     text.push_str("\n")?;
     Ok(text)
@@ -140,7 +114,7 @@ pub fn refused_line(alloc: Global, leaf: &str, refusal: &OpenRefusal) -> Result<
 
 /// The line of more sectors than are given at once.
 pub fn too_long_line(alloc: Global, count: u64, limit: u64) -> Result<String, NoRoom>
-    ensures { IfOk result (λ text. (leaf : List ℕ) → string_bytes text ≡ refusal_line leaf (TooLong count limit)) }
+    ensures { IfOk result (λ text. string_bytes text ≡ refusal_line [] (TooLong count limit)) }
 {
     let mut text = String::from_str(alloc, "refused 33 TooLong")?;
     push_number(&mut text, "count", count)?;
@@ -156,7 +130,7 @@ pub fn out_of_range_line(
     count: u64,
     sectors: u64,
 ) -> Result<String, NoRoom>
-    ensures { IfOk result (λ text. (leaf : List ℕ) → string_bytes text ≡ refusal_line leaf (OutOfRange first count sectors)) }
+    ensures { IfOk result (λ text. string_bytes text ≡ refusal_line [] (OutOfRange first count sectors)) }
 {
     let mut text = String::from_str(alloc, "refused 32 OutOfRange")?;
     push_number(&mut text, "first", first)?;
@@ -166,11 +140,36 @@ pub fn out_of_range_line(
     Ok(text)
 }
 
-/// The line of a fault of this kind of thing, with that one's count.
-pub fn fault_line(alloc: Global, kind: &str, count: u64) -> Result<String, NoRoom>
-    ensures { IfOk result (λ text. string_bytes text ≡ spec.fault_line kind.now count) }
+/// The line of an identifier that was drawn and can't be a new one.
+pub fn unfit_line(alloc: Global, id: Guid) -> Result<String, NoRoom>
+    ensures { IfOk result (λ text. string_bytes text ≡ refusal_line [] (IdUnfit id)) }
 {
     let mut text = String::new(alloc);
-    write!(text, "fault {kind} {count}\n")?;
+    write!(text, "refused 44 IdUnfit {id}\n")?;
+    Ok(text)
+}
+
+/// The line of a new file whose name another has.
+pub fn taken_line(alloc: Global, name: &str) -> Result<String, NoRoom>
+    ensures { IfOk result (λ text. string_bytes text ≡ refusal_line name.now NameTaken) }
+{
+    let mut text = String::new(alloc);
+    write!(text, "refused 27 NameTaken {name}\n")?;
+    Ok(text)
+}
+
+/// The line of an opened file without a parent: its kind, sectors of the disk, bytes of a sector, MB of a block, and the
+/// identifier of its data.
+pub fn info_line(alloc: Global, name: &str, parts: &Parts) -> Result<String, NoRoom>
+    ensures { IfOk result (λ text. string_bytes text ≡ info.info_line name.now parts.now) }
+{
+    let kind = if parts.leave { "fixed" } else { "dynamic" };
+    let sectors = parts.geometry.sectors;
+    let sector = parts.geometry.sector;
+    let block = u64::from(parts.block) / MEGABYTE;
+    let id = parts.header.data_write;
+    let mut text = String::new(alloc);
+    write!(text, "{name} {kind} sectors {sectors} sector {sector}")?;
+    write!(text, " block {block} id {id} parent none\n")?;
     Ok(text)
 }

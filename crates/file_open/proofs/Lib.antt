@@ -1,0 +1,5 @@
+mod Signatures
+pub mod Numbered
+mod Opened
+pub mod OneOpening
+pub mod MadeOpened

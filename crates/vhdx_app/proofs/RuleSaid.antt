@@ -1,0 +1,45 @@
+-- What is said of a file that isn't opened.
+use Rattle.std.proofs.Common.{◌≡◌, ℕ, List, Option, Result, refl}
+use Rattle.std.specs.Prelude.{IfOk, IfSome, MatchResult, String, codes, string_bytes}
+use Rattle.vx_base.specs.declared.NoRoom.{NoRoom as OutOfMemory}
+use Rattle.file_open.specs.Causes.{cause_of, meaning_of}
+use Rattle.file_open.specs.declared.refusal.OpenRefusal.{OpenRefusal}
+use Rattle.file_open.specs.declared.refusal.OpenRefusal.TheVariants.{NotVhdx, TooShort, NoHeader, BadVersion, BadLogPlace, LogNamed, NoRegionTable, UnknownRegion, MissingRegion, RegionPlace, BadMetadataTable, UnknownItem, MissingItem, BadItem, SectorSize, Differencing, BadBatState, BlockPlace, BlockOverlap, FileMissing, Host, Store, NoRoom}
+use Rattle.store_model.specs.declared.fault.HostFault.{HostFault}
+use Rattle.store_model.specs.declared.fault.StoreFault.{StoreFault}
+use Rattle.vhdx_app.specs.Causes.{of_file}
+use Rattle.vhdx_app.specs.Printed.{Reports, Sent}
+use Rattle.vhdx_app.specs.Refusals.{OfFile, refusal_line}
+use Rattle.vhdx_app.specs.declared.status.Status.{Status}
+use Rattle.vhdx_app.specs.declared.status.Status.TheVariants.{NoMemory, Refused}
+use Rattle.vhdx_app.proofs.Said.{refusal_sent}
+
+-- a rule's line was said, or memory ran out for it
+pub rule_said : {Z : Type 0} (file : List ℕ) (before after : Option (List ℕ)) (old new : ℕ) (status : Status) (line : Result (String Z) OutOfMemory) (refusal : OpenRefusal)
+    → ((fault : HostFault) → refusal ≡ Host fault → ⊥) → ((fault : StoreFault) → refusal ≡ Store fault → ⊥) → (refusal ≡ NoRoom → ⊥)
+    → IfOk line (λ l. IfSome (cause_of refusal) (λ cause. string_bytes l ≡ refusal_line file (OfFile cause)))
+    → MatchResult line (λ l. Sent before after old new Refused (string_bytes l) status) (λ _. Sent before after old new NoMemory (codes "no memory\n") status)
+    → Reports file (of_file (meaning_of refusal)) before after old new status
+rule_said file before after old new status line NotVhdx h s m is sent = refusal_sent before after old new Refused status _ line is sent
+rule_said file before after old new status line (TooShort length) h s m is sent = refusal_sent before after old new Refused status _ line is sent
+rule_said file before after old new status line NoHeader h s m is sent = refusal_sent before after old new Refused status _ line is sent
+rule_said file before after old new status line (BadVersion version log) h s m is sent = refusal_sent before after old new Refused status _ line is sent
+rule_said file before after old new status line (BadLogPlace offset length) h s m is sent = refusal_sent before after old new Refused status _ line is sent
+rule_said file before after old new status line LogNamed h s m is sent = refusal_sent before after old new Refused status _ line is sent
+rule_said file before after old new status line NoRegionTable h s m is sent = refusal_sent before after old new Refused status _ line is sent
+rule_said file before after old new status line (UnknownRegion id) h s m is sent = refusal_sent before after old new Refused status _ line is sent
+rule_said file before after old new status line (MissingRegion r) h s m is sent = refusal_sent before after old new Refused status _ line is sent
+rule_said file before after old new status line (RegionPlace r) h s m is sent = refusal_sent before after old new Refused status _ line is sent
+rule_said file before after old new status line (BadMetadataTable entry) h s m is sent = refusal_sent before after old new Refused status _ line is sent
+rule_said file before after old new status line (UnknownItem id) h s m is sent = refusal_sent before after old new Refused status _ line is sent
+rule_said file before after old new status line (MissingItem id) h s m is sent = refusal_sent before after old new Refused status _ line is sent
+rule_said file before after old new status line (BadItem id) h s m is sent = refusal_sent before after old new Refused status _ line is sent
+rule_said file before after old new status line (SectorSize sector) h s m is sent = refusal_sent before after old new Refused status _ line is sent
+rule_said file before after old new status line Differencing h s m is sent = refusal_sent before after old new Refused status _ line is sent
+rule_said file before after old new status line (BadBatState index) h s m is sent = refusal_sent before after old new Refused status _ line is sent
+rule_said file before after old new status line (BlockPlace index) h s m is sent = refusal_sent before after old new Refused status _ line is sent
+rule_said file before after old new status line (BlockOverlap first second) h s m is sent = refusal_sent before after old new Refused status _ line is sent
+rule_said file before after old new status line FileMissing h s m is sent = refusal_sent before after old new Refused status _ line is sent
+rule_said file before after old new status line (Host fault) h s m is sent = absurd (h fault refl)
+rule_said file before after old new status line (Store fault) h s m is sent = absurd (s fault refl)
+rule_said file before after old new status line NoRoom h s m is sent = absurd (m refl)

@@ -1,0 +1,20 @@
+use Rattle.std.proofs.Common.{refl}
+use Rattle.file_open.specs.Causes.{meaning_of}
+use Rattle.vhdx_app.specs.Causes.{of_file}
+use Rattle.vhdx_app.proofs.Said.{counts_file, file_refused, file_shown, line_ended, no_memory_ended, refused_ended}
+use Rattle.vhdx_app.proofs.commands.info.Goals as goal
+
+pub returns-in-Err-clause-ended : goal.returns-in-Err-clause-ended
+returns-in-Err-clause-ended g c = no_memory_ended _ _ _ _ _ _ _ _ _ refl c.out_of_memory.ensures
+
+pub returns-in-Ok-numbers_of-clause-ended : goal.returns-in-Ok-numbers_of-clause-ended
+returns-in-Ok-numbers_of-clause-ended g c =
+    line_ended _ _ _ _ _ _ _ _ _ c.info_line.result c.in-Ok-numbers_of.ensures.quiet
+    (file_shown _ c.args.leaf.now _ c.in-Ok-numbers_of.parts c.info_line.result c.in-Ok.ensures c.in-Ok-numbers_of.ensures.answer c.info_line.ensures)
+    c.say.ensures
+
+pub returns-in-Err-numbers_of-clause-ended : goal.returns-in-Err-numbers_of-clause-ended
+returns-in-Err-numbers_of-clause-ended g c =
+    let meaning = meaning_of c.in-Err-numbers_of.refusal in
+    refused_ended _ _ _ _ _ _ _ _ _ c.args.leaf.now (of_file meaning) (file_refused _ c.args.leaf.now _ meaning c.in-Ok.ensures c.in-Err-numbers_of.ensures.answer)
+    (counts_file _ _ meaning c.in-Err-numbers_of.ensures.counts) c.refuse_file.ensures
