@@ -1,5 +1,5 @@
-//! Tests of the whole program over files in memory: what no clause says of `run`. And of the making of files and the
-//! writing of headers over them.
+//! Tests of the whole program over files in memory: what no clause says of `run`. And of the making of files, the writing
+//! of headers and the replay of logs over them.
 #![tactic(auto)]
 
 #[cfg(test)]
@@ -18,5 +18,7 @@ mod info;
 mod make;
 #[cfg(test)]
 mod making;
+#[cfg(test)]
+mod replaying;
 #[cfg(test)]
 mod words;
