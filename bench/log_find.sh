@@ -107,7 +107,7 @@ fn tailless(ring: &mut [u8]) {
     }
 }
 
-fn find(rt: &HostRuntime, name: &str, ring: &[u8]) {
+fn find(rt: &HostRuntime, size: &str, state: &str, ring: &[u8]) {
     if ring.len() % 4096 != 0 || ring.len() > 1 << 28 {
         return;
     }
@@ -122,10 +122,10 @@ fn find(rt: &HostRuntime, name: &str, ring: &[u8]) {
     match found {
         Some(found) => {
             let (entries, number) = (found.entries, found.last.number);
-            let _ = println!(rt; "{name}: {micros} us, {entries} entries to number {number}");
+            let _ = println!(rt; "{size}, {state}: {micros} us, {entries} entries to number {number}");
         }
         None => {
-            let _ = println!(rt; "{name}: {micros} us, none");
+            let _ = println!(rt; "{size}, {state}: {micros} us, none");
         }
     }
 }
@@ -134,28 +134,28 @@ fn zeros(alloc: Global, len: usize) -> Result<Vec<u8>, AllocError> {
     vec![in alloc; 0u8; len]
 }
 
+// A ring of zeros, rings as writers leave them, and one without a sequence.
+fn find_in_each(rt: &HostRuntime, size: &str, ring: &mut [u8]) {
+    find(rt, size, "zeros", ring);
+    written(ring, false);
+    find(rt, size, "each commit its own sequence", ring);
+    written(ring, true);
+    find(rt, size, "one sequence", ring);
+    tailless(ring);
+    find(rt, size, "no sequence", ring);
+}
+
 fn run(rt: &HostRuntime) -> Result<(), AllocError> {
     let alloc = rt.alloc();
     let mut small = zeros(alloc, 1 << 20)?;
-    written(small.as_mut_slice(), false);
-    find(rt, "1 MB, 128 commits", small.as_slice());
-    written(small.as_mut_slice(), true);
-    find(rt, "1 MB, one sequence", small.as_slice());
-    tailless(small.as_mut_slice());
-    find(rt, "1 MB, no sequence", small.as_slice());
-    hostile(small.as_mut_slice());
-    find(rt, "1 MB, each sector claims all", small.as_slice());
+    find_in_each(rt, "1 MB", small.as_mut_slice());
     let mut large = zeros(alloc, 1 << 26)?;
-    find(rt, "64 MB of zeros", large.as_slice());
-    written(large.as_mut_slice(), false);
-    find(rt, "64 MB, written round", large.as_slice());
-    written(large.as_mut_slice(), true);
-    find(rt, "64 MB, one sequence", large.as_slice());
-    tailless(large.as_mut_slice());
-    find(rt, "64 MB, no sequence", large.as_slice());
+    find_in_each(rt, "64 MB", large.as_mut_slice());
     let mut middle = zeros(alloc, 1 << 22)?;
+    hostile(small.as_mut_slice());
+    find(rt, "1 MB", "each sector claims all", small.as_slice());
     hostile(middle.as_mut_slice());
-    find(rt, "4 MB, each sector claims all", middle.as_slice());
+    find(rt, "4 MB", "each sector claims all", middle.as_slice());
     Ok(())
 }
 
