@@ -12,6 +12,7 @@ pub mod CrashLemmas
 pub mod SettledBytes
 pub mod CommitLemmas
 pub mod ReplayLemmas
+pub mod FileLemmas
 pub mod WriterLemmas
 pub mod Placed
 pub mod WrittenTexts

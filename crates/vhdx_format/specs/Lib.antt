@@ -23,4 +23,5 @@ pub mod HeldBlocks
 pub mod LayerLaws
 pub mod MadeFiles
 pub mod FileParts
+pub mod FileLaws
 pub mod MadeLaws

@@ -16,7 +16,10 @@ mod texts;
 pub use layer_laws::{entries_are_apart, layer_is_by_sector, sectors_have_entries};
 pub use locator::{Locator, Pair};
 pub use log_entry::{EntryHead, Page};
-pub use log_laws::{entry_is_all_or_nothing, replay_keeps_settled_bytes, replayed_file_is_settled};
+pub use log_laws::{
+    entry_is_all_or_nothing, files_settle_by_their_log, replay_keeps_settled_bytes,
+    replayed_file_is_settled, replayed_files_are_read,
+};
 pub use made_laws::{
     child_files_open, children_name_parents, dynamic_files_open, fixed_files_open,
 };
