@@ -7,6 +7,8 @@ use Rattle.store_model.specs.declared.fault.StoreFault.{StoreFault}
 use Rattle.vx_base.specs.declared.parts.Parts.{Parts}
 use Rattle.header_pair.specs.declared.HeaderRefusal.{HeaderRefusal}
 use Rattle.header_pair.specs.declared.HeaderRefusal.TheVariants as header
+use Rattle.log_replay.specs.declared.fault.ReplayFault.{ReplayFault}
+use Rattle.log_replay.specs.declared.fault.ReplayFault.TheVariants as replay
 use Rattle.block_table.specs.declared.TableRefusal.{TableRefusal}
 use Rattle.block_table.specs.declared.TableRefusal.TheVariants as table
 use Rattle.metadata_table.specs.declared.MetadataRefusal.{MetadataRefusal}
@@ -17,7 +19,7 @@ use Rattle.vhdx_format.specs.Rules as rules
 use Rattle.file_open.specs.Opening.{Opens, Refusal, Breaks}
 use Rattle.file_open.specs.Opening as opening
 use Rattle.file_open.specs.declared.refusal.OpenRefusal.{OpenRefusal}
-use Rattle.file_open.specs.declared.refusal.OpenRefusal.TheVariants.{NotVhdx, TooShort, NoHeader, BadVersion, BadLogPlace, LogNamed, NoRegionTable, UnknownRegion, MissingRegion, RegionPlace, BadMetadataTable, UnknownItem, MissingItem, BadItem, SectorSize, Differencing, BadBatState, BlockPlace, BlockOverlap, FileMissing, Host, Store, NoRoom}
+use Rattle.file_open.specs.declared.refusal.OpenRefusal.TheVariants.{NotVhdx, TooShort, NoHeader, BadVersion, BadLogPlace, TruncatedBelowLog, NoRegionTable, UnknownRegion, MissingRegion, RegionPlace, BadMetadataTable, UnknownItem, MissingItem, BadItem, SectorSize, Differencing, BadBatState, BlockPlace, BlockOverlap, FileMissing, Host, Store, NoRoom}
 
 -- a refusal of a codec, as one of opening
 abbrev pub of_header : HeaderRefusal → OpenRefusal
@@ -46,6 +48,10 @@ of_table (table.BlockOverlap first second) = BlockOverlap first second
 of_table (table.Store fault) = Store fault
 of_table table.NoRoom = NoRoom
 
+abbrev pub of_replay : ReplayFault → OpenRefusal
+of_replay (replay.TruncatedBelowLog wanted found) = TruncatedBelowLog wanted found
+of_replay (replay.Store fault) = Store fault
+
 -- what a refusal of the code says: what refuses the file, or what stopped the look at it
 pub data Meaning (R : Type 0) : Type 0 where
   refuses : R → Meaning R
@@ -59,7 +65,7 @@ meaning_of (TooShort length) = refuses (Breaks (rules.TooShort length))
 meaning_of NoHeader = refuses (Breaks rules.NoHeader)
 meaning_of (BadVersion version log) = refuses (Breaks (rules.BadVersion version log))
 meaning_of (BadLogPlace offset length) = refuses (Breaks (rules.BadLogPlace offset length))
-meaning_of LogNamed = refuses opening.LogNamed
+meaning_of (TruncatedBelowLog wanted found) = refuses (Breaks (rules.TruncatedBelowLog wanted found))
 meaning_of NoRegionTable = refuses (Breaks rules.NoRegionTable)
 meaning_of (UnknownRegion id) = refuses (Breaks (rules.UnknownRegion id))
 meaning_of (MissingRegion r) = refuses (Breaks (rules.MissingRegion r))

@@ -1,3 +1,4 @@
 pub mod Opening
 pub mod Causes
+pub mod Effects
 pub mod Laws

@@ -1,9 +1,9 @@
 -- How a file without a parent is opened.
-use Rattle.std.specs.Prelude.{◌≡◌, ℕ, not, List, Result, Ok, Err}
+use Rattle.std.specs.Prelude.{◌≡◌, ℕ, List, Result, Ok, Err}
+use Rattle.vx_base.specs.declared.parts.Header.{Header}
 use Rattle.vx_base.specs.declared.parts.Parts.{Parts}
 use Rattle.vhdx_format.specs.Rules.{BrokenRule, ◌>>=◌, unless}
-use Rattle.vhdx_format.specs.Fields.{is_zero_id}
-use Rattle.vhdx_format.specs.FileParts.{read_head, read_parts, shape_of, taken_areas}
+use Rattle.vhdx_format.specs.FileParts.{read_head, read_parts, settle, settled_bytes, shape_of, taken_areas}
 use Rattle.vhdx_format.specs.HeldBlocks.{IsSoundTable}
 use Rattle.block_table.specs.Tables.{IsFirstBroken}
 
@@ -11,7 +11,6 @@ use Rattle.block_table.specs.Tables.{IsFirstBroken}
 pub data Refusal : Type 0 where
   FileMissing : Refusal  -- no file has the name
   Breaks : BrokenRule → Refusal  -- it breaks a rule of its format
-  LogNamed : Refusal  -- it names a log, which isn't replayed yet
   Differencing : Refusal  -- it has a parent, which isn't followed yet
 
 -- a reading of the format's, each broken rule as a refusal
@@ -19,17 +18,22 @@ abbrev pub by_format : {A : Type 0} → Result A BrokenRule → Result A Refusal
 by_format (Ok x) = Ok x
 by_format (Err rule) = Err (Breaks rule)
 
--- The numbers of a file, or what refuses it before its blocks are looked at: its header, a log that is named, regions
--- and metadata, a parent.
+-- The numbers of a file with this header and these settled bytes, or what refuses it before its blocks are looked at: its
+-- regions and metadata, a parent.
+unfoldable pub read_numbers : Header → List ℕ → Result Parts Refusal
+read_numbers header settled = do
+  parts ← by_format (read_parts header settled)
+  unless parts.parent Differencing (Ok parts)
+
+-- The same of a file as it lies there: its header first, then its log.
 unfoldable pub read_file : List ℕ → Result Parts Refusal
 read_file file = do
   header ← by_format (read_head file)
-  unless (not (is_zero_id header.log)) LogNamed (do
-    parts ← by_format (read_parts header file)
-    unless parts.parent Differencing (Ok parts))
+  settled ← by_format (settle header file)
+  read_numbers header settled
 
 -- A file is opened to its numbers, or it is refused by the first rule that it breaks.
 pub data Opens (file : List ℕ) : Result Parts Refusal → Type 0 where
   refused : (refusal : Refusal) → read_file file ≡ Err refusal → Opens file (Err refusal)
-  bad_table : (parts : Parts) (rule : BrokenRule) → read_file file ≡ Ok parts → IsFirstBroken (shape_of parts) (taken_areas parts) file rule → Opens file (Err (Breaks rule))
-  opened : (parts : Parts) → read_file file ≡ Ok parts → IsSoundTable (shape_of parts) (taken_areas parts) file → Opens file (Ok parts)
+  bad_table : (parts : Parts) (rule : BrokenRule) → read_file file ≡ Ok parts → IsFirstBroken (shape_of parts) (taken_areas parts) (settled_bytes file) rule → Opens file (Err (Breaks rule))
+  opened : (parts : Parts) → read_file file ≡ Ok parts → IsSoundTable (shape_of parts) (taken_areas parts) (settled_bytes file) → Opens file (Ok parts)

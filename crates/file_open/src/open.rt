@@ -1,22 +1,28 @@
 //! Opening a file.
 
-ghost use Rattle.std.specs.Prelude.{◌≡◌, ◌≤◌, ◌<◌, ◌+◌, ◌^◌, false, length, IfOk, IfErr, Ok};
-ghost use Rattle.store_model.specs.Disk.{WhereTold};
-ghost use Rattle.store_model.specs.File.{seen};
-ghost use Rattle.store_model.specs.Trace.{file_of};
+ghost use Rattle.std.specs.Prelude.{◌≡◌, ◌≤◌, ◌<◌, ◌+◌, ◌^◌, false, true, length, IfOk, IfErr, Ok};
+ghost use Rattle.store_model.specs.Disk.{WhereTold, WhereBothTold};
+ghost use Rattle.store_model.specs.File.{is_sealed, is_synced, seen};
+ghost use Rattle.store_model.specs.Trace.{ChangesOnly, file_of};
 ghost use Rattle.region_table.specs.Refusals.{ArePlaced};
-ghost use Rattle.vhdx_format.specs.FileParts as spec;
+ghost use Rattle.vhdx_format.specs.FileParts as format;
+ghost use Rattle.vhdx_format.specs.FileParts.{settled_bytes};
+ghost use Rattle.vhdx_format.specs.FileLaws.{IsReadAs};
 ghost use Rattle.vhdx_format.specs.Fields.{megabyte};
-ghost use Rattle.vhdx_format.specs.Rules.{Answers};
+ghost use Rattle.vhdx_format.specs.Rules.{Answers, Refuses};
 ghost use Rattle.vhdx_format.specs.Identifiers as identifiers;
 ghost use Rattle.vhdx_format.specs.Headers as headers;
 ghost use Rattle.vhdx_format.specs.RegionTables as regions;
 ghost use Rattle.vx_base.specs.Fields.{bytes_at};
 ghost use Rattle.file_open.specs.Causes.{AnswersOpening, cause_of, IsOutside, LeavesStore};
 ghost use Rattle.block_table.specs.Tables.{HasTable};
-ghost use Rattle.file_open.specs.Opening.{by_format, read_file};
+ghost use Rattle.file_open.specs.Effects.{FailsToSettle, HasSettled, KeepsFile, KeepsReading, LeavesFile, OpensAlike};
+ghost use Rattle.file_open.specs.Opening as opening;
+ghost use Rattle.file_open.specs.Opening.{by_format};
 
 use crate::refusal::OpenRefusal;
+use log_find::active;
+use log_replay::replay;
 use std::alloc::Global;
 use store_model::Store;
 use vhdx_format::{Metadata, Regions};
@@ -101,6 +107,7 @@ fn header_of<S: Store>(
     requires least { megabyte ≤ len }
     requires len { WhereTold (S.disk store.old).told (λ trace. len ≡ length (seen (file_of trace file))) }
     ensures answer { WhereTold (S.disk store.old).told (λ trace. Answers cause_of result (by_format (headers.read_headers (bytes_at (seen (file_of trace file)) 0 196608) len))) }
+    ensures rules { IfOk result (λ header. headers.KeepsRules header len) }
     ensures store { LeavesStore file (S.disk store.old) (S.disk store.new) result }
 {
     let zone = read_bytes(alloc, store, file, 0, HEADERS_LEN)?;
@@ -135,7 +142,7 @@ fn regions_of<S: Store>(
 #[tactic(auto, unfolding(vhdx_format::specs::FileParts::parts_of))]
 fn parts_of(header: Header, regions: Regions, metadata: Metadata) -> Parts
     requires { 0 < metadata.logical }
-    ensures { result ≡ spec.parts_of header regions metadata }
+    ensures { result ≡ format.parts_of header regions metadata }
 {
     Parts {
         header,
@@ -168,7 +175,7 @@ fn read_parts<S: Store>(
     requires there { file < (S.disk store.old).files }
     requires least { megabyte ≤ len }
     requires len { WhereTold (S.disk store.old).told (λ trace. len ≡ length (seen (file_of trace file))) }
-    ensures answer { WhereTold (S.disk store.old).told (λ trace. Answers cause_of result (by_format (spec.read_parts header (seen (file_of trace file))))) }
+    ensures answer { WhereTold (S.disk store.old).told (λ trace. Answers cause_of result (by_format (format.read_parts header (seen (file_of trace file))))) }
     ensures table { IfOk result (λ parts. parts.parent ≡ false → HasTable parts) }
     ensures served { IfOk result (λ parts. parts.geometry.sector ≡ 512) }
     ensures within { IfOk result (λ parts. parts.bat_at + parts.bat_len ≤ len) }
@@ -184,28 +191,24 @@ fn read_parts<S: Store>(
     Ok(parts_of(header, regions, metadata))
 }
 
-// The numbers of a file of this length, if it names no log and has no parent.
-#[tactic(auto, unfolding(crate::specs::Opening::read_file, vhdx_format::specs::FileParts::read_head))]
+// The numbers of a file of this length with this header, whose log is replayed, if it has no parent.
+#[tactic(auto, unfolding(crate::specs::Opening::read_numbers))]
 fn read_numbers<S: Store>(
     alloc: Global,
     store: &mut S,
     file: u32,
     len: u64,
+    header: Header,
 ) -> Result<Parts, OpenRefusal>
     requires there { file < (S.disk store.old).files }
     requires least { megabyte ≤ len }
-    requires identified { WhereTold (S.disk store.old).told (λ trace. identifiers.identified (seen (file_of trace file)) ≡ Ok len) }
     requires len { WhereTold (S.disk store.old).told (λ trace. len ≡ length (seen (file_of trace file))) }
-    ensures answer { WhereTold (S.disk store.old).told (λ trace. Answers cause_of result (read_file (seen (file_of trace file)))) }
+    ensures answer { WhereTold (S.disk store.old).told (λ trace. Answers cause_of result (opening.read_numbers header (seen (file_of trace file)))) }
     ensures table { IfOk result HasTable }
     ensures served { IfOk result (λ parts. parts.geometry.sector ≡ 512) }
     ensures within { IfOk result (λ parts. parts.bat_at + parts.bat_len ≤ len) }
     ensures store { LeavesStore file (S.disk store.old) (S.disk store.new) result }
 {
-    let header = header_of(alloc, store, file, len)?;
-    if !header.log.is_zero() {
-        return Err(OpenRefusal::LogNamed);
-    }
     let parts = read_parts(alloc, store, file, len, header)?;
     if parts.parent {
         return Err(OpenRefusal::Differencing);
@@ -213,18 +216,59 @@ fn read_numbers<S: Store>(
     Ok(parts)
 }
 
-/// Opens a file: gives its numbers, if it breaks no rule, names no log and has no parent.
+// Replays the log of a file of this length with this header, if one is named and has something to replay. Answers how long
+// the file is then.
+fn settle<S: Store>(
+    alloc: Global,
+    store: &mut S,
+    file: u32,
+    len: u64,
+    header: &Header,
+) -> Result<u64, OpenRefusal>
+    requires there { file < (S.disk store.old).files }
+    requires rules { headers.KeepsRules header.now len }
+    requires head { WhereTold (S.disk store.old).told (λ trace. format.read_head (seen (file_of trace file)) ≡ Ok header.now) }
+    requires len { WhereTold (S.disk store.old).told (λ trace. len ≡ length (seen (file_of trace file))) }
+    requires unsealed { WhereTold (S.disk store.old).told (λ trace. is_sealed (file_of trace file) ≡ false) }
+    ensures ok { IfOk result (λ n. HasSettled header.now file n (S.disk store.old) (S.disk store.new)) }
+    ensures least { IfOk result (λ n. megabyte ≤ n) }
+    ensures err { IfErr result (FailsToSettle file (S.disk store.old) (S.disk store.new)) }
+    ensures refused { IfErr result (λ refusal. WhereTold (S.disk store.old).told (λ trace. Refuses (cause_of refusal) (by_format (format.settle header.now (seen (file_of trace file)))))) }
+    ensures kept { WhereBothTold (KeepsReading file) (S.disk store.old).told (S.disk store.new).told }
+    ensures moments { WhereTold (S.disk store.old).told (λ before. is_synced (file_of before file) ≡ true → length (settled_bytes (seen (file_of before file))) ≤ length (seen (file_of before file)) → WhereBothTold (ChangesOnly file (IsReadAs (seen (file_of before file)))) (S.disk store.old).told (S.disk store.new).told) }
+{
+    if header.log.is_zero() {
+        return Ok(len);
+    }
+    let ring = read_bytes(alloc, store, file, header.log_at, header.log_len as usize)?;
+    let Some(sequence) = active(ring.as_slice(), header.log_at, &header.log) else {
+        return Ok(len);
+    };
+    replay(store, file, ring.as_slice(), &sequence)?;
+    Ok(store.len(file)?.max(len))
+}
+
+/// Opens a file: replays what its log holds unapplied, and gives the file's numbers, if it breaks no rule and has no parent.
+/// The headers stay, so opening it again replays the same. Whatever it answers, the file is opened as before, and no other
+/// file is changed.
 pub fn open_file<S: Store>(alloc: Global, store: &mut S, file: u32) -> Result<Parts, OpenRefusal>
     requires there { file < (S.disk store.old).files }
+    requires unsealed { WhereTold (S.disk store.old).told (λ trace. is_sealed (file_of trace file) ≡ false) }
     ensures opens { WhereTold (S.disk store.old).told (λ trace. AnswersOpening (seen (file_of trace file)) result) }
     ensures table { IfOk result HasTable }
     ensures served { IfOk result (λ parts. parts.geometry.sector ≡ 512) }
-    ensures inside { IfOk result (λ parts. WhereTold (S.disk store.old).told (λ trace. parts.bat_at + parts.bat_len ≤ length (seen (file_of trace file)))) }
-    ensures size { IfOk result (λ parts. WhereTold (S.disk store.old).told (λ trace. length (seen (file_of trace file)) < 2 ^ 64)) }
-    ensures store { LeavesStore file (S.disk store.old) (S.disk store.new) result }
+    ensures inside { IfOk result (λ parts. WhereTold (S.disk store.new).told (λ trace. parts.bat_at + parts.bat_len ≤ length (seen (file_of trace file)))) }
+    ensures size { IfOk result (λ parts. WhereTold (S.disk store.new).told (λ trace. length (seen (file_of trace file)) < 2 ^ 64)) }
+    ensures store { LeavesFile file (S.disk store.old) (S.disk store.new) result }
+    ensures kept { WhereBothTold (KeepsFile file) (S.disk store.old).told (S.disk store.new).told }
+    // At each moment from the call's beginning on, whatever it answers, in every image of a file that was synced and no shorter
+    // than its log makes it.
+    ensures moments { WhereTold (S.disk store.old).told (λ before. is_synced (file_of before file) ≡ true → length (settled_bytes (seen (file_of before file))) ≤ length (seen (file_of before file)) → WhereBothTold (ChangesOnly file (OpensAlike (seen (file_of before file)))) (S.disk store.old).told (S.disk store.new).told) }
 {
     let len = identify(store, file)?;
-    let parts = read_numbers(alloc, store, file, len)?;
+    let header = header_of(alloc, store, file, len)?;
+    let len = settle(alloc, store, file, len, &header)?;
+    let parts = read_numbers(alloc, store, file, len, header)?;
     block_table::check(alloc, store, file, &parts, len)?;
     Ok(parts)
 }

@@ -2,6 +2,7 @@
 
 use block_table::TableRefusal;
 use header_pair::HeaderRefusal;
+use log_replay::ReplayFault;
 use metadata_table::MetadataRefusal;
 use region_table::RegionRefusal;
 use std::alloc::AllocError;
@@ -22,8 +23,8 @@ pub enum OpenRefusal {
     BadVersion { version: u16, log: u16 },
     /// A log, in bytes, that isn't whole megabytes within the file.
     BadLogPlace { offset: u64, length: u32 },
-    /// A log is named, and logs aren't replayed yet.
-    LogNamed,
+    /// A file that is shorter than its log says that it was flushed to; both lengths in bytes.
+    TruncatedBelowLog { wanted: u64, found: u64 },
     /// No copy of the region table is valid.
     NoRegionTable,
     /// A region that a reader must know.
@@ -73,6 +74,22 @@ impl From<HeaderRefusal> for OpenRefusal {
             HeaderRefusal::BadLogPlace { offset, length } => {
                 OpenRefusal::BadLogPlace { offset, length }
             }
+        }
+    }
+}
+
+impl From<ReplayFault> for OpenRefusal {
+    ghost use Rattle.std.specs.Prelude.{◌≡◌};
+    ghost use Rattle.file_open.specs.Causes.{of_replay};
+
+    ghost from_gives = { λ fault e. e ≡ of_replay fault };
+
+    fn from(fault: ReplayFault) -> Self {
+        match fault {
+            ReplayFault::TruncatedBelowLog { wanted, found } => {
+                OpenRefusal::TruncatedBelowLog { wanted, found }
+            }
+            ReplayFault::Store(fault) => OpenRefusal::Store(fault),
         }
     }
 }
