@@ -21,11 +21,12 @@ use Rattle.log_format.specs.declared.entry.Active.{Active}
 use Rattle.log_find.specs.Found.{IsToldOf}
 use Rattle.log_replay.specs.Entries.{updates_from_place, AreHeldFrom}
 use Rattle.log_replay.specs.Steps.{as_it_was, not_yet, IsReached, HasChanged, Changes, Breaks}
-use Rattle.log_replay.specs.Replays.{TellsSequence, IsReplayed, ChangeFails, FailsToReplay, IsLogOf, OnlyChanges, SettlesAlike}
+use Rattle.log_replay.specs.Replays.{TellsSequence, IsReplayed, ChangeFails, FailsToReplay, IsLogOf, KeepsSettled, OnlyChanges, SettlesAlike}
 use Rattle.log_replay.specs.declared.fault.ReplayFault.{ReplayFault}
 use Rattle.log_replay.specs.declared.fault.ReplayFault.TheVariants.{Store}
 use Rattle.log_replay.proofs.Making.{told_now, stays_later}
 use Rattle.log_replay.proofs.Replaying.{grown_first, partly_before, partly_after, partly_grown, partly_torn, through, through_sync, weaker}
+use Rattle.log_replay.proofs.ReadParts.{ReadsPart, both_weaker, reads_same, reads_reached, reads_synced, partly_of_part, kept_of_part}
 use Rattle.log_replay.proofs.Walks.{told_held, told_updates}
 
 pub held_of : (ring : List ℕ) (a : Active) → TellsSequence ring a → AreHeldFrom ring a.first.at a.entries
@@ -108,6 +109,19 @@ module _ (file : ℕ) (log : ℕ) (id ring : List ℕ) (a : Active) (others : Li
       replay_keeps_settled_lem log (length ring) id (seen (file_of t file)) (held_entry ring a.first) others ringed l.within
       (subst (λ r. IsActive log id r (held_entry ring a.first) others) (sym l.bytes) l.active) image bytes p s) moments
 
+  -- what a read gives after a fault, and after a sync
+  pub reads_after : (len : ℕ) (old mid new : Option Trace) → WhereTold old (λ t. len ≡ length (seen (file_of t file))) → IsReached file (end_of ring a len) (updates_of ring a) old mid → new ≡ mid
+      → WhereBothTold (ReadsPart file (held_entry ring a.first) others) old new
+  reads_after len old mid new long r e =
+      subst (WhereBothTold (ReadsPart file (held_entry ring a.first) others) old) (sym e)
+      (reads_reached file (held_entry ring a.first) others (end_of ring a len) old mid (subst (λ us. IsReached file (end_of ring a len) us old mid) (told_updates log id ring a others told) r)
+      (λ t is. end_fits len (seen (file_of t file)) (long t is)))
+
+  pub reads_after_sync : (len : ℕ) (old mid new : Option Trace) → WhereTold old (λ t. len ≡ length (seen (file_of t file))) → IsReached file (end_of ring a len) (updates_of ring a) old mid → new ≡ told_after file Sync mid
+      → WhereBothTold (ReadsPart file (held_entry ring a.first) others) old new
+  reads_after_sync len old mid new long r e =
+      subst (WhereBothTold (ReadsPart file (held_entry ring a.first) others) old) (sym e) (reads_synced file (held_entry ring a.first) others old mid (reads_after len old mid mid long r refl))
+
   -- after Ok
   pub is_replayed : (len : ℕ) (old mid new : Option Trace) → a.last.flushed ≤ len → WhereTold old (λ t. len ≡ length (seen (file_of t file))) → WhereTold old (λ t. is_sealed (file_of t file) ≡ false)
       → IsReached file (end_of ring a len) (updates_of ring a) old mid → WhereBothTold (HasChanged file (end_of ring a len) (updates_of ring a)) old mid → new ≡ told_after file Sync mid
@@ -130,6 +144,23 @@ module _ (file : ℕ) (log : ℕ) (id ring : List ℕ) (a : Active) (others : Li
         only = stay;
         long = omega (arith, flushed, long x refl);
       }
+
+-- ---- what a read gives
+
+pub reads_unchanged : (file : ℕ) (first : Entry) (others : List Entry) (old new : Option Trace) → new ≡ old → WhereBothTold (ReadsPart file first others) old new
+reads_unchanged file first others old new e = subst (WhereBothTold (ReadsPart file first others) old) (sym e) (reads_same file first others old)
+
+pub partly_told : (file : ℕ) (first : Entry) (others : List Entry) (old new : Option Trace) → WhereBothTold (ReadsPart file first others) old new
+    → WhereBothTold (λ before now. PartlyReplayed first others (seen (file_of before file)) (seen (file_of now file))) old new
+partly_told file first others old new h =
+    both_weaker (ReadsPart file first others) (λ before now. PartlyReplayed first others (seen (file_of before file)) (seen (file_of now file))) old new
+    (λ x y p. partly_of_part first others (seen (file_of x file)) (seen (file_of y file)) p) h
+
+pub kept_told : (file log : ℕ) (id ring : List ℕ) (first : Entry) (others : List Entry) → length ring % 4096 ≡ 0 → (old new : Option Trace) → WhereBothTold (ReadsPart file first others) old new
+    → WhereBothTold (λ before now. IsLogOf log id ring first others (seen (file_of before file)) → KeepsSettled log (length ring) id first others (seen (file_of before file)) (seen (file_of now file))) old new
+kept_told file log id ring first others ringed old new h =
+    both_weaker (ReadsPart file first others) (λ before now. IsLogOf log id ring first others (seen (file_of before file)) → KeepsSettled log (length ring) id first others (seen (file_of before file)) (seen (file_of now file))) old new
+    (λ x y p. kept_of_part first others (seen (file_of x file)) log id ring (seen (file_of y file)) ringed p) h
 
 -- ---- faults
 

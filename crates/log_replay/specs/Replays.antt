@@ -58,3 +58,7 @@ SettlesAlike log len id first others file image =
     (bytes : List ℕ) → IsSettled log len id image bytes
     → (length bytes ≡ length (replayed first others file))
     × ((i : ℕ) → (i < length file) ⊎ AnyNames (sequence_updates first others) i → get_or bytes i 0 ≡ get_or (replayed first others file) i 0)
+
+-- What a file settles to is kept: what stands there now settles to exactly the replayed bytes of what stood there before.
+abbrev pub KeepsSettled : ℕ → ℕ → List ℕ → Entry → List Entry → List ℕ → List ℕ → Type 0
+KeepsSettled log len id first others before now = (bytes : List ℕ) → IsSettled log len id now bytes → bytes ≡ replayed first others before

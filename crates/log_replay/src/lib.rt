@@ -9,7 +9,7 @@ ghost use Rattle.store_model.specs.Trace.{ChangesOnly, file_of};
 ghost use Rattle.vhdx_format.specs.Crashes.{PartlyReplayed};
 ghost use Rattle.log_format.specs.Parts.{held_entry};
 ghost use Rattle.log_find.specs.Found.{IsToldOf};
-ghost use Rattle.log_replay.specs.Replays.{FailsToReplay, IsLogOf, IsReplayed, SettlesAlike, TellsSequence};
+ghost use Rattle.log_replay.specs.Replays.{FailsToReplay, IsLogOf, IsReplayed, KeepsSettled, SettlesAlike, TellsSequence};
 
 mod changing;
 mod fault;
@@ -41,6 +41,10 @@ pub fn replay<S: Store>(
     // What a read gives then.
     ensures replayed { (log : ℕ) (id : List ℕ) (others : List Entry) → IsToldOf log id ring.now active.now others → OnOk result (WhereBothTold (IsReplayed file active.now.last.flushed (held_entry ring.now active.now.first) others) (S.disk store.old).told (S.disk store.new).told) }
     ensures err { IfErr result (FailsToReplay file active.now (S.disk store.old) (S.disk store.new)) }
+    // And whatever the call answers: a file that is partly replayed,
+    ensures partly { (log : ℕ) (id : List ℕ) (others : List Entry) → IsToldOf log id ring.now active.now others → WhereBothTold (λ before now. PartlyReplayed (held_entry ring.now active.now.first) others (seen (file_of before file)) (seen (file_of now file))) (S.disk store.old).told (S.disk store.new).told }
+    // which settles to exactly the bytes of the replayed file, where these are the file's log and its active sequence.
+    ensures kept { (log : ℕ) (id : List ℕ) (others : List Entry) → IsToldOf log id ring.now active.now others → WhereBothTold (λ before now. IsLogOf log id ring.now (held_entry ring.now active.now.first) others (seen (file_of before file)) → KeepsSettled log (length ring.now) id (held_entry ring.now active.now.first) others (seen (file_of before file)) (seen (file_of now file))) (S.disk store.old).told (S.disk store.new).told }
     // At each moment from the call's beginning on, whatever it answers, in every image of a file that was synced.
     ensures moments { (log : ℕ) (id : List ℕ) (others : List Entry) → IsToldOf log id ring.now active.now others → WhereTold (S.disk store.old).told (λ before. is_synced (file_of before file) ≡ true → WhereBothTold (ChangesOnly file (PartlyReplayed (held_entry ring.now active.now.first) others (seen (file_of before file)))) (S.disk store.old).told (S.disk store.new).told) }
     // So each of them settles to the bytes of the replayed file, where these are the file's log and its active sequence.
