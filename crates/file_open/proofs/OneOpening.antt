@@ -1,13 +1,14 @@
 -- Bytes of a file are opened to one thing.
 use Rattle.std.proofs.Common.{◌≡◌, ℕ, ◌<◌, ◌≤◌, ◌⊎◌, inl, inr, List, Result, Ok, Err, sym, ap, subst, ◌∙◌, arith}
 use Rattle.std.proofs.lemmas.Bool.{cases_lt}
+use Rattle.vx_base.specs.declared.parts.Header.{Header}
 use Rattle.vx_base.specs.declared.parts.Parts.{Parts}
-use Rattle.vhdx_format.specs.FileParts.{shape_of, taken_areas}
+use Rattle.vhdx_format.specs.FileParts.{settle, shape_of, taken_areas}
 use Rattle.vhdx_format.specs.HeldBlocks.{Area, HasBadState, HasBadPlace, BlocksOverlap, IsLowest, IsLowestPair, IsSoundTable}
 use Rattle.vhdx_format.specs.Layers.{Shape}
 use Rattle.vhdx_format.specs.Rules.{BrokenRule, NotVhdx, TooShort, NoHeader, BadVersion, BadLogPlace, TruncatedBelowLog, NoRegionTable, UnknownRegion, MissingRegion, RegionPlace, BadMetadataTable, UnknownItem, MissingItem, BadItem, SectorSize, BadBatState, BlockPlace, BlockOverlap, BitmapMissing, BadLocator, NoParentName}
 use Rattle.block_table.specs.Tables.{HasGoodPlaces, HasGoodStates, IsFirstBroken}
-use Rattle.file_open.specs.Opening.{Opens, Refusal, Breaks, refused, bad_table, opened}
+use Rattle.file_open.specs.Opening.{Opens, OpensSettled, Refusal, Breaks, refused, bad_table, opened, headless, cut, by_settled}
 
 lowest_once : (P : ℕ → Type 0) (i j : ℕ) → IsLowest P i → IsLowest P j → i ≡ j
 lowest_once P i j a b = by_order (cases_lt i j) (cases_lt j i)
@@ -93,20 +94,52 @@ same_Ok a b h = cc
 pub not_both : {A E : Type 0} (a : A) (e : E) → Ok a ≡ Err e → ⊥
 not_both a e h = cc
 
-pub opens_once : (file : List ℕ) (a b : Result Parts Refusal) → Opens file a → Opens file b → a ≡ b
-opens_once file _ _ (refused r e) (refused s f) = sym e ∙ f
-opens_once file _ _ (refused r e) (bad_table p rule f h) = absurd (not_both p r (sym f ∙ e))
-opens_once file _ _ (refused r e) (opened p f sound) = absurd (not_both p r (sym f ∙ e))
-opens_once file _ _ (bad_table p rule e h) (refused s f) = absurd (not_both p s (sym e ∙ f))
-opens_once file _ _ (bad_table p rule e h) (bad_table q other f k) =
+settled_once : (header : Header) (file : List ℕ) (a b : Result Parts Refusal) → OpensSettled header file a → OpensSettled header file b → a ≡ b
+settled_once header file _ _ (refused r e) (refused s f) = sym e ∙ f
+settled_once header file _ _ (refused r e) (bad_table p rule f h) = absurd (not_both p r (sym f ∙ e))
+settled_once header file _ _ (refused r e) (opened p f sound) = absurd (not_both p r (sym f ∙ e))
+settled_once header file _ _ (bad_table p rule e h) (refused s f) = absurd (not_both p s (sym e ∙ f))
+settled_once header file _ _ (bad_table p rule e h) (bad_table q other f k) =
     let same : q ≡ p = same_Ok q p (sym f ∙ e) in
     let k : IsFirstBroken (shape_of p) (taken_areas p) file other = subst (λ (x : Parts). IsFirstBroken (shape_of x) (taken_areas x) file other) same k in
     ap (λ r. Err (Breaks r)) (broken_once (shape_of p) (taken_areas p) file rule other (as_broken _ _ _ rule h) (as_broken _ _ _ other k))
-opens_once file _ _ (bad_table p rule e h) (opened q f sound) =
+settled_once header file _ _ (bad_table p rule e h) (opened q f sound) =
     let same : q ≡ p = same_Ok q p (sym f ∙ e) in
     absurd (not_sound (shape_of p) (taken_areas p) file rule (as_broken _ _ _ rule h) (subst (λ (x : Parts). IsSoundTable (shape_of x) (taken_areas x) file) same sound))
-opens_once file _ _ (opened p e sound) (refused s f) = absurd (not_both p s (sym e ∙ f))
-opens_once file _ _ (opened p e sound) (bad_table q rule f h) =
+settled_once header file _ _ (opened p e sound) (refused s f) = absurd (not_both p s (sym e ∙ f))
+settled_once header file _ _ (opened p e sound) (bad_table q rule f h) =
     let same : p ≡ q = same_Ok p q (sym e ∙ f) in
     absurd (not_sound (shape_of q) (taken_areas q) file rule (as_broken _ _ _ rule h) (subst (λ (x : Parts). IsSoundTable (shape_of x) (taken_areas x) file) same sound))
-opens_once file _ _ (opened p e sound) (opened q f other) = sym e ∙ f
+settled_once header file _ _ (opened p e sound) (opened q f other) = sym e ∙ f
+
+same_header : (a b : Header) → (let r : Result Header BrokenRule = Ok a in r) ≡ Ok b → a ≡ b
+same_header a b h = cc
+
+same_bytes : (a b : List ℕ) → (let r : Result (List ℕ) BrokenRule = Ok a in r) ≡ Ok b → a ≡ b
+same_bytes a b h = cc
+
+same_rule : {A : Type 0} (a b : BrokenRule) → (let r : Result A BrokenRule = Err a in r) ≡ Err b → a ≡ b
+same_rule a b h = cc
+
+refused_as : (a b : BrokenRule) → a ≡ b → (let r : Result Parts Refusal = Err (Breaks a) in r) ≡ Err (Breaks b)
+refused_as a b e = ap (λ r. Err (Breaks r)) e
+
+pub opens_once : (file : List ℕ) (a b : Result Parts Refusal) → Opens file a → Opens file b → a ≡ b
+opens_once file _ _ (headless r e) (headless s f) = refused_as r s (same_rule {A = Header} r s (sym e ∙ f))
+opens_once file _ _ (headless r e) (cut h s f k) = absurd (not_both h r (sym f ∙ e))
+opens_once file _ _ (headless r e) (by_settled h bytes result f k o) = absurd (not_both h r (sym f ∙ e))
+opens_once file _ _ (cut h r e k) (headless s f) = absurd (not_both h s (sym e ∙ f))
+opens_once file _ _ (cut h r e k) (cut i s f l) =
+    let same = same_header h i (sym e ∙ f) in
+    refused_as r s (same_rule {A = List ℕ} r s (sym k ∙ ap (λ x. settle x file) same ∙ l))
+opens_once file _ _ (cut h r e k) (by_settled i bytes result f l o) =
+    let same = same_header h i (sym e ∙ f) in
+    absurd (not_both bytes r (sym l ∙ ap (λ x. settle x file) (sym same) ∙ k))
+opens_once file _ _ (by_settled h bytes result e k o) (headless s f) = absurd (not_both h s (sym e ∙ f))
+opens_once file _ _ (by_settled h bytes result e k o) (cut i s f l) =
+    let same = same_header h i (sym e ∙ f) in
+    absurd (not_both bytes s (sym k ∙ ap (λ x. settle x file) same ∙ l))
+opens_once file _ _ (by_settled h bytes result e k o) (by_settled i others other f l p) =
+    let same = same_header h i (sym e ∙ f) in
+    let as_many = same_bytes bytes others (sym k ∙ ap (λ x. settle x file) same ∙ l) in
+    settled_once h bytes result other o (subst (λ x. OpensSettled h x other) (sym as_many) (subst (λ x. OpensSettled x others other) (sym same) p))

@@ -4,6 +4,7 @@ use Rattle.store_model.specs.Cause.{Rose}
 use Rattle.store_model.specs.Disk.{Disk, ReadFailed}
 use Rattle.store_model.specs.declared.fault.HostFault.{HostFault}
 use Rattle.store_model.specs.declared.fault.StoreFault.{StoreFault}
+use Rattle.vx_base.specs.declared.parts.Header.{Header}
 use Rattle.vx_base.specs.declared.parts.Parts.{Parts}
 use Rattle.header_pair.specs.declared.HeaderRefusal.{HeaderRefusal}
 use Rattle.header_pair.specs.declared.HeaderRefusal.TheVariants as header
@@ -16,7 +17,7 @@ use Rattle.metadata_table.specs.declared.MetadataRefusal.TheVariants as metadata
 use Rattle.region_table.specs.declared.RegionRefusal.{RegionRefusal}
 use Rattle.region_table.specs.declared.RegionRefusal.TheVariants as region
 use Rattle.vhdx_format.specs.Rules as rules
-use Rattle.file_open.specs.Opening.{Opens, Refusal, Breaks}
+use Rattle.file_open.specs.Opening.{Opens, OpensSettled, Refusal, Breaks}
 use Rattle.file_open.specs.Opening as opening
 use Rattle.file_open.specs.declared.refusal.OpenRefusal.{OpenRefusal}
 use Rattle.file_open.specs.declared.refusal.OpenRefusal.TheVariants.{NotVhdx, TooShort, NoHeader, BadVersion, BadLogPlace, TruncatedBelowLog, NoRegionTable, UnknownRegion, MissingRegion, RegionPlace, BadMetadataTable, UnknownItem, MissingItem, BadItem, SectorSize, Differencing, BadBatState, BlockPlace, BlockOverlap, FileMissing, Host, Store, NoRoom}
@@ -102,10 +103,17 @@ abbrev pub IfCause : {A R : Type 0} → (Result A R → Type 0) → Option R →
 IfCause P None = Unit {0}
 IfCause P (Some refusal) = P (Err refusal)
 
+-- an answer of the code that stands for one of these
+abbrev pub AnswersBy : {A R : Type 0} → (Result A R → Type 0) → (OpenRefusal → Option R) → Result A OpenRefusal → Type 0
+AnswersBy P cause (Ok x) = P (Ok x)
+AnswersBy P cause (Err refusal) = IfCause P (cause refusal)
+
 -- the answer on a file that is opened
 abbrev pub AnswersOpening : List ℕ → Result Parts OpenRefusal → Type 0
-AnswersOpening file (Ok parts) = Opens file (Ok parts)
-AnswersOpening file (Err refusal) = IfCause (Opens file) (cause_of refusal)
+AnswersOpening file = AnswersBy (Opens file) cause_of
+
+abbrev pub AnswersSettled : Header → List ℕ → Result Parts OpenRefusal → Type 0
+AnswersSettled header settled = AnswersBy (OpensSettled header settled) cause_of
 
 -- the host's count rose where a call of the host or of the store failed, and a host's fault tells it; else it stays
 abbrev pub CountsBy : {R : Type 0} → ℕ → ℕ → Meaning R → Type 0

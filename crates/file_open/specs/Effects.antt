@@ -1,8 +1,8 @@
 -- What opening a file leaves of it.
-use Rattle.std.specs.Prelude.{◌≡◌, ℕ, ◌≤◌, true, false, List, length, Result, Ok, Err}
+use Rattle.std.specs.Prelude.{◌≡◌, ℕ, true, false, List, length, Result, Ok, Err}
 use Rattle.log_replay.specs.Replays.{OnlyChanges}
 use Rattle.store_model.specs.Cause.{RoseAt}
-use Rattle.store_model.specs.Disk.{Disk, WhereTold, WhereBothTold}
+use Rattle.store_model.specs.Disk.{Disk, WhereBothTold}
 use Rattle.store_model.specs.File.{seen, is_synced, is_sealed}
 use Rattle.store_model.specs.Trace.{Trace, file_of}
 use Rattle.store_model.specs.declared.fault.StoreFault.{StoreFault}

@@ -3,7 +3,7 @@ use Rattle.std.specs.Prelude.{◌≡◌, ℕ, List, Result, Ok, Err}
 use Rattle.vx_base.specs.declared.parts.Header.{Header}
 use Rattle.vx_base.specs.declared.parts.Parts.{Parts}
 use Rattle.vhdx_format.specs.Rules.{BrokenRule, ◌>>=◌, unless}
-use Rattle.vhdx_format.specs.FileParts.{read_head, read_parts, settle, settled_bytes, shape_of, taken_areas}
+use Rattle.vhdx_format.specs.FileParts.{read_head, read_parts, settle, shape_of, taken_areas}
 use Rattle.vhdx_format.specs.HeldBlocks.{IsSoundTable}
 use Rattle.block_table.specs.Tables.{IsFirstBroken}
 
@@ -25,15 +25,15 @@ read_numbers header settled = do
   parts ← by_format (read_parts header settled)
   unless parts.parent Differencing (Ok parts)
 
--- The same of a file as it lies there: its header first, then its log.
-unfoldable pub read_file : List ℕ → Result Parts Refusal
-read_file file = do
-  header ← by_format (read_head file)
-  settled ← by_format (settle header file)
-  read_numbers header settled
+-- With this header and these settled bytes a file is opened to its numbers, or refused by the first rule that it breaks.
+pub data OpensSettled (header : Header) (settled : List ℕ) : Result Parts Refusal → Type 0 where
+  refused : (refusal : Refusal) → read_numbers header settled ≡ Err refusal → OpensSettled header settled (Err refusal)
+  bad_table : (parts : Parts) (rule : BrokenRule) → read_numbers header settled ≡ Ok parts → IsFirstBroken (shape_of parts) (taken_areas parts) settled rule → OpensSettled header settled (Err (Breaks rule))
+  opened : (parts : Parts) → read_numbers header settled ≡ Ok parts → IsSoundTable (shape_of parts) (taken_areas parts) settled → OpensSettled header settled (Ok parts)
 
--- A file is opened to its numbers, or it is refused by the first rule that it breaks.
+-- A file is opened by its header as it lies there, and then by its settled bytes; the first rule that it breaks refuses it.
 pub data Opens (file : List ℕ) : Result Parts Refusal → Type 0 where
-  refused : (refusal : Refusal) → read_file file ≡ Err refusal → Opens file (Err refusal)
-  bad_table : (parts : Parts) (rule : BrokenRule) → read_file file ≡ Ok parts → IsFirstBroken (shape_of parts) (taken_areas parts) (settled_bytes file) rule → Opens file (Err (Breaks rule))
-  opened : (parts : Parts) → read_file file ≡ Ok parts → IsSoundTable (shape_of parts) (taken_areas parts) (settled_bytes file) → Opens file (Ok parts)
+  headless : (rule : BrokenRule) → read_head file ≡ Err rule → Opens file (Err (Breaks rule))
+  cut : (header : Header) (rule : BrokenRule) → read_head file ≡ Ok header → settle header file ≡ Err rule → Opens file (Err (Breaks rule))
+  by_settled : (header : Header) (settled : List ℕ) (result : Result Parts Refusal) → read_head file ≡ Ok header → settle header file ≡ Ok settled → OpensSettled header settled result
+      → Opens file result

@@ -14,7 +14,7 @@ ghost use Rattle.vhdx_format.specs.Identifiers as identifiers;
 ghost use Rattle.vhdx_format.specs.Headers as headers;
 ghost use Rattle.vhdx_format.specs.RegionTables as regions;
 ghost use Rattle.vx_base.specs.Fields.{bytes_at};
-ghost use Rattle.file_open.specs.Causes.{AnswersOpening, cause_of, IsOutside, LeavesStore};
+ghost use Rattle.file_open.specs.Causes.{AnswersOpening, AnswersSettled, cause_of, IsOutside, LeavesStore};
 ghost use Rattle.block_table.specs.Tables.{HasTable};
 ghost use Rattle.file_open.specs.Effects.{FailsToSettle, HasSettled, KeepsFile, KeepsReading, LeavesFile, OpensAlike};
 ghost use Rattle.file_open.specs.Opening as opening;
@@ -216,6 +216,28 @@ fn read_numbers<S: Store>(
     Ok(parts)
 }
 
+// Opens a file of this length with this header, whose log is replayed.
+fn open_settled<S: Store>(
+    alloc: Global,
+    store: &mut S,
+    file: u32,
+    len: u64,
+    header: Header,
+) -> Result<Parts, OpenRefusal>
+    requires there { file < (S.disk store.old).files }
+    requires least { megabyte ≤ len }
+    requires len { WhereTold (S.disk store.old).told (λ trace. len ≡ length (seen (file_of trace file))) }
+    ensures answer { WhereTold (S.disk store.old).told (λ trace. AnswersSettled header (seen (file_of trace file)) result) }
+    ensures table { IfOk result HasTable }
+    ensures served { IfOk result (λ parts. parts.geometry.sector ≡ 512) }
+    ensures within { IfOk result (λ parts. parts.bat_at + parts.bat_len ≤ len) }
+    ensures store { LeavesStore file (S.disk store.old) (S.disk store.new) result }
+{
+    let parts = read_numbers(alloc, store, file, len, header)?;
+    block_table::check(alloc, store, file, &parts, len)?;
+    Ok(parts)
+}
+
 // Replays the log of a file of this length with this header, if one is named and has something to replay. Answers how long
 // the file is then.
 fn settle<S: Store>(
@@ -240,11 +262,12 @@ fn settle<S: Store>(
     if header.log.is_zero() {
         return Ok(len);
     }
-    let ring = read_bytes(alloc, store, file, header.log_at, header.log_len as usize)?;
-    let Some(sequence) = active(ring.as_slice(), header.log_at, &header.log) else {
+    let log = read_bytes(alloc, store, file, header.log_at, header.log_len as usize)?;
+    let ring = log.as_slice();
+    let Some(sequence) = active(ring, header.log_at, &header.log) else {
         return Ok(len);
     };
-    replay(store, file, ring.as_slice(), &sequence)?;
+    replay(store, file, ring, &sequence)?;
     Ok(store.len(file)?.max(len))
 }
 
@@ -268,7 +291,5 @@ pub fn open_file<S: Store>(alloc: Global, store: &mut S, file: u32) -> Result<Pa
     let len = identify(store, file)?;
     let header = header_of(alloc, store, file, len)?;
     let len = settle(alloc, store, file, len, &header)?;
-    let parts = read_numbers(alloc, store, file, len, header)?;
-    block_table::check(alloc, store, file, &parts, len)?;
-    Ok(parts)
+    open_settled(alloc, store, file, len, header)
 }
