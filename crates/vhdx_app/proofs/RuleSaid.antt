@@ -4,7 +4,7 @@ use Rattle.std.specs.Prelude.{IfOk, IfSome, MatchResult, String, codes, string_b
 use Rattle.vx_base.specs.declared.NoRoom.{NoRoom as OutOfMemory}
 use Rattle.file_open.specs.Causes.{cause_of, meaning_of}
 use Rattle.file_open.specs.declared.refusal.OpenRefusal.{OpenRefusal}
-use Rattle.file_open.specs.declared.refusal.OpenRefusal.TheVariants.{NotVhdx, TooShort, NoHeader, BadVersion, BadLogPlace, LogNamed, NoRegionTable, UnknownRegion, MissingRegion, RegionPlace, BadMetadataTable, UnknownItem, MissingItem, BadItem, SectorSize, Differencing, BadBatState, BlockPlace, BlockOverlap, FileMissing, Host, Store, NoRoom}
+use Rattle.file_open.specs.declared.refusal.OpenRefusal.TheVariants.{NotVhdx, TooShort, NoHeader, BadVersion, BadLogPlace, TruncatedBelowLog, NoRegionTable, UnknownRegion, MissingRegion, RegionPlace, BadMetadataTable, UnknownItem, MissingItem, BadItem, SectorSize, Differencing, BadBatState, BlockPlace, BlockOverlap, FileMissing, Host, Store, NoRoom}
 use Rattle.store_model.specs.declared.fault.HostFault.{HostFault}
 use Rattle.store_model.specs.declared.fault.StoreFault.{StoreFault}
 use Rattle.vhdx_app.specs.Causes.{of_file}
@@ -25,7 +25,7 @@ rule_said file before after old new status line (TooShort length) h s m is sent 
 rule_said file before after old new status line NoHeader h s m is sent = refusal_sent before after old new Refused status _ line is sent
 rule_said file before after old new status line (BadVersion version log) h s m is sent = refusal_sent before after old new Refused status _ line is sent
 rule_said file before after old new status line (BadLogPlace offset length) h s m is sent = refusal_sent before after old new Refused status _ line is sent
-rule_said file before after old new status line LogNamed h s m is sent = refusal_sent before after old new Refused status _ line is sent
+rule_said file before after old new status line (TruncatedBelowLog wanted found) h s m is sent = refusal_sent before after old new Refused status _ line is sent
 rule_said file before after old new status line NoRegionTable h s m is sent = refusal_sent before after old new Refused status _ line is sent
 rule_said file before after old new status line (UnknownRegion id) h s m is sent = refusal_sent before after old new Refused status _ line is sent
 rule_said file before after old new status line (MissingRegion r) h s m is sent = refusal_sent before after old new Refused status _ line is sent

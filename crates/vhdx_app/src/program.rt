@@ -21,7 +21,7 @@ use store_model::{Gate, Host, Ids, Sink, Source};
 use vx_base::NoRoom;
 
 /// Runs the command that the words name, and prints its answer to the sink. The words `dump LEAF FIRST COUNT` print the
-/// sectors from FIRST on of the disk of the file LEAF, which has no parent and names no log; `info LEAF` prints what the
+/// sectors from FIRST on of the disk of the file LEAF, which has no parent; `info LEAF` prints what the
 /// file is; `make` makes a file; `--help` and `--version` print what they say.
 pub fn run<R: Threads + Wait, H: Host, S: Source, K: Sink, I: Ids, G: Gate>(
     _rt: &R,

@@ -22,7 +22,7 @@ fn name_of(refusal: &OpenRefusal) -> &'static str
         OpenRefusal::NoHeader => "3 NoHeader",
         OpenRefusal::BadVersion { .. } => "4 BadVersion",
         OpenRefusal::BadLogPlace { .. } => "5 BadLogPlace",
-        OpenRefusal::LogNamed => "30 LogNamed",
+        OpenRefusal::TruncatedBelowLog { .. } => "14 TruncatedBelowLog",
         OpenRefusal::NoRegionTable => "6 NoRegionTable",
         OpenRefusal::UnknownRegion { .. } => "7 UnknownRegion",
         OpenRefusal::MissingRegion { .. } => "8 MissingRegion",
@@ -79,6 +79,10 @@ fn push_values(text: &mut String, refusal: &OpenRefusal) -> Result<(), NoRoom>
         OpenRefusal::BadLogPlace { offset, length } => {
             push_number(text, "offset", offset)?;
             push_number(text, "length", u64::from(length))
+        }
+        OpenRefusal::TruncatedBelowLog { wanted, found } => {
+            push_number(text, "wanted", wanted)?;
+            push_number(text, "found", found)
         }
         OpenRefusal::UnknownRegion { id }
         | OpenRefusal::UnknownItem { id }
