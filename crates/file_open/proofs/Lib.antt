@@ -1,7 +1,7 @@
 mod Signatures
 pub mod Numbered
-mod Opened
+pub mod Opened
 pub mod Settling
-mod Leaving
+pub mod Leaving
 pub mod OneOpening
 pub mod MadeOpened
