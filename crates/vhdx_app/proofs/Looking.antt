@@ -1,17 +1,16 @@
 -- What is read of a store's first file once it is opened.
-use Rattle.std.proofs.Common.{◌≡◌, ℕ, false, true, List, Option, Some, None, Result, Ok, Err, refl, sym, ap, subst, ◌∙◌}
+use Rattle.std.proofs.Common.{◌≡◌, ℕ, List, Option, Some, None, Ok, refl, sym, subst, ◌∙◌}
 use Rattle.std.proofs.lemmas.Option.{same_Some}
-use Rattle.store_model.specs.Disk.{Disk, WhereTold, WhereBothTold}
+use Rattle.store_model.specs.Disk.{WhereTold, WhereBothTold}
 use Rattle.store_model.specs.File.{seen}
 use Rattle.store_model.specs.Trace.{Trace, file_of}
 use Rattle.vx_base.specs.declared.parts.Header.{Header}
 use Rattle.vx_base.specs.declared.parts.Parts.{Parts}
-use Rattle.vhdx_format.specs.FileParts.{opened_bytes, read_head, settle, settled_bytes, shape_of, taken_areas}
+use Rattle.vhdx_format.specs.FileParts.{opened_bytes, settled_bytes, shape_of, taken_areas}
 use Rattle.vhdx_format.specs.HeldBlocks.{IsSoundTable}
 use Rattle.layer_file.specs.Sectors.{HasSectors}
-use Rattle.file_open.specs.Effects.{HasOpened, IsOpened, KeepsFile}
+use Rattle.file_open.specs.Effects.{IsOpened, KeepsFile}
 use Rattle.file_open.specs.Opening.{Opens, OpensSettled, by_settled, opened}
-use Rattle.file_open.specs.Opening as opening
 use Rattle.file_open.proofs.Numbered.{opened_is, settled_is}
 
 -- what opening leaves is what the file stands for
