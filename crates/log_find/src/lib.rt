@@ -4,12 +4,13 @@
 ghost use Rattle.std.specs.Prelude.{true, false, ◌≡◌, ◌↔◌, ◌⊎◌, ◌+◌, ◌*◌, ◌%◌, ◌^◌, ◌<◌, ◌≤◌, ℕ, IsTrue, MatchOption, length, List};
 ghost use Rattle.vhdx_format.specs.Logs.{wrapped, Entry, HasNoSequence};
 ghost use Rattle.log_format.specs.Parts.{IsEntryIn, IsHeadIn};
-ghost use Rattle.log_find.specs.KnownEntries.{AreKnown};
+ghost use Rattle.log_find.specs.KnownEntries.{IsMindOf};
 ghost use Rattle.log_find.specs.Found.{EntryIsOlder, IsBetter, IsOlder, IsBelow, EndsNoneBelow, IsNewestBelow, NoneEndsAt, IsToldOf, IsActiveFound};
 
 mod known;
+mod sums;
 
-use known::{Known, is_held, known_entry, nothing_known};
+use known::{Mind, empty_mind, is_held, known_entry};
 pub use log_format::Active;
 use log_format::{LogEntry, head_at};
 use vx_base::Guid;
@@ -26,16 +27,16 @@ fn place_behind(ring_len: usize, entry: &LogEntry) -> u32
 }
 
 // The walk from an entry that the ring holds to the first entry that it names, and back to it.
-fn walk_to(known: &mut [Known], ring: &[u8], log: u64, id: &Guid, last: LogEntry) -> Option<Active>
+fn walk_to(mind: &mut Mind, ring: &[u8], log: u64, id: &Guid, last: LogEntry) -> Option<Active>
     requires ring { length ring.now % 4096 ≡ 0 }
     requires short { length ring.now < 2 ^ 32 }
     requires log { log + length ring.now < 2 ^ 64 }
     requires last { IsEntryIn log id.now ring.now last.at last }
-    requires known { AreKnown log id.now ring.now known.old }
-    ensures known { AreKnown log id.now ring.now known.new }
+    requires mind { IsMindOf log id.now ring.now mind.old }
+    ensures mind { IsMindOf log id.now ring.now mind.new }
     ensures found { MatchOption result (NoneEndsAt log id.now ring.now last.at) (λ a. (a.last ≡ last) × ((others : List Entry) × IsToldOf log id.now ring.now a others)) }
 {
-    let Some(first) = known_entry(known, ring, log, id, last.tail) else {
+    let Some(first) = known_entry(mind, ring, log, id, last.tail) else {
         return None;
     };
     let mut entry = first;
@@ -52,7 +53,7 @@ fn walk_to(known: &mut [Known], ring: &[u8], log: u64, id: &Guid, last: LogEntry
         if head.number != entry.number + 1 || total > ring.len() {
             return None;
         }
-        if !is_held(known, ring, log, id, &head) {
+        if !is_held(mind, ring, log, id, &head) {
             return None;
         }
         entries += 1;
@@ -66,25 +67,19 @@ fn walk_to(known: &mut [Known], ring: &[u8], log: u64, id: &Guid, last: LogEntry
 }
 
 // The sequence that ends in a header's entry.
-fn sequence_to(
-    known: &mut [Known],
-    ring: &[u8],
-    log: u64,
-    id: &Guid,
-    last: LogEntry,
-) -> Option<Active>
+fn sequence_to(mind: &mut Mind, ring: &[u8], log: u64, id: &Guid, last: LogEntry) -> Option<Active>
     requires ring { length ring.now % 4096 ≡ 0 }
     requires short { length ring.now < 2 ^ 32 }
     requires log { log + length ring.now < 2 ^ 64 }
     requires last { IsHeadIn id.now ring.now last.at last }
-    requires known { AreKnown log id.now ring.now known.old }
-    ensures known { AreKnown log id.now ring.now known.new }
+    requires mind { IsMindOf log id.now ring.now mind.old }
+    ensures mind { IsMindOf log id.now ring.now mind.new }
     ensures found { MatchOption result (NoneEndsAt log id.now ring.now last.at) (λ a. (a.last ≡ last) × ((others : List Entry) × IsToldOf log id.now ring.now a others)) }
 {
-    if !is_held(known, ring, log, id, &last) {
+    if !is_held(mind, ring, log, id, &last) {
         return None;
     }
-    walk_to(known, ring, log, id, last)
+    walk_to(mind, ring, log, id, last)
 }
 
 // Whether an entry is older than another.
@@ -171,10 +166,10 @@ pub fn active(ring: &[u8], log: u64, id: &Guid) -> Option<Active>
     requires log { log + length ring.now < 2 ^ 64 }
     ensures { MatchOption result (HasNoSequence log id.now ring.now) (λ a. IsActiveFound log id.now ring.now a) }
 {
-    let mut known = nothing_known();
+    let mut mind = empty_mind(ring);
     let mut candidate = newest_below(ring, id, None);
     while let Some(last) = candidate {
-        if let Some(found) = sequence_to(&mut known, ring, log, id, last) {
+        if let Some(found) = sequence_to(&mut mind, ring, log, id, last) {
             return Some(found);
         }
         candidate = newest_below(ring, id, Some(last));

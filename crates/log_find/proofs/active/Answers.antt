@@ -6,7 +6,7 @@ pub loop-candidate-init : goal.loop-candidate-init
 loop-candidate-init c =
     record {
       candidate = first_candidate c.args.log c.args.id.now c.args.ring.now c.requires.ring c.newest_below-candidate.result (c.newest_below-candidate.ensures c.args.log);
-      known = c.nothing_known-known.ensures c.args.log c.args.id.now c.args.ring.now;
+      mind = c.empty_mind-mind.ensures c.args.log c.args.id.now;
     }
 
 pub sequence_to-requires-clause-last : goal.sequence_to-requires-clause-last
@@ -35,5 +35,5 @@ loop-candidate-preserved c =
       candidate =
           (next_candidate c.args.log c.args.id.now c.args.ring.now c.requires.ring c.in-Some.last is c.in_default-sequence_to.ensures.found c.newest_below-candidate-in-Some.result
           (c.newest_below-candidate-in-Some.ensures c.args.log)).0;
-      known = c.in_default-sequence_to.ensures.known;
+      mind = c.in_default-sequence_to.ensures.mind;
     }

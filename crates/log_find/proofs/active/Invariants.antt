@@ -1,4 +1,4 @@
-use Rattle.log_find.specs.KnownEntries.{AreKnown}
+use Rattle.log_find.specs.KnownEntries.{IsMindOf}
 use Rattle.log_find.proofs.Newest.{IsCandidate, rank}
 use Rattle.log_find.proofs.active.Given as goal
 
@@ -6,7 +6,7 @@ abbrev pub invariant-loop-candidate : goal.invariant-loop-candidate
 invariant-loop-candidate l =
     record {
       candidate : IsCandidate l.log l.id l.ring l.candidate;
-      known : AreKnown l.log l.id l.ring l.known;
+      mind : IsMindOf l.log l.id l.ring l.mind;
     }
 
 abbrev pub decreases-loop-candidate : goal.decreases-loop-candidate
