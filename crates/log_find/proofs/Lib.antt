@@ -1,3 +1,4 @@
 pub mod Walk
-pub mod Newest
+pub mod Candidates
 pub mod Minding
+pub mod Summing

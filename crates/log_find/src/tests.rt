@@ -1,6 +1,7 @@
 //! Rings of entries, and which sequence of them is active.
 
 use super::*;
+use crc32c::crc32c_without;
 use log_format::{EntryHead, Page, build_entry};
 use std::alloc::{AllocError, Global};
 use std::test::Fail;
@@ -102,5 +103,43 @@ fn reads_an_entry_round_the_end(rt: HostRuntime) -> Result<(), Fail> {
     // a torn sector
     put(ring, 100, &[0x5B]);
     assert_eq!(rt; found(ring), None);
+    Ok(())
+}
+
+// Writes an entry that claims so many bytes and uses the first 4,096 of them, its checksum right or left as it was.
+fn put_claim(ring: &mut [u8], at: u32, number: u64, len: u32, is_right: bool) {
+    let head = EntryHead {
+        number,
+        tail: at,
+        log: id(),
+        flushed: 0,
+        last: 0,
+    };
+    let mut entry = [0x77; 12_288];
+    build_entry(&mut entry, &head, &[]);
+    entry[8..12].copy_from_slice(&len.to_le_bytes());
+    if is_right {
+        let sum = crc32c_without(&entry, 4);
+        entry[4..8].copy_from_slice(&sum.to_le_bytes());
+    }
+    put(ring, at, &entry);
+}
+
+#[test]
+fn finds_entries_with_spare_room(rt: HostRuntime) -> Result<(), Fail> {
+    let alloc = rt.alloc();
+    for at in [8192, 1_036_288, 1_040_384, 1_044_480] {
+        let mut ring = zeros(alloc, 1_048_576)?;
+        let ring = ring.as_mut_slice();
+        put_claim(ring, at, 3, 12_288, true);
+        assert_eq!(rt; found(ring), Some((3, 3, at, 1)));
+        // two newer ones claim the whole ring, and from the second on checksums are taken from those that are kept
+        put_claim(ring, 40_960, 5, 1_048_576, false);
+        put_claim(ring, 57_344, 4, 1_048_576, false);
+        assert_eq!(rt; found(ring), Some((3, 3, at, 1)));
+        // a torn byte of the spare room
+        put(ring, at.wrapping_add(12_287) % 1_048_576, &[0x78]);
+        assert_eq!(rt; found(ring), None);
+    }
     Ok(())
 }

@@ -1,39 +1,36 @@
-use Rattle.std.proofs.Common.{◌≡◌, Some, ap, arith}
-use Rattle.log_find.proofs.Newest.{IsCandidate, rank, first_candidate, next_candidate, found_active}
+use Rattle.std.proofs.Common.{◌<◌, set}
+use Rattle.std.specs.List.{sum_by}
+use Rattle.log_find.specs.Found.{AreNewest}
+use Rattle.log_find.proofs.Candidates.{rank, none_at_all, newest_of_all, own_part, next_heads, found_active}
 use Rattle.log_find.proofs.active.Goals as goal
 
-pub loop-candidate-init : goal.loop-candidate-init
-loop-candidate-init c =
+pub loop-last-init : goal.loop-last-init
+loop-last-init c =
     record {
-      candidate = first_candidate c.args.log c.args.id.now c.args.ring.now c.requires.ring c.newest_below-candidate.result (c.newest_below-candidate.ensures c.args.log);
-      known = c.nothing_known-known.ensures c.args.log c.args.id.now c.args.ring.now;
+      newest = c.newest_heads-heads.ensures c.args.log;
+      mind = c.empty_mind-mind.ensures c.args.log c.args.id.now;
     }
-
-pub sequence_to-requires-clause-last : goal.sequence_to-requires-clause-last
-sequence_to-requires-clause-last c =
-    let is : IsCandidate c.args.log c.args.id.now c.args.ring.now (Some c.in-Some.last) = rw c.in-Some.is at c.loop-candidate.invariant.candidate in
-    is.0
 
 pub returns-in-Some-sequence_to : goal.returns-in-Some-sequence_to
 returns-in-Some-sequence_to c =
-    let is : IsCandidate c.args.log c.args.id.now c.args.ring.now (Some c.in-Some.last) = rw c.in-Some.is at c.loop-candidate.invariant.candidate in
+    let is = newest_of_all c.args.log c.args.id.now c.args.ring.now c.requires.ring c.loop-last.heads c.loop-last.array_long c.loop-last.invariant.newest c.in-Some.last c.in-Some.ensures in
     let t = c.in-Some-sequence_to.ensures.found in
     found_active c.args.log c.args.id.now c.args.ring.now c.requires.ring c.in-Some.last is c.in-Some-sequence_to.found t.0 t.1.0 t.1.1
 
-pub loop-candidate-smaller : goal.loop-candidate-smaller
-loop-candidate-smaller c =
-    let is : IsCandidate c.args.log c.args.id.now c.args.ring.now (Some c.in-Some.last) = rw c.in-Some.is at c.loop-candidate.invariant.candidate in
-    let n = (next_candidate c.args.log c.args.id.now c.args.ring.now c.requires.ring c.in-Some.last is c.in_default-sequence_to.ensures.found c.newest_below-candidate-in-Some.result
-    (c.newest_below-candidate-in-Some.ensures c.args.log)).1 in
-    let e : rank c.args.ring.now c.loop-candidate.candidate ≡ rank c.args.ring.now (Some c.in-Some.last) = ap (rank c.args.ring.now) c.in-Some.is in
-    omega (arith, n, e)
+next : (c : goal.After-newest_in) → AreNewest c.args.log c.args.id.now c.args.ring.now (set c.loop-last.heads c.part_of-part.result c.newest_in.result)
+    × (sum_by (rank c.args.ring.now) (set c.loop-last.heads c.part_of-part.result c.newest_in.result) < sum_by (rank c.args.ring.now) c.loop-last.heads)
+next c =
+    let is = newest_of_all c.args.log c.args.id.now c.args.ring.now c.requires.ring c.loop-last.heads c.loop-last.array_long c.loop-last.invariant.newest c.in-Some.last c.in-Some.ensures in
+    let here = own_part c.args.log c.args.id.now c.args.ring.now c.requires.ring c.loop-last.heads c.loop-last.array_long c.loop-last.invariant.newest c.in-Some.last c.in-Some.ensures
+    c.part_of-part.result c.part_of-part.ensures.part in
+    next_heads c.args.log c.args.id.now c.args.ring.now c.requires.ring c.in-Some.last is c.in_default-sequence_to.ensures.found c.loop-last.heads c.loop-last.array_long c.loop-last.invariant.newest
+    c.part_of-part.result c.part_of-part.ensures.few here c.newest_in.result (c.newest_in.ensures c.args.log)
 
-pub loop-candidate-preserved : goal.loop-candidate-preserved
-loop-candidate-preserved c =
-    let is : IsCandidate c.args.log c.args.id.now c.args.ring.now (Some c.in-Some.last) = rw c.in-Some.is at c.loop-candidate.invariant.candidate in
-    record {
-      candidate =
-          (next_candidate c.args.log c.args.id.now c.args.ring.now c.requires.ring c.in-Some.last is c.in_default-sequence_to.ensures.found c.newest_below-candidate-in-Some.result
-          (c.newest_below-candidate-in-Some.ensures c.args.log)).0;
-      known = c.in_default-sequence_to.ensures.known;
-    }
+pub loop-last-smaller : goal.loop-last-smaller
+loop-last-smaller c = (next c).1
+
+pub loop-last-preserved : goal.loop-last-preserved
+loop-last-preserved c = record { newest = (next c).0; mind = c.in_default-sequence_to.ensures.mind }
+
+pub returns : goal.returns
+returns c = none_at_all c.args.log c.args.id.now c.args.ring.now c.requires.ring c.loop-last.heads c.loop-last.array_long c.loop-last.invariant.newest c.in_default.ensures

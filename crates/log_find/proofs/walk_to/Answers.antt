@@ -10,7 +10,7 @@ pub loop-entry-init : goal.loop-entry-init
 loop-entry-init c =
     record {
       walked = at_first c.args.log c.args.id.now c.args.ring.now c.requires.ring c.args.last c.requires.last c.in-Some.first c.in-Some.ensures.entry;
-      known = c.in-Some.ensures.known;
+      mind = c.in-Some.ensures.mind;
     }
 
 pub returns-then-entry-last-clause-found : goal.returns-then-entry-last-clause-found
@@ -56,7 +56,7 @@ loop-entry-preserved c =
           c.loop-entry-test.true c.place_behind.result c.place_behind.ensures c.in-Some-head_at.head
           (entry_there c.args.log c.args.id.now c.args.ring.now c.place_behind.result c.in-Some-head_at.head c.in-Some-head_at.ensures.fields.place (c.if-not-is_held.ensures.held.0 refl))
           c.if-head-entry.false c.if-total-ring.false;
-      known = c.if-not-is_held.ensures.known;
+      mind = c.if-not-is_held.ensures.mind;
     }
 
 pub returns-clause-found : goal.returns-clause-found
