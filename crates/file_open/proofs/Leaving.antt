@@ -82,40 +82,40 @@ unsettled file old new refusal h unsealed same = unsettled_by file old new (mean
 
 -- ---- once it is settled
 
-module _ (header : Header) (file n : ℕ) (old mid new : Disk) (head : WhereTold old.told (λ t. read_head (seen (file_of t file)) ≡ Ok header)) (settled : HasSettled header file n old mid) where
-  counts : new ≡ mid → new ≡ record old { told = new.told }
-  counts e = subst (λ (d : Disk). d ≡ record old { told = d.told }) (sym e) settled.counts
+pub opened_of : (header : Header) (file n : ℕ) (old mid : Disk) → WhereTold old.told (λ t. read_head (seen (file_of t file)) ≡ Ok header) → HasSettled header file n old mid → HasOpened file old mid
+opened_of header file n old mid head settled = record {
+  counts = settled.counts;
+  told =
+      both_map (IsSettledTo header file n) (IsOpened file) old.told mid.told
+      (λ x y is h. record { bytes = sym (opened_is header (seen (file_of x file)) (seen (file_of y file)) (head x is) h.bytes); synced = h.synced; unsealed = h.unsealed }) settled.told;
+}
 
-  opened : new ≡ mid → HasOpened file old new
-  opened e = record {
-    counts = counts e;
-    told =
-        subst (λ (d : Disk). WhereBothTold (IsOpened file) old.told d.told) (sym e)
-        (both_map (IsSettledTo header file n) (IsOpened file) old.told mid.told
-        (λ x y is h. record { bytes = sym (opened_is header (seen (file_of x file)) (seen (file_of y file)) (head x is) h.bytes); synced = h.synced; unsealed = h.unsealed }) settled.told);
-  }
+-- what only reads an opened file leaves it opened
+module _ (file : ℕ) (old mid new : Disk) (opened : HasOpened file old mid) where
+  pub still_opened : new ≡ mid → HasOpened file old new
+  still_opened e = subst (HasOpened file old) (sym e) opened
 
   ran : new ≡ mid → RanOut file old new
-  ran e = record {
-    counts = counts e;
-    told = subst (λ (d : Disk). WhereBothTold (StaysSynced file) old.told d.told) (sym e) (both_map (IsSettledTo header file n) (StaysSynced file) old.told mid.told (λ x y is h. h.synced) settled.told);
-  }
+  ran e =
+      subst (RanOut file old) (sym e)
+      (record { counts = opened.counts; told = both_map (IsOpened file) (StaysSynced file) old.told mid.told (λ x y is h. h.synced) opened.told })
 
   failed : (fault : StoreFault) → ReadFailed file mid new fault → CallFailed file old new fault
   failed fault h =
       of_read
-      (read_stays mid new h.stays ∙ ap (λ (d : Disk). let made : Disk = record d { told = new.told; failed_reads = new.failed_reads } in made) settled.counts) h.of_file
-      (subst (λ c. RoseAt file fault.count c new.failed_reads) (ap (λ (d : Disk). d.failed_reads) settled.counts) h.count)
+      (read_stays mid new h.stays ∙ ap (λ (d : Disk). let made : Disk = record d { told = new.told; failed_reads = new.failed_reads } in made) opened.counts) h.of_file
+      (subst (λ c. RoseAt file fault.count c new.failed_reads) (ap (λ (d : Disk). d.failed_reads) opened.counts) h.count)
 
-  by_meaning : (meaning : Meaning Refusal) → LeavesBy file mid new meaning → LeavesOpened file old new meaning
-  by_meaning (refuses refusal) h = opened h
-  by_meaning (host_failed fault) h = absurd h
-  by_meaning (store_failed fault) h = failed fault h
-  by_meaning no_memory h = ran h
+  pub after_opened : {R : Type 0} (meaning : Meaning R) → LeavesBy file mid new meaning → LeavesOpened file old new meaning
+  after_opened (refuses refusal) h = still_opened h
+  after_opened (host_failed fault) h = absurd h
+  after_opened (store_failed fault) h = failed fault h
+  after_opened no_memory h = ran h
 
-  pub after_settled : (result : Result Parts OpenRefusal) → LeavesStore file mid new result → LeavesFile file old new result
-  after_settled (Ok parts) h = opened h
-  after_settled (Err refusal) h = by_meaning (meaning_of refusal) h
+pub after_settled : (header : Header) (file n : ℕ) (old mid new : Disk) → WhereTold old.told (λ t. read_head (seen (file_of t file)) ≡ Ok header) → HasSettled header file n old mid
+    → (result : Result Parts OpenRefusal) → LeavesStore file mid new result → LeavesFile file old new result
+after_settled header file n old mid new head settled (Ok parts) h = still_opened file old mid new (opened_of header file n old mid head settled) h
+after_settled header file n old mid new head settled (Err refusal) h = after_opened file old mid new (opened_of header file n old mid head settled) (meaning_of refusal) h
 
 -- how it is opened then is how it is opened
 pub opens_whole : (header : Header) (file n : ℕ) (old mid : Option Trace) (result : Result Parts OpenRefusal) → WhereBothTold (IsSettledTo header file n) old mid

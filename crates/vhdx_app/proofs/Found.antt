@@ -3,13 +3,12 @@ use Rattle.std.proofs.Common.{◌≡◌, ℕ, ◌+◌, ◌<◌, ◌≤◌, true,
 use Rattle.std.specs.Prelude.{IfErr, OnOk}
 use Rattle.std.specs.Result.{IsErrAnd}
 use Rattle.store_model.specs.Cause.{Rose}
-use Rattle.store_model.specs.Disk.{Disk, ReadFailed, WhereTold}
+use Rattle.store_model.specs.Disk.{Disk, WhereTold}
 use Rattle.store_model.specs.Folder.{Held, Hosted, HasFailed, RoseWhere, has_name, seen_named}
 use Rattle.vx_base.specs.declared.parts.Parts.{Parts}
-use Rattle.vhdx_format.specs.FileParts.{shape_of, taken_areas}
-use Rattle.vhdx_format.specs.HeldBlocks.{IsSoundTable}
-use Rattle.file_open.specs.Causes.{AnswersOpening, CountsBy, IfCause, LeavesBy, LeavesStore, cause_of, Meaning, refuses, host_failed, store_failed, no_memory, cause_in, meaning_of}
-use Rattle.file_open.specs.Opening.{Opens, opened}
+use Rattle.file_open.specs.Causes.{AnswersOpening, CountsBy, IfCause, cause_of, Meaning, refuses, host_failed, store_failed, no_memory, cause_in, meaning_of}
+use Rattle.file_open.specs.Effects.{CallFailed, of_read, of_change, LeavesFile, LeavesOpened}
+use Rattle.file_open.specs.Opening.{Opens}
 use Rattle.file_open.specs.Opening as opening
 use Rattle.file_open.specs.declared.refusal.OpenRefusal.{OpenRefusal}
 use Rattle.vhdx_app.specs.Causes.{AnswersDump, AnswersIn, Counts, LeavesDump, cause_of_dump, meaning_of_dump, of_file}
@@ -42,10 +41,6 @@ pub there_answers : (folder : List Held) (leaf : List ℕ) (first count : ℕ) (
     → AnswersIn (seen_named leaf folder) first count result → AnswersDump folder leaf first count result
 there_answers folder leaf first count (Ok bytes) has h = dump.there _ has h
 there_answers folder leaf first count (Err e) has h = there_cause folder leaf first count (cause_of_dump e) has h
-
--- an opened file has a sound table
-pub sound_of : (file : List ℕ) (parts : Parts) → Opens file (Ok parts) → IsSoundTable (shape_of parts) (taken_areas parts) file
-sound_of file parts (opened _ read sound) = sound
 
 -- a file that isn't lent
 none_found : (leaf : List ℕ) (first count : ℕ) (old new : Hosted) (meaning : Meaning opening.Refusal) → LendsNone leaf old new meaning → WhereTold old.folder (λ f. IfCause (Finds f leaf first count) (cause_in (of_file meaning)))
@@ -98,17 +93,6 @@ pub there_opening : (folder : List Held) (leaf file : List ℕ) (result : Result
 there_opening folder leaf file (Ok parts) has same h = info.there _ has (subst (λ b. Opens b (Ok parts)) same h)
 there_opening folder leaf file (Err e) has same h = opens_there folder leaf (cause_of e) has (subst (λ b. IfCause (Opens b) (cause_of e)) same h)
 
-told_by : {R : Type 0} (file : ℕ) (old new : Disk) (meaning : Meaning R) → LeavesBy file old new meaning → new.told ≡ old.told
-told_by file old new (refuses refusal) h = ap (λ (d : Disk). d.told) h
-told_by file old new (host_failed fault) h = absurd h
-told_by file old new (store_failed fault) h = ap (λ (d : Disk). d.told) h.stays
-told_by file old new no_memory h = ap (λ (d : Disk). d.told) h
-
--- opening changes no content
-pub opening_told : (file : ℕ) (old new : Disk) (result : Result Parts OpenRefusal) → LeavesStore file old new result → new.told ≡ old.told
-opening_told file old new (Ok parts) h = ap (λ (d : Disk). d.told) h
-opening_told file old new (Err refusal) h = told_by file old new (meaning_of refusal) h
-
 -- ---- counts
 
 -- a store as attached, of one file
@@ -124,35 +108,43 @@ fresh_of leaf old new lent lends = record {
   changes = λ file. ap (λ (d : Disk). d.failed_changes file) lends.disk_is;
 }
 
-none_failed : (old new : Disk) → IsFresh old → new ≡ old → HasFailed new → ⊥
+none_failed : (old new : Disk) → IsFresh old → new ≡ record old { told = new.told } → HasFailed new → ⊥
 none_failed old new fresh same (file, there, failed) =
     let none : new.failed_reads file + new.failed_changes file ≡ 0 = ap (λ (d : Disk). d.failed_reads file + d.failed_changes file) same ∙ omega (arith, fresh.reads file, fresh.changes file) in
     failed none
 
 module _ (old new : Disk) (fresh : IsFresh old) (before now : ℕ) (count : RoseWhere (HasFailed new) before now) where
-  quiet : new ≡ old → now ≡ before
+  quiet : new ≡ record old { told = new.told } → now ≡ before
   quiet same = count.none (none_failed old new fresh same)
 
-  of_store : (fault : _) → ReadFailed 0 old new fault → Rose before now × (0 < fault.count)
-  of_store fault failed =
-      let risen : 1 ≤ new.failed_reads 0 = omega (arith, failed.count.rose.risen, fresh.reads 0) in
-      let files : new.files ≡ 1 = ap (λ (d : Disk). d.files) failed.stays ∙ fresh.files in
-      (count.some (0, omega (arith, files), λ e. omega (arith, e, risen)), omega (arith, failed.count.told, risen))
+  of_store : (fault : _) → CallFailed 0 old new fault → Rose before now × (0 < fault.count)
+  of_store fault (of_read stays of_file c) =
+      let risen : 1 ≤ new.failed_reads 0 = omega (arith, c.rose.risen, fresh.reads 0) in
+      let files : new.files ≡ 1 = ap (λ (d : Disk). d.files) stays ∙ fresh.files in
+      (count.some (0, omega (arith, files), λ e. omega (arith, e, risen)), omega (arith, c.told, risen))
+  of_store fault (of_change stays of_file c) =
+      let risen : 1 ≤ new.failed_changes 0 = omega (arith, c.rose.risen, fresh.changes 0) in
+      let files : new.files ≡ 1 = ap (λ (d : Disk). d.files) stays ∙ fresh.files in
+      (count.some (0, omega (arith, files), λ e. omega (arith, e, risen)), omega (arith, c.told, risen))
 
-  by_meaning : {R : Type 0} (meaning : Meaning R) → LeavesBy 0 old new meaning → CountsBy before now meaning
-  by_meaning (refuses refusal) h = quiet h
+  by_meaning : {R : Type 0} (meaning : Meaning R) → LeavesOpened 0 old new meaning → CountsBy before now meaning
+  by_meaning (refuses refusal) h = quiet h.counts
   by_meaning (host_failed fault) h = absurd h
   by_meaning (store_failed fault) h = of_store fault h
-  by_meaning no_memory h = quiet h
+  by_meaning no_memory h = quiet h.counts
 
-  pub opening_counts : (result : Result Parts OpenRefusal) → LeavesStore 0 old new result → IfErr result (λ e. CountsBy before now (meaning_of e))
+  pub opening_counts : (result : Result Parts OpenRefusal) → LeavesFile 0 old new result → IfErr result (λ e. CountsBy before now (meaning_of e))
   opening_counts (Ok parts) h = tt
   opening_counts (Err refusal) h = by_meaning (meaning_of refusal) h
 
-  pub opening_quiet : (result : Result Parts OpenRefusal) → LeavesStore 0 old new result → OnOk result (now ≡ before)
-  opening_quiet (Ok parts) h = quiet h
+  pub opening_quiet : (result : Result Parts OpenRefusal) → LeavesFile 0 old new result → OnOk result (now ≡ before)
+  opening_quiet (Ok parts) h = quiet h.counts
   opening_quiet (Err refusal) h = tt
 
-  pub counts_of : (result : Result (List ℕ) DumpRefusal) → IfErr result (LeavesDump old new) → IfErr result (Counts before now)
-  counts_of (Ok done) h = h
+  pub counts_of : (result : Result (List ℕ) DumpRefusal) → LeavesDump old new result → IfErr result (Counts before now)
+  counts_of (Ok bytes) h = tt
   counts_of (Err refusal) h = by_meaning (meaning_of_dump refusal) h
+
+  pub quiet_of : (result : Result (List ℕ) DumpRefusal) → LeavesDump old new result → OnOk result (now ≡ before)
+  quiet_of (Ok bytes) h = quiet h.counts
+  quiet_of (Err refusal) h = tt

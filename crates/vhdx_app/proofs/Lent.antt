@@ -1,17 +1,23 @@
 -- A folder that lends one file and has it back.
 use Rattle.std.proofs.Common.{◌≡◌, ℕ, zero, suc, Bool, true, false, cond, List, [], ◌∷◌, Option, Some, None, refl, sym, ap, subst, ◌∙◌, arith}
-use Rattle.std.specs.Prelude.{◌||◌, option_map, unwrap_or}
+use Rattle.std.specs.Prelude.{◌||◌, All, IfErr, OnOk, Ok, Err, Result, option_map, unwrap_or}
 use Rattle.std.specs.List.{IsDistinct}
 use Rattle.std.specs.Str.{bytes_eq}
 use Rattle.std.proofs.lemmas.Bool.{or_left, or_right}
 use Rattle.std.proofs.lemmas.Option.{same_Some}
-use Rattle.store_model.specs.Disk.{Disk, WhereTold}
-use Rattle.store_model.specs.File.{File, is_synced, seen}
-use Rattle.store_model.specs.Folder.{Held, Hosted, has_name, file_named, with_file, seen_named, CanAttach, attached_trace, without, given_back, AreAway}
-use Rattle.store_model.specs.Trace.{Trace, file_of}
-use Rattle.file_open.specs.Causes.{Meaning, refuses, host_failed, store_failed, no_memory}
+use Rattle.store_model.specs.Disk.{Disk, WhereTold, WhereBothTold}
+use Rattle.store_model.specs.File.{File, is_sealed, is_synced, seen}
+use Rattle.store_model.specs.Folder.{Held, Hosted, has_name, file_named, with_file, seen_named, CanAttach, attached_trace, without, back_from, given_back, AreAway}
+use Rattle.store_model.specs.Trace.{Trace, at_moment, file_of}
+use Rattle.file_open.specs.Causes.{Meaning, refuses, host_failed, store_failed, no_memory, meaning_of}
+use Rattle.file_open.specs.Effects.{HasOpened, IsOpened, KeepsFile, LeavesFile, LeavesOpened, OpensAlike, StaysSynced}
 use Rattle.file_open.specs.Opening as opening
-use Rattle.vhdx_app.specs.Folders.{AllIdle, Lends, LendsNone, contents_of, Listed}
+use Rattle.log_replay.specs.Replays.{OnlyChanges}
+use Rattle.vhdx_app.specs.Causes.{LeavesDump, UnlessStoreFailed, meaning_of_dump}
+use Rattle.vhdx_app.specs.declared.refusal.DumpRefusal.{DumpRefusal}
+use Rattle.file_open.specs.declared.refusal.OpenRefusal.{OpenRefusal}
+use Rattle.vx_base.specs.declared.parts.Parts.{Parts}
+use Rattle.vhdx_app.specs.Folders.{AllIdle, IsOpenedIn, Lends, LendsNone, OnlyOpens, contents_of}
 
 pub distinct : (leaf : List ℕ) → IsDistinct bytes_eq (leaf ∷ [])
 unfolding IsDistinct
@@ -59,67 +65,135 @@ away leaf (held ∷ folder) there = by_name (bytes_eq held.name leaf) refl (away
       subst (λ b. IsAway leaf (cond b (record held { file = None } ∷ folder) (held ∷ with_file leaf None folder))) (sym e)
       (or_right (bytes_eq held.name leaf) (has_name leaf (with_file leaf None folder)) rest.0, ap (λ b. cond b held.file (file_named leaf (with_file leaf None folder))) e ∙ rest.1)
 
-listed : List ℕ → Option (List ℕ) → Listed
-listed name bytes = record { name = name; bytes = bytes }
+-- a file that is put in twice is there once
+twice : (leaf : List ℕ) (a b : Option File) (folder : List Held) → with_file leaf a (with_file leaf b folder) ≡ with_file leaf a folder
+twice leaf a b [] = refl
+twice leaf a b (held ∷ folder) = by_name (bytes_eq held.name leaf) refl (twice leaf a b folder) where
+  by_name : (c : Bool) → bytes_eq held.name leaf ≡ c → with_file leaf a (with_file leaf b folder) ≡ with_file leaf a folder → with_file leaf a (with_file leaf b (held ∷ folder)) ≡ with_file leaf a (held ∷ folder)
+  by_name true e rest =
+      ap (λ c. with_file leaf a (cond c (record held { file = b } ∷ folder) (held ∷ with_file leaf b folder))) e
+      ∙ ap (λ c. cond c (record held { file = a } ∷ folder) (record held { file = b } ∷ with_file leaf a folder)) e
+      ∙ sym (ap (λ c. cond c (record held { file = a } ∷ folder) (held ∷ with_file leaf a folder)) e)
+  by_name false e rest =
+      ap (λ c. with_file leaf a (cond c (record held { file = b } ∷ folder) (held ∷ with_file leaf b folder))) e
+      ∙ ap (λ c. cond c (record held { file = a } ∷ with_file leaf b folder) (held ∷ with_file leaf a (with_file leaf b folder))) e
+      ∙ ap (λ rest. held ∷ rest) rest
+      ∙ sym (ap (λ c. cond c (record held { file = a } ∷ folder) (held ∷ with_file leaf a folder)) e)
 
--- given back as it was, the folder has the contents that it had
-back : (leaf : List ℕ) (folder : List Held) (file : File) → AllIdle folder → has_name leaf folder ≡ true → seen file ≡ seen_named leaf folder → contents_of (with_file leaf (Some file) (with_file leaf None folder)) ≡ contents_of folder
-unfolding listed
-back leaf [] file idle there same = cc
-back leaf (held ∷ folder) file idle there same = by_name (bytes_eq held.name leaf) refl (back leaf folder file (rest_idle held folder idle)) where
-  by_name : (b : Bool) → bytes_eq held.name leaf ≡ b → (has_name leaf folder ≡ true → seen file ≡ seen_named leaf folder → contents_of (with_file leaf (Some file) (with_file leaf None folder)) ≡ contents_of folder) → contents_of (with_file leaf (Some file) (with_file leaf None (held ∷ folder))) ≡ contents_of (held ∷ folder)
-  by_name true e further =
-      let here = idle zero held (omega arith) in
-      let named : seen_named leaf (held ∷ folder) ≡ unwrap_or (option_map seen held.file) [] = ap (λ b. unwrap_or (option_map seen (cond b held.file (file_named leaf folder))) []) e in
-      let bytes : seen file ≡ seen here.0 = same ∙ named ∙ ap (λ o. unwrap_or (option_map seen o) []) here.1 in
-      let shown : Some (seen file) ≡ option_map seen held.file = ap Some bytes ∙ ap (option_map seen) (sym here.1) in
-      subst (λ b. contents_of (with_file leaf (Some file) (cond b (record held { file = None } ∷ folder) (held ∷ with_file leaf None folder))) ≡ contents_of (held ∷ folder)) (sym e)
-      (ap (λ b. contents_of (cond b (record held { file = Some file } ∷ folder) (record held { file = None } ∷ with_file leaf (Some file) folder))) e
-      ∙ ap (λ o. listed held.name o ∷ contents_of folder) shown)
-  by_name false e further =
-      let named : seen_named leaf (held ∷ folder) ≡ seen_named leaf folder = ap (λ b. unwrap_or (option_map seen (cond b held.file (file_named leaf folder))) []) e in
-      let rest = further (there_further held folder leaf e there) (same ∙ named) in
-      subst (λ b. contents_of (with_file leaf (Some file) (cond b (record held { file = None } ∷ folder) (held ∷ with_file leaf None folder))) ≡ contents_of (held ∷ folder)) (sym e)
-      (ap (λ b. contents_of (cond b (record held { file = Some file } ∷ with_file leaf None folder) (held ∷ with_file leaf (Some file) (with_file leaf None folder)))) e
-      ∙ ap (λ rest. listed held.name (option_map seen held.file) ∷ rest) rest)
+-- its own file put in changes nothing
+own : (leaf : List ℕ) (folder : List Held) → with_file leaf (file_named leaf folder) folder ≡ folder
+own leaf [] = refl
+own leaf (held ∷ folder) = by_name (bytes_eq held.name leaf) refl (own leaf folder) where
+  by_name : (c : Bool) → bytes_eq held.name leaf ≡ c → with_file leaf (file_named leaf folder) folder ≡ folder → with_file leaf (file_named leaf (held ∷ folder)) (held ∷ folder) ≡ held ∷ folder
+  by_name true e rest =
+      ap (λ c. cond c (record held { file = cond c held.file (file_named leaf folder) } ∷ folder) (held ∷ with_file leaf (cond c held.file (file_named leaf folder)) folder)) e
+  by_name false e rest =
+      ap (λ c. cond c (record held { file = cond c held.file (file_named leaf folder) } ∷ folder) (held ∷ with_file leaf (cond c held.file (file_named leaf folder)) folder)) e
+      ∙ ap (λ rest. held ∷ rest) rest
 
--- the folder once the file is lent, and what the store tells then
+-- what was put in is what is there
+put_in : (leaf : List ℕ) (folder : List Held) (file : File) → has_name leaf folder ≡ true → file_named leaf (with_file leaf (Some file) folder) ≡ Some file
+put_in leaf [] file there = cc
+put_in leaf (held ∷ folder) file there = by_name (bytes_eq held.name leaf) refl (put_in leaf folder file) where
+  by_name : (c : Bool) → bytes_eq held.name leaf ≡ c → (has_name leaf folder ≡ true → file_named leaf (with_file leaf (Some file) folder) ≡ Some file) → file_named leaf (with_file leaf (Some file) (held ∷ folder)) ≡ Some file
+  by_name true e rest =
+      ap (λ c. file_named leaf (cond c (record held { file = Some file } ∷ folder) (held ∷ with_file leaf (Some file) folder))) e
+      ∙ ap (λ c. cond c (Some file) (file_named leaf folder)) e
+  by_name false e rest =
+      ap (λ c. file_named leaf (cond c (record held { file = Some file } ∷ folder) (held ∷ with_file leaf (Some file) folder))) e
+      ∙ ap (λ c. cond c held.file (file_named leaf (with_file leaf (Some file) folder))) e ∙ rest (there_further held folder leaf e there)
+
+-- the folder once the file is lent, and what the store tells when it is given back
 pub record IsLent (leaf : List ℕ) (folder lent : Option (List Held)) (told : Option Trace) : Type 0 where
   pub folder_is : lent ≡ option_map (without (leaf ∷ [])) folder
-  pub told_is : told ≡ option_map (attached_trace (leaf ∷ [])) folder
+  pub kept : WhereBothTold (KeepsFile 0) (option_map (attached_trace (leaf ∷ [])) folder) told
+
+-- the same files are attached
+attached_same : (old new : Trace) → OnlyChanges 0 old new → new.attached ≡ old.attached
+unfolding at_moment
+attached_same old new only = ap (λ (t : Trace). t.attached) only.since
 
 pub are_away : (leaf : List ℕ) (folder lent : Option (List Held)) (told : Option Trace) → IsLent leaf folder lent told → WhereTold folder (λ f. has_name leaf f ≡ true) → (t : List Held) → lent ≡ Some t → (trace : Trace) → told ≡ Some trace → AreAway trace t
 unfolding IsAway
 are_away leaf None lent told is there t lent_is trace told_is = let never : None ≡ Some t = sym is.folder_is ∙ lent_is in cc
 are_away leaf (Some folder) lent told is there t lent_is trace told_is =
     let t_is : with_file leaf None folder ≡ t = same_Some _ _ (sym is.folder_is ∙ lent_is) in
-    let trace_is : attached_trace (leaf ∷ []) folder ≡ trace = same_Some _ _ (sym is.told_is ∙ told_is) in
-    subst (λ t. AreAway trace t) t_is (subst (λ trace. AreAway trace (with_file leaf None folder)) trace_is at_first) where
+    let kept : KeepsFile 0 (attached_trace (leaf ∷ []) folder) trace = subst (WhereBothTold (KeepsFile 0) (Some (attached_trace (leaf ∷ []) folder))) told_is is.kept in
+    subst (λ t. AreAway trace t) t_is (subst (All (λ f. (has_name f.name (with_file leaf None folder) ≡ true) × (file_named f.name (with_file leaf None folder) ≡ None))) (sym (attached_same _ _ kept.only)) at_first) where
       at_first : AreAway (attached_trace (leaf ∷ []) folder) (with_file leaf None folder)
       at_first zero d h = away leaf folder (there folder refl)
-      at_first (suc k) d h = absurd (omega arith)
+      at_first (suc k) d h = absurd (omega (arith, h))
 
-pub contents_stay : (leaf : List ℕ) (folder lent after : Option (List Held)) (told : Option Trace) → IsLent leaf folder lent told → WhereTold folder AllIdle → WhereTold folder (λ f. has_name leaf f ≡ true) → WhereTold told (λ trace. after ≡ option_map (given_back trace) lent) → WhereTold folder (λ f. option_map contents_of after ≡ Some (contents_of f))
-contents_stay leaf folder lent after told is idle there back_is f folder_is =
-    let told_is : told ≡ Some (attached_trace (leaf ∷ []) f) = is.told_is ∙ ap (option_map (attached_trace (leaf ∷ []))) folder_is in
-    let lent_is : lent ≡ Some (with_file leaf None f) = is.folder_is ∙ ap (option_map (without (leaf ∷ []))) folder_is in
-    let trace = attached_trace (leaf ∷ []) f in
-    ap (option_map contents_of) (back_is trace told_is ∙ ap (option_map (given_back trace)) lent_is)
-    ∙ ap Some (back leaf f (file_of trace 0) (idle f folder_is) (there f folder_is) (seen-attached leaf f))
+-- the folder that has it back
+record IsBack (leaf : List ℕ) (folder : List Held) (after : Option (List Held)) (trace : Trace) : Type 0 where
+  kept : KeepsFile 0 (attached_trace (leaf ∷ []) folder) trace
+  after_is : after ≡ Some (with_file leaf (Some (file_of trace 0)) folder)
 
--- what was lent, and left as it was
-pub lent_as : (leaf : List ℕ) (old new : Hosted) (lent : Disk) (told : Option Trace) → Lends leaf old new lent → told ≡ lent.told → IsLent leaf old.folder new.folder told
-lent_as leaf old new lent told lends same = record {
+back : (leaf : List ℕ) (folder lent after : Option (List Held)) (told : Option Trace) → IsLent leaf folder lent told → WhereTold told (λ trace. after ≡ option_map (given_back trace) lent)
+    → (f : List Held) → folder ≡ Some f → (trace : Trace) × (told ≡ Some trace) × IsBack leaf f after trace
+back leaf None lent after told is back_is f folder_is = cc
+back leaf (Some g) lent after None is back_is f folder_is = absurd is.kept
+back leaf (Some g) lent after (Some trace) is back_is f folder_is =
+    let same : g ≡ f = same_Some g f folder_is in (
+      trace,
+      refl,
+      subst (λ x. IsBack leaf x after trace) same (record {
+        kept = is.kept;
+        after_is =
+            back_is trace refl ∙ ap (option_map (given_back trace)) is.folder_is
+            ∙ ap (λ files. Some (back_from 0 files trace (with_file leaf None g))) (attached_same _ _ (is.kept).only)
+            ∙ ap Some (twice leaf (Some (file_of trace 0)) None g);
+      }),
+    )
+
+pub opened_only : (leaf : List ℕ) (folder lent after : Option (List Held)) (told : Option Trace) → IsLent leaf folder lent told → WhereTold folder (λ f. has_name leaf f ≡ true) → WhereTold told (λ trace. after ≡ option_map (given_back trace) lent) → OnlyOpens leaf folder after
+opened_only leaf folder lent after told is there back_is f folder_is =
+    let b = back leaf folder lent after told is back_is f folder_is in
+    let named : seen (file_of b.0 0) ≡ seen_named leaf (with_file leaf (Some (file_of b.0 0)) f) = sym (ap (λ o. unwrap_or (option_map seen o) []) (put_in leaf f (file_of b.0 0) (there f folder_is))) in (
+      with_file leaf (Some (file_of b.0 0)) f,
+      (b.2).after_is,
+      record {
+        file = Some (file_of b.0 0);
+        contents = refl;
+        alike = subst (λ x. OpensAlike x (seen_named leaf (with_file leaf (Some (file_of b.0 0)) f))) (seen-attached leaf f) (subst (OpensAlike (seen (file_of (attached_trace (leaf ∷ []) f) 0))) named (b.2).kept.alike);
+      },
+    )
+
+-- what was lent
+pub lent_as : (leaf : List ℕ) (old new : Hosted) (lent : Disk) (told : Option Trace) → Lends leaf old new lent → WhereBothTold (KeepsFile 0) lent.told told → IsLent leaf old.folder new.folder told
+lent_as leaf old new lent told lends kept = record {
   folder_is = ap (λ h. h.folder) lends.host_is;
-  told_is = same ∙ ap (λ d. d.told) lends.disk_is;
+  kept = subst (λ t. WhereBothTold (KeepsFile 0) t told) (ap (λ d. d.told) lends.disk_is) kept;
 }
 
+unsealed_attached : (leaf : List ℕ) (folder : List Held) → is_sealed (file_of (attached_trace (leaf ∷ []) folder) 0) ≡ false
+unfolding file_of
+unsealed_attached leaf folder = refl
+
+unsealed_in : (leaf : List ℕ) (folder : Option (List Held)) → WhereTold (option_map (attached_trace (leaf ∷ [])) folder) (λ t. is_sealed (file_of t 0) ≡ false)
+unsealed_in leaf None t told = cc
+unsealed_in leaf (Some folder) t told = subst (λ (t : Trace). is_sealed (file_of t 0) ≡ false) (same_Some _ t told) (unsealed_attached leaf folder)
+
+-- it isn't sealed
+pub unsealed_lent : (leaf : List ℕ) (old new : Hosted) (lent : Disk) → Lends leaf old new lent → WhereTold lent.told (λ t. is_sealed (file_of t 0) ≡ false)
+unsealed_lent leaf old new lent lends = subst (λ told. WhereTold told (λ t. is_sealed (file_of t 0) ≡ false)) (sym (ap (λ d. d.told) lends.disk_is)) (unsealed_in leaf old.folder)
+
 -- a folder of which nothing is lent stays
-pub stays_unlent : (leaf : List ℕ) (old new : Hosted) (meaning : Meaning opening.Refusal) → LendsNone leaf old new meaning → WhereTold old.folder (λ f. option_map contents_of new.folder ≡ Some (contents_of f))
-stays_unlent leaf old new (refuses refusal) (is, none, same) f told = ap (λ h. option_map contents_of h.folder) same ∙ ap (option_map contents_of) told
-stays_unlent leaf old new (host_failed fault) failed f told = ap (λ h. option_map contents_of h.folder) failed.stays ∙ ap (option_map contents_of) told
-stays_unlent leaf old new (store_failed fault) h f told = absurd h
-stays_unlent leaf old new no_memory h f told = absurd h
+none_opened : (leaf : List ℕ) (folder : List Held) → IsOpenedIn leaf folder folder
+none_opened leaf folder = record {
+  file = file_named leaf folder;
+  contents = ap contents_of (sym (own leaf folder));
+  alike = record { settled = refl; opens = λ result h. h };
+}
+
+pub opens_none : (leaf : List ℕ) (before now : Option (List Held)) → now ≡ before → OnlyOpens leaf before now
+opens_none leaf before now same f told = (f, same ∙ told, none_opened leaf f)
+
+pub stays_unlent : (leaf : List ℕ) (old new : Hosted) (meaning : Meaning opening.Refusal) → LendsNone leaf old new meaning → OnlyOpens leaf old.folder new.folder
+stays_unlent leaf old new (refuses refusal) (is, none, same) = opens_none leaf old.folder new.folder (ap (λ h. h.folder) same)
+stays_unlent leaf old new (host_failed fault) failed = opens_none leaf old.folder new.folder (ap (λ h. h.folder) failed.stays)
+stays_unlent leaf old new (store_failed fault) h = absurd h
+stays_unlent leaf old new no_memory h = absurd h
 
 -- ---- nothing is unsynced
 
@@ -146,16 +220,66 @@ synced_attached : (leaf : List ℕ) (folder : List Held) → is_synced (file_of 
 unfolding file_of
 synced_attached leaf folder = refl
 
-pub idle_stays : (leaf : List ℕ) (folder lent after : Option (List Held)) (told : Option Trace) → IsLent leaf folder lent told → WhereTold folder AllIdle → WhereTold told (λ trace. after ≡ option_map (given_back trace) lent) → WhereTold folder (λ f. WhereTold after AllIdle)
-idle_stays leaf folder lent after told is idle back_is f folder_is a after_is =
-    let told_is : told ≡ Some (attached_trace (leaf ∷ []) f) = is.told_is ∙ ap (option_map (attached_trace (leaf ∷ []))) folder_is in
-    let lent_is : lent ≡ Some (with_file leaf None f) = is.folder_is ∙ ap (option_map (without (leaf ∷ []))) folder_is in
-    let trace = attached_trace (leaf ∷ []) f in
-    subst AllIdle (same_Some _ _ (sym (ap (option_map (given_back trace)) lent_is) ∙ sym (back_is trace told_is) ∙ after_is))
-    (back_idle leaf f (file_of trace 0) (idle f folder_is) (synced_attached leaf f))
+pub idle_stays : (leaf : List ℕ) (folder lent after : Option (List Held)) (told : Option Trace) → IsLent leaf folder lent told → WhereTold folder AllIdle → WhereBothTold (StaysSynced 0) (option_map (attached_trace (leaf ∷ [])) folder) told
+    → WhereTold told (λ trace. after ≡ option_map (given_back trace) lent) → WhereTold folder (λ f. WhereTold after AllIdle)
+idle_stays leaf folder lent after told is idle synced back_is f folder_is a after_is =
+    let b = back leaf folder lent after told is back_is f folder_is in
+    let stays : StaysSynced 0 (attached_trace (leaf ∷ []) f) b.0 =
+    subst (λ x. WhereBothTold (StaysSynced 0) x (Some b.0)) (ap (option_map (attached_trace (leaf ∷ []))) folder_is) (subst (WhereBothTold (StaysSynced 0) (option_map (attached_trace (leaf ∷ [])) folder)) b.1 synced) in
+    subst AllIdle (twice leaf (Some (file_of b.0 0)) None f ∙ same_Some _ _ (sym (b.2).after_is ∙ after_is)) (back_idle leaf f (file_of b.0 0) (idle f folder_is) (stays (synced_attached leaf f)))
+
+synced_by : (leaf : List ℕ) (old : Hosted) (new : Hosted) (lent disk : Disk) → Lends leaf old new lent → WhereBothTold (StaysSynced 0) lent.told disk.told → WhereBothTold (StaysSynced 0) (option_map (attached_trace (leaf ∷ [])) old.folder) disk.told
+synced_by leaf old new lent disk lends h = subst (λ x. WhereBothTold (StaysSynced 0) x disk.told) (ap (λ d. d.told) lends.disk_is) h
+
+both_synced : (old new : Option Trace) → WhereBothTold (IsOpened 0) old new → WhereBothTold (StaysSynced 0) old new
+both_synced None None h = tt
+both_synced None (Some y) h = absurd h
+both_synced (Some x) None h = absurd h
+both_synced (Some x) (Some y) h = h.synced
+
+-- nothing is unsynced, but where a call of the store failed
+module _ (leaf : List ℕ) (old mid : Hosted) (now : Option (List Held)) (lent disk : Disk) (lends : Lends leaf old mid lent) (kept : WhereBothTold (KeepsFile 0) lent.told disk.told) (idle : WhereTold old.folder AllIdle)
+    (back_is : WhereTold disk.told (λ trace. now ≡ option_map (given_back trace) mid.folder)) where
+  idle_if : WhereBothTold (StaysSynced 0) lent.told disk.told → WhereTold old.folder (λ f. WhereTold now AllIdle)
+  idle_if synced = idle_stays leaf old.folder mid.folder now disk.told (lent_as leaf old mid lent disk.told lends kept) idle (synced_by leaf old mid lent disk lends synced) back_is
+
+  pub idle_opened : HasOpened 0 lent disk → WhereTold old.folder (λ f. WhereTold now AllIdle)
+  idle_opened h = idle_if (both_synced lent.told disk.told h.told)
+
+  pub idle_by : {R : Type 0} (meaning : Meaning R) → LeavesOpened 0 lent disk meaning → UnlessStoreFailed meaning (WhereTold old.folder (λ f. WhereTold now AllIdle))
+  idle_by (refuses refusal) h = idle_opened h
+  idle_by (host_failed fault) h = absurd h
+  idle_by (store_failed fault) h = tt
+  idle_by no_memory h = idle_if h.told
+
+  pub idle_dumped : (result : Result (List ℕ) DumpRefusal) → LeavesDump lent disk result → OnOk result (WhereTold old.folder (λ f. WhereTold now AllIdle))
+  idle_dumped (Ok bytes) h = idle_opened h
+  idle_dumped (Err refusal) h = tt
+
+  pub idle_undumped : (result : Result (List ℕ) DumpRefusal) → LeavesDump lent disk result → IfErr result (λ refusal. UnlessStoreFailed (meaning_of_dump refusal) (WhereTold old.folder (λ f. WhereTold now AllIdle)))
+  idle_undumped (Ok bytes) h = tt
+  idle_undumped (Err refusal) h = idle_by (meaning_of_dump refusal) h
+
+  pub idle_told : (result : Result Parts OpenRefusal) → LeavesFile 0 lent disk result → OnOk result (WhereTold old.folder (λ f. WhereTold now AllIdle))
+  idle_told (Ok parts) h = idle_opened h
+  idle_told (Err refusal) h = tt
+
+  pub idle_untold : (result : Result Parts OpenRefusal) → LeavesFile 0 lent disk result → IfErr result (λ refusal. UnlessStoreFailed (meaning_of refusal) (WhereTold old.folder (λ f. WhereTold now AllIdle)))
+  idle_untold (Ok parts) h = tt
+  idle_untold (Err refusal) h = idle_by (meaning_of refusal) h
+
+pub unless : {R : Type 0} (meaning : Meaning R) (P : Type 0) → P → UnlessStoreFailed meaning P
+unless (refuses refusal) P h = h
+unless (host_failed fault) P h = h
+unless (store_failed fault) P h = tt
+unless no_memory P h = h
 
 pub idle_unlent : (leaf : List ℕ) (old new : Hosted) (meaning : Meaning opening.Refusal) → LendsNone leaf old new meaning → WhereTold old.folder AllIdle → WhereTold old.folder (λ f. WhereTold new.folder AllIdle)
 idle_unlent leaf old new (refuses refusal) (is, none, same) idle f told a after = idle a (sym (ap (λ h. h.folder) same) ∙ after)
 idle_unlent leaf old new (host_failed fault) failed idle f told a after = idle a (sym (ap (λ h. h.folder) failed.stays) ∙ after)
 idle_unlent leaf old new (store_failed fault) h idle f told a after = absurd h
 idle_unlent leaf old new no_memory h idle f told a after = absurd h
+
+pub unless_err : {A E R : Type 0} (meaning : E → Meaning R) (result : Result A E) {P : Type 0} → P → IfErr result (λ e. UnlessStoreFailed (meaning e) P)
+unless_err meaning (Ok x) h = tt
+unless_err meaning (Err e) {P} h = unless (meaning e) P h

@@ -1,6 +1,7 @@
 mod Sending
 mod Lent
 mod Found
+mod Looking
 mod Said
 mod OneAnswer
 mod MadeShow

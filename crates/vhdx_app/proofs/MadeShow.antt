@@ -1,10 +1,13 @@
 -- New files are opened, and show their disks.
-use Rattle.std.proofs.Common.{◌≡◌, ℕ, ◌+◌, ◌*◌, ◌/◌, ◌<◌, ◌≤◌, true, false, List, length, Some, Ok, sym, ap, ◌∙◌, arith}
+use Rattle.std.proofs.Common.{◌≡◌, ℕ, ◌+◌, ◌*◌, ◌/◌, ◌<◌, ◌≤◌, true, false, List, length, Option, Some, Ok, sym, ap, subst, ◌∙◌, arith}
 use Rattle.vx_base.specs.declared.parts.Parts.{Parts}
 use Rattle.vx_base.specs.Fields.{zeros}
 use Rattle.vhdx_format.specs.Fields.{bytes_at}
 use Rattle.vhdx_format.specs.FileParts as format
-use Rattle.vhdx_format.specs.FileParts.{read_parts}
+use Rattle.vhdx_format.specs.FileParts.{settled_bytes, settled_of}
+use Rattle.vhdx_format.specs.Rules.{◌>>=◌}
+use Rattle.std.specs.Result.{result_unwrap_or}
+use Rattle.layer_file.specs.Sectors.{HasSectors}
 use Rattle.vhdx_format.specs.MadeFiles.{base_metadata, dynamic_file, fixed_file_holding, fixed_len}
 use Rattle.vhdx_format.specs.MadeLaws.{IsMakeable, OpensAs, made_parts}
 use Rattle.vhdx_format.proofs.MadeOpen.{dynamic_files_open, fixed_files_open}
@@ -22,13 +25,18 @@ zeros_len : (n : ℕ) → length (zeros n) ≡ n
 unfolding zeros
 zeros_len n = length-replicate n 0
 
+-- a new file stands for its own bytes
+made_settled : (file : List ℕ) (parts : Parts) (sector : ℕ → Option (List ℕ)) → OpensAs file parts sector → settled_bytes file ≡ file
+unfolding settled_bytes
+made_settled file parts sector opens = ap (λ r. result_unwrap_or (r >>= λ h. Ok (settled_of h file)) file) opens.head ∙ opens.settled
+
 shows : (file : List ℕ) (parts : Parts) (sector : ℕ → List ℕ) (bytes : ℕ → ℕ → List ℕ) → OpensAs file parts (λ s. Some (sector s)) → Opens file (Ok parts)
     → ((first count : ℕ) → first + count ≤ parts.geometry.sectors → length (bytes first count) ≡ 512 * count)
     → ((first count i : ℕ) → i < count → bytes_at (bytes first count) (512 * i) 512 ≡ sector (first + i))
     → Shows file parts.geometry.sectors bytes
 shows file parts sector bytes opens is len each = record {
   on_disk = λ first count some most within. found parts (bytes first count) is some most within
-      (record { len = len first count within; each = λ i below. opens.layer (first + i) (omega (arith, within, below)) ∙ ap Some (sym (each first count i below)) });
+      (subst (λ b. HasSectors parts b first count (bytes first count)) (sym (made_settled file parts (λ s. Some (sector s)) opens)) (record { len = len first count within; each = λ i below. opens.layer (first + i) (omega (arith, within, below)) ∙ ap Some (sym (each first count i below)) }));
   beyond = λ first count some most past. out_of_range parts is some most past;
 }
 

@@ -5,7 +5,7 @@ use Rattle.std.proofs.lemmas.List.{drop-drop, length-drop, take-append-drop}
 use Rattle.vx_base.specs.Fields.{bytes_at}
 use Rattle.store_model.specs.Folder.{Held, seen_named}
 use Rattle.vx_base.specs.declared.parts.Parts.{Parts}
-use Rattle.vhdx_format.specs.FileParts.{shape_of}
+use Rattle.vhdx_format.specs.FileParts.{settled_bytes, shape_of}
 use Rattle.vhdx_format.specs.Layers.{layer_sector}
 use Rattle.file_open.specs.Opening.{Opens}
 use Rattle.file_open.specs.Opening as opening
@@ -78,7 +78,7 @@ finds_in_once file s n _ _ (found p bytes e h k l m) (too_long q f o) = absurd (
 finds_in_once file s n _ _ (found p bytes e h k l m) (out_of_range q f o t u) = absurd (omega (arith, l, u, same_count p q (same_opened file p q e f)))
 finds_in_once file s n _ _ (found p bytes e h k l m) (found q others f o t u w) =
     ap Ok (same_bytes n bytes others m.len w.len
-    (λ i below. same_Some _ _ (sym (m.each i below) ∙ ap (λ (x : Parts). layer_sector (shape_of x) file (s + i)) (same_opened file p q e f) ∙ w.each i below)))
+    (λ i below. same_Some _ _ (sym (m.each i below) ∙ ap (λ (x : Parts). layer_sector (shape_of x) (settled_bytes file) (s + i)) (same_opened file p q e f) ∙ w.each i below)))
 
 pub finds_once : (folder : List Held) (leaf : List ℕ) (s n : ℕ) (a b : Result (List ℕ) Refusal) → Finds folder leaf s n a → Finds folder leaf s n b → a ≡ b
 finds_once folder leaf s n _ _ (missing e) (missing f) = refl

@@ -13,12 +13,13 @@ use Rattle.vhdx_app.specs.Answers.{fault_line, sector_lines}
 use Rattle.make_file.specs.Makes.{Outside}
 use Rattle.make_file.specs.declared.refusal.MakeRefusal.{MakeRefusal}
 use Rattle.vhdx_app.specs.Making.{made_line}
-use Rattle.vhdx_app.specs.Causes.{meaning_of_make, of_file}
+use Rattle.vhdx_app.specs.Causes.{UnlessStoreFailed, meaning_of_make, of_file}
 use Rattle.vhdx_app.specs.Dump.{Finds}
-use Rattle.vhdx_app.specs.Printed.{Ended, IsDumpText, IsInfoText, IsMakeText, IsText, Printed, RefusesDump, RefusesFile, Reports, Sent, ShowsFile, ShowsSectors, cut, of_host, of_store, whole}
+use Rattle.vhdx_app.specs.Printed.{Ended, IsDumpText, IsInfoText, IsMakeText, IsText, Printed, RefusesDump, RefusesFile, Reports, Sent, Shows, ShowsFile, ShowsSectors, cut, of_host, of_store, whole}
 use Rattle.vhdx_app.specs.Info.{OpensIn, info_line}
 use Rattle.vhdx_app.specs.Refusals.{Refusal}
 use Rattle.command_line.specs.Requests.{File, plain}
+use Rattle.command_line.specs.Requests as wish
 use Rattle.command_line.specs.Words.{Asks, AsksNothing}
 use Rattle.command_line.specs.declared.request.Request.{Request}
 use Rattle.vhdx_app.specs.declared.status.Status.{Status}
@@ -104,6 +105,23 @@ module _ (shows : List ℕ → Type 0) (is_refusal : List ℕ → Refusal → Ty
       ended_by _ before faults sunk after old new Fault result _ (record { said = of_store fault.count counts.1 refl; rose = λ h. counts.0; quiet = λ h. absurd (h refl); command = λ h. cc }) sent
   refused_ended file no_memory so counts sent = no_memory_ended counts sent
 
+-- what is so unless a call of the store failed is so unless a fault was said
+is_fault : (before after : Option (List ℕ)) (old new : ℕ) (text : List ℕ) (status : Status) → Sent before after old new Fault text status → status ≡ Fault
+is_fault before after old new text status (whole is sent same) = is
+is_fault before after old new text status (cut is n sent rose) = is
+
+pub idle_reported : {P : Type 0} (file : List ℕ) (meaning : Meaning Refusal) (before after : Option (List ℕ)) (old new : ℕ) (status : Status) → UnlessStoreFailed meaning P → Reports file meaning before after old new status → status ≢ Fault → P
+idle_reported file (refuses refusal) before after old new status h reports fault = h
+idle_reported file (host_failed fault_) before after old new status h reports fault = h
+idle_reported file (store_failed fault_) before after old new status h reports fault = absurd (fault (is_fault before after old new _ status reports))
+idle_reported file no_memory before after old new status h reports fault = h
+
+pub unless_of_file : (P : Type 0) (meaning : Meaning opening.Refusal) → UnlessStoreFailed meaning P → UnlessStoreFailed (of_file meaning) P
+unless_of_file P (refuses refusal) h = h
+unless_of_file P (host_failed fault) h = h
+unless_of_file P (store_failed fault) h = h
+unless_of_file P no_memory h = h
+
 -- a file that isn't opened
 pub counts_file : (before now : ℕ) (meaning : Meaning opening.Refusal) → CountsBy before now meaning → CountsBy before now (of_file meaning)
 counts_file before now (refuses refusal) h = h
@@ -162,3 +180,7 @@ asked words told request is h = subst (λ r. MatchOption r (AsksNothing words) (
 
 pub asked_none : (words : List (List ℕ)) (told : Option Request) → told ≡ None → MatchOption told (AsksNothing words) (λ r. Asks words (plain r)) → AsksNothing words
 asked_none words told is h = subst (λ r. MatchOption r (AsksNothing words) (λ r. Asks words (plain r))) is h
+
+pub shown_none : (words : List (List ℕ)) (leaf : List ℕ) → AsksNothing words → Shows words leaf → ⊥
+shown_none words leaf none (inl (first, count, is)) = none (wish.dump leaf first count) is
+shown_none words leaf none (inr is) = none (wish.info leaf) is

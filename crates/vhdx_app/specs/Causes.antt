@@ -2,7 +2,8 @@
 use Rattle.std.specs.Prelude.{ℕ, List, Option, Result, Ok, Err}
 use Rattle.store_model.specs.Disk.{Disk}
 use Rattle.store_model.specs.Folder.{Held}
-use Rattle.file_open.specs.Causes.{CountsBy, IfCause, LeavesBy, Meaning, refuses, host_failed, store_failed, no_memory, cause_in, meaning_of}
+use Rattle.file_open.specs.Causes.{CountsBy, IfCause, Meaning, refuses, host_failed, store_failed, no_memory, cause_in, meaning_of}
+use Rattle.file_open.specs.Effects.{HasOpened, LeavesOpened}
 use Rattle.file_open.specs.Opening as opening
 use Rattle.vhdx_app.specs.Dump.{Finds, FindsIn}
 use Rattle.vhdx_app.specs.Refusals.{Refusal, OfFile}
@@ -42,8 +43,16 @@ AnswersDump folder leaf first count (Err refusal) = IfCause (Finds folder leaf f
 abbrev pub Counts : ℕ → ℕ → DumpRefusal → Type 0
 Counts before now refusal = CountsBy before now (meaning_of_dump refusal)
 
-abbrev pub LeavesDump : Disk → Disk → DumpRefusal → Type 0
-LeavesDump old new refusal = LeavesBy 0 old new (meaning_of_dump refusal)
+abbrev pub LeavesDump : Disk → Disk → Result (List ℕ) DumpRefusal → Type 0
+LeavesDump old new (Ok bytes) = HasOpened 0 old new
+LeavesDump old new (Err refusal) = LeavesOpened 0 old new (meaning_of_dump refusal)
+
+-- this is so, but where a call of the store failed
+abbrev pub UnlessStoreFailed : {R : Type 0} → Meaning R → Type 0 → Type 0
+UnlessStoreFailed (refuses refusal) P = P
+UnlessStoreFailed (host_failed fault) P = P
+UnlessStoreFailed (store_failed fault) P = Unit {0}
+UnlessStoreFailed no_memory P = P
 
 -- what a refusal of making says
 abbrev pub meaning_of_make : MakeRefusal → Meaning Refusal

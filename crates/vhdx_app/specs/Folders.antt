@@ -2,8 +2,9 @@
 use Rattle.std.specs.Prelude.{◌≡◌, ◌⊎◌, ℕ, true, false, List, [], ◌∷◌, ◌++◌, map, Option, Some, option_map, All}
 use Rattle.store_model.specs.Disk.{Disk, WhereTold}
 use Rattle.store_model.specs.File.{File, seen, is_synced}
-use Rattle.store_model.specs.Folder.{Held, Hosted, HostFailed, has_name, attached_trace, without}
+use Rattle.store_model.specs.Folder.{Held, Hosted, HostFailed, has_name, attached_trace, seen_named, with_file, without}
 use Rattle.file_open.specs.Causes.{Meaning, refuses, host_failed, store_failed, no_memory}
+use Rattle.file_open.specs.Effects.{OpensAlike}
 use Rattle.file_open.specs.Opening.{Refusal, FileMissing}
 
 -- a file's name, and what a read gives of it, if it isn't away
@@ -22,6 +23,16 @@ AllIdle folder = All (λ held. (file : File) × (held.file ≡ Some file) × (is
 -- the folder's contents are as they were
 abbrev pub SameContents : Option (List Held) → Option (List Held) → Type 0
 SameContents before now = WhereTold before (λ folder. option_map contents_of now ≡ Some (contents_of folder))
+
+-- The folder has the files that it had. The one of this name is opened as before: what its log held unapplied may have been
+-- replayed, in part where a call failed. All others hold what they held.
+pub record IsOpenedIn (leaf : List ℕ) (folder after : List Held) : Type 0 where
+  pub file : Option File
+  pub contents : contents_of after ≡ contents_of (with_file leaf file folder)
+  pub alike : OpensAlike (seen_named leaf folder) (seen_named leaf after)
+
+abbrev pub OnlyOpens : List ℕ → Option (List Held) → Option (List Held) → Type 0
+OnlyOpens leaf before now = WhereTold before (λ folder. (after : List Held) × (now ≡ Some after) × IsOpenedIn leaf folder after)
 
 -- all that was there is as it was, and there is at most one more file, of this name
 abbrev pub KeepsOthers : List ℕ → Option (List Held) → Option (List Held) → Type 0

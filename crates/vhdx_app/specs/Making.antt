@@ -1,5 +1,5 @@
 -- What `make` makes.
-use Rattle.std.specs.Prelude.{◌≡◌, ◌≤◌, ◌^◌, ◌*◌, ℕ, true, List, [], ◌∷◌, ◌++◌, length, codes, decimal, Some, None, option_map, Ok, Err}
+use Rattle.std.specs.Prelude.{◌≡◌, ◌≤◌, ◌^◌, ◌*◌, ℕ, true, List, [], ◌∷◌, ◌++◌, length, codes, decimal, Option, Some, None, option_map, Ok, Err}
 use Rattle.command_line.specs.Requests.{File}
 use Rattle.command_line.specs.Requests as new
 use Rattle.file_open.specs.Opening as opening
@@ -7,12 +7,12 @@ use Rattle.make_file.specs.Identifiers.{Draws, first_unfit}
 use Rattle.make_file.specs.Makes.{IsFree, Making, Outside, child_making, dynamic_making, fixed_making}
 use Rattle.make_file.specs.declared.drawing.FileIds.{FileIds}
 use Rattle.store_model.specs.Disk.{WhereTold}
-use Rattle.store_model.specs.Folder.{has_name}
+use Rattle.store_model.specs.Folder.{Held, has_name}
 use Rattle.vhdx_format.specs.AllocationTables.{IsBlockSize}
 use Rattle.vhdx_format.specs.Fields.{megabyte}
 use Rattle.vx_base.specs.Names.{IsName}
 use Rattle.vx_base.specs.declared.parts.Parts.{Parts}
-use Rattle.vhdx_app.specs.Folders.{contents_of}
+use Rattle.vhdx_app.specs.Folders.{KeepsOthers, OnlyOpens, contents_of}
 use Rattle.vhdx_app.specs.Info.{OpensIn}
 use Rattle.vhdx_app.specs.Refusals.{Refusal, OfFile, EmptyRange, TooLong, OutOfRange, NameTaken, IdUnfit}
 
@@ -30,12 +30,26 @@ IsMaking name (new.dynamic sectors block) before ids making = making ≡ dynamic
 IsMaking name (new.child parent block) before ids making =
     (parts : Parts) × WhereTold before.host.folder (λ folder. OpensIn folder parent (Ok parts)) × (making ≡ child_making name ids parent parts block)
 
+-- What there is when the file itself is made: of a child its parent was opened; else there is what there was.
+abbrev pub LooksAt : File → Option (List Held) → Option (List Held) → Type 0
+LooksAt (new.fixed sectors block) before mid = mid ≡ before
+LooksAt (new.dynamic sectors block) before mid = mid ≡ before
+LooksAt (new.child parent block) before mid = OnlyOpens parent before mid
+
+-- then all that was there is as it was, and there is at most one more file, of this name
+pub record AddsOnly (name : List ℕ) (file : File) (before now : Option (List Held)) : Type 0 where
+  pub mid : Option (List Held)
+  pub looked : LooksAt file before mid
+  pub others : KeepsOthers name mid now
+
 -- The name was free and the identifiers were drawn, none of them unfit; the folder has the file at its end.
-pub record HasMadeFile (making : Making) (before now : Outside) : Type 0 where
+pub record HasMadeFile (making : Making) (file : File) (before now : Outside) : Type 0 where
   pub free : IsFree making.name before.host
   pub drawn : Draws making.drawn before.drawn now.drawn
   pub fit : first_unfit making.known making.drawn ≡ None
-  pub contents : WhereTold before.host.folder (λ folder. option_map contents_of now.host.folder ≡ Some (contents_of folder ++ record { name = making.name; bytes = Some making.bytes } ∷ []))
+  pub mid : Option (List Held)
+  pub looked : LooksAt file before.host.folder mid
+  pub contents : WhereTold mid (λ folder. option_map contents_of now.host.folder ≡ Some (contents_of folder ++ record { name = making.name; bytes = Some making.bytes } ∷ []))
 
 -- the folder has the name, and no identifier was drawn
 pub record IsTaken (making : Making) (before now : Outside) : Type 0 where
@@ -57,7 +71,7 @@ pub record ShowsMade (name : List ℕ) (file : File) (before now : Outside) (tex
   pub ids : FileIds
   pub making : Making
   pub is : IsMaking name file before ids making
-  pub made : HasMadeFile making before now
+  pub made : HasMadeFile making file before now
   pub text_is : text ≡ made_line name (length making.bytes)
 
 -- what refuses it, and the file that is named: the parent isn't opened, the name is taken, or an identifier is unfit

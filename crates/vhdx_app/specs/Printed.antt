@@ -2,6 +2,7 @@
 use Rattle.std.specs.Prelude.{◌≡◌, ◌≢◌, ◌⊎◌, ℕ, ◌<◌, ◌*◌, List, length, Option, Ok, Err, take, codes}
 use Rattle.std.specs.Io.KnownBytes.{Appends}
 use Rattle.command_line.specs.Requests.{File}
+use Rattle.command_line.specs.Words.{IsDump, IsInfo}
 use Rattle.make_file.specs.Makes.{Outside}
 use Rattle.store_model.specs.Cause.{Rose}
 use Rattle.store_model.specs.Disk.{WhereTold}
@@ -10,9 +11,9 @@ use Rattle.vx_base.specs.declared.parts.Parts.{Parts}
 use Rattle.vhdx_app.specs.Answers.{sector_lines, fault_line}
 use Rattle.file_open.specs.Causes.{Meaning, refuses, host_failed, store_failed, no_memory}
 use Rattle.vhdx_app.specs.Dump.{Finds}
-use Rattle.vhdx_app.specs.Folders.{AllIdle, KeepsOthers, SameContents}
+use Rattle.vhdx_app.specs.Folders.{AllIdle}
 use Rattle.vhdx_app.specs.Info.{OpensIn, info_line}
-use Rattle.vhdx_app.specs.Making.{RefusesMaking, ShowsMade}
+use Rattle.vhdx_app.specs.Making.{AddsOnly, LooksAt, RefusesMaking, ShowsMade}
 use Rattle.vhdx_app.specs.Refusals.{Refusal, OfFile, EmptyRange, TooLong, OutOfRange, NameTaken, IdUnfit, refusal_line}
 use Rattle.vhdx_app.specs.declared.status.Status.{Status}
 use Rattle.vhdx_app.specs.declared.status.Status.TheVariants.{Done, Refused, Usage, Fault, NoMemory, Findings}
@@ -76,6 +77,10 @@ IsInfoText folder leaf = IsText (ShowsFile folder leaf) (RefusesFile folder leaf
 abbrev pub IsMakeText : List ℕ → File → Outside → Outside → Status → List ℕ → Type 0
 IsMakeText name new before now = IsText (ShowsMade name new before now) (RefusesMaking name new before now) now.host.faults
 
+-- the words ask for what a file shows: its sectors, or what it is
+abbrev pub Shows : List (List ℕ) → List ℕ → Type 0
+Shows words leaf = ((first : ℕ) × (count : ℕ) × IsDump words leaf first count) ⊎ IsInfo words leaf
+
 -- A text was sent to the sink: whole, and then the status is the one that was meant; or cut by a fault of the sink.
 pub data Sent (before after : Option (List ℕ)) (old new : ℕ) (meant : Status) (text : List ℕ) (status : Status) : Type 0 where
   whole : status ≡ meant → Appends before after text → new ≡ old → Sent before after old new meant text status
@@ -102,12 +107,12 @@ pub record Ended (is_text : Status → List ℕ → Type 0) (faults_before fault
   pub quiet : status ≢ Fault → (faults ≡ faults_before) × (new ≡ old)
   pub command : status ≢ Usage
 
--- `make` has ended. Where it made no file and met no fault the files are as they were, and after any other end but that of
--- a fault nothing of any file is unsynced.
+-- `make` has ended. Where it made no file and met no fault there is what it looked at, and after any end but that of a fault
+-- nothing of any file is unsynced.
 pub record MakeEnded (name : List ℕ) (file : File) (before now : Outside) (sunk after : Option (List ℕ)) (old new : ℕ) (status : Status) : Type 0 where
   pub ended : Ended (IsMakeText name file before now) before.host.faults now.host.faults sunk after old new status
-  pub kept : status ≢ Done → status ≢ Fault → SameContents before.host.folder now.host.folder
-  pub others : KeepsOthers name before.host.folder now.host.folder
+  pub kept : status ≢ Done → status ≢ Fault → LooksAt file before.host.folder now.host.folder
+  pub others : AddsOnly name file before.host.folder now.host.folder
   pub idle : status ≢ Fault → WhereTold before.host.folder (λ folder. WhereTold now.host.folder AllIdle)
 
 -- this text was sent with status 0, or want of memory was told in its place

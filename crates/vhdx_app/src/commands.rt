@@ -1,10 +1,10 @@
 //! The commands that show what files hold: each prints its answer.
 
-ghost use Rattle.std.specs.Prelude.{◌≡◌, IfOk};
+ghost use Rattle.std.specs.Prelude.{◌≡◌, ◌≢◌, IfOk};
 ghost use Rattle.store_model.specs.Disk.{WhereTold};
 ghost use Rattle.vhdx_app.specs.Answers.{sector_lines};
 ghost use Rattle.vhdx_app.specs.Dump.{IsGiven};
-ghost use Rattle.vhdx_app.specs.Folders.{AllIdle, SameContents};
+ghost use Rattle.vhdx_app.specs.Folders.{AllIdle, OnlyOpens};
 ghost use Rattle.vhdx_app.specs.Printed.{Ended, IsDumpText, IsInfoText, Sent};
 ghost use Rattle.vx_base.specs.Names.{IsName};
 
@@ -54,8 +54,8 @@ pub fn dump<H: Host, K: Sink>(
     requires idle { WhereTold (H.hosted host.old).folder AllIdle }
     requires name { IsName leaf.now }
     ensures ended { Ended (IsDumpText (H.hosted host.old).folder leaf.now first count (H.hosted host.new).faults) (H.hosted host.old).faults (H.hosted host.new).faults (K.written out.old) (K.written out.new) (K.faults out.old) (K.faults out.new) result }
-    ensures idle { WhereTold (H.hosted host.old).folder (λ folder. WhereTold (H.hosted host.new).folder AllIdle) }
-    ensures stays { SameContents (H.hosted host.old).folder (H.hosted host.new).folder }
+    ensures idle { result ≢ Status.Fault → WhereTold (H.hosted host.old).folder (λ folder. WhereTold (H.hosted host.new).folder AllIdle) }
+    ensures stays { OnlyOpens leaf.now (H.hosted host.old).folder (H.hosted host.new).folder }
 {
     let name = match name_of(alloc, leaf) {
         Ok(name) => name,
@@ -72,8 +72,8 @@ pub fn info<H: Host, K: Sink>(alloc: Global, host: &mut H, out: &mut K, leaf: &s
     requires idle { WhereTold (H.hosted host.old).folder AllIdle }
     requires name { IsName leaf.now }
     ensures ended { Ended (IsInfoText (H.hosted host.old).folder leaf.now (H.hosted host.new).faults) (H.hosted host.old).faults (H.hosted host.new).faults (K.written out.old) (K.written out.new) (K.faults out.old) (K.faults out.new) result }
-    ensures idle { WhereTold (H.hosted host.old).folder (λ folder. WhereTold (H.hosted host.new).folder AllIdle) }
-    ensures stays { SameContents (H.hosted host.old).folder (H.hosted host.new).folder }
+    ensures idle { result ≢ Status.Fault → WhereTold (H.hosted host.old).folder (λ folder. WhereTold (H.hosted host.new).folder AllIdle) }
+    ensures stays { OnlyOpens leaf.now (H.hosted host.old).folder (H.hosted host.new).folder }
 {
     let name = match name_of(alloc, leaf) {
         Ok(name) => name,

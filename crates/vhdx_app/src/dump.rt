@@ -1,16 +1,18 @@
 //! Sectors of the disk of a file without a parent.
 
-ghost use Rattle.std.specs.Prelude.{◌≡◌, ◌<◌, ◌≤◌, ◌+◌, ◌*◌, ◌^◌, length, true, None, Some, option_map, IfErr, IfOk, OnOk};
+ghost use Rattle.std.specs.Prelude.{◌≡◌, ◌<◌, ◌≤◌, ◌+◌, ◌*◌, ◌^◌, length, false, true, None, Some, option_map, IfErr, IfOk, OnOk};
 ghost use Rattle.block_table.specs.Tables.{HasTable};
 ghost use Rattle.vhdx_format.specs.FileParts.{shape_of, taken_areas};
 ghost use Rattle.vhdx_format.specs.HeldBlocks.{IsSoundTable};
 ghost use Rattle.layer_file.specs.Sectors.{HasSectors};
-ghost use Rattle.store_model.specs.Disk.{WhereTold};
-ghost use Rattle.store_model.specs.File.{seen};
+ghost use Rattle.store_model.specs.Disk.{WhereTold, WhereBothTold};
+ghost use Rattle.store_model.specs.File.{is_sealed, seen};
 ghost use Rattle.store_model.specs.Trace.{file_of};
-ghost use Rattle.vhdx_app.specs.Causes.{AnswersDump, AnswersIn, Counts, LeavesDump, cause_of_dump};
+ghost use Rattle.vhdx_app.specs.Causes.{AnswersDump, AnswersIn, Counts, LeavesDump, UnlessStoreFailed, cause_of_dump, meaning_of_dump};
+ghost use Rattle.file_open.specs.Causes.{LeavesBy};
+ghost use Rattle.file_open.specs.Effects.{KeepsFile};
 ghost use Rattle.vhdx_app.specs.Dump.{IsGiven};
-ghost use Rattle.vhdx_app.specs.Folders.{AllIdle, SameContents};
+ghost use Rattle.vhdx_app.specs.Folders.{AllIdle, OnlyOpens};
 
 use crate::folder::lend;
 use crate::refusal::DumpRefusal;
@@ -50,7 +52,7 @@ fn sectors_of<S: Store>(
     ensures len { IfOk result (λ bytes. length bytes ≡ 512 * count) }
     ensures outside { IfErr result (λ refusal. cause_of_dump refusal ≡ None) }
     ensures stays { OnOk result (S.disk store.new ≡ S.disk store.old) }
-    ensures err { IfErr result (LeavesDump (S.disk store.old) (S.disk store.new)) }
+    ensures err { IfErr result (λ refusal. LeavesBy 0 (S.disk store.old) (S.disk store.new) (meaning_of_dump refusal)) }
 {
     let mut bytes = zeroed(alloc, SECTOR * count)?;
     read_sectors(store, 0, parts, first, count, bytes.as_mut_slice())?;
@@ -64,12 +66,12 @@ fn look<S: Store>(
     first: u64,
     count: u64,
 ) -> Result<Bytes, DumpRefusal>
-    requires { 0 < (S.disk store.old).files }
+    requires there { 0 < (S.disk store.old).files }
+    requires unsealed { WhereTold (S.disk store.old).told (λ trace. is_sealed (file_of trace 0) ≡ false) }
     ensures answer { WhereTold (S.disk store.old).told (λ trace. AnswersIn (seen (file_of trace 0)) first count result) }
     ensures given { IfOk result (IsGiven first count) }
-    ensures stays { OnOk result (S.disk store.new ≡ S.disk store.old) }
-    ensures err { IfErr result (LeavesDump (S.disk store.old) (S.disk store.new)) }
-    ensures told { (S.disk store.new).told ≡ (S.disk store.old).told }
+    ensures store { LeavesDump (S.disk store.old) (S.disk store.new) result }
+    ensures kept { WhereBothTold (KeepsFile 0) (S.disk store.old).told (S.disk store.new).told }
 {
     let parts = open_file(alloc, store, 0)?;
     let sectors = parts.geometry.sectors;
@@ -92,7 +94,7 @@ fn look<S: Store>(
     Ok(sectors_of(alloc, store, &parts, first, count)?)
 }
 
-/// Reads sectors of the disk of the file of this name; the files stay.
+/// Reads sectors of the disk of the file of this name, which is opened.
 pub fn find<H: Host>(
     alloc: Global,
     host: &mut H,
@@ -102,8 +104,9 @@ pub fn find<H: Host>(
 ) -> Result<Bytes, DumpRefusal>
     requires idle { WhereTold (H.hosted host.old).folder AllIdle }
     ensures answer { WhereTold (H.hosted host.old).folder (λ folder. AnswersDump folder leaf first count result) }
-    ensures idle { WhereTold (H.hosted host.old).folder (λ folder. WhereTold (H.hosted host.new).folder AllIdle) }
-    ensures stays { SameContents (H.hosted host.old).folder (H.hosted host.new).folder }
+    ensures idle { OnOk result (WhereTold (H.hosted host.old).folder (λ folder. WhereTold (H.hosted host.new).folder AllIdle)) }
+    ensures idle_unless { IfErr result (λ refusal. UnlessStoreFailed (meaning_of_dump refusal) (WhereTold (H.hosted host.old).folder (λ folder. WhereTold (H.hosted host.new).folder AllIdle))) }
+    ensures stays { OnlyOpens leaf (H.hosted host.old).folder (H.hosted host.new).folder }
     ensures given { IfOk result (IsGiven first count) }
     ensures quiet { OnOk result ((H.hosted host.new).faults ≡ (H.hosted host.old).faults) }
     ensures counts { IfErr result (Counts (H.hosted host.old).faults (H.hosted host.new).faults) }

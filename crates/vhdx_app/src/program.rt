@@ -6,8 +6,9 @@ ghost use Rattle.command_line.specs.Requests.{File};
 ghost use Rattle.make_file.specs.Makes.{outside};
 ghost use Rattle.store_model.specs.Cause.{Rose};
 ghost use Rattle.store_model.specs.Disk.{WhereTold};
-ghost use Rattle.vhdx_app.specs.Folders.{AllIdle, KeepsOthers, SameContents};
-ghost use Rattle.vhdx_app.specs.Printed.{IsDumpText, IsInfoText, IsMakeText, Printed, PrintedText, Sent};
+ghost use Rattle.vhdx_app.specs.Folders.{AllIdle, OnlyOpens, SameContents};
+ghost use Rattle.vhdx_app.specs.Making.{AddsOnly, LooksAt};
+ghost use Rattle.vhdx_app.specs.Printed.{IsDumpText, IsInfoText, IsMakeText, Printed, PrintedText, Sent, Shows};
 
 use crate::commands::{dump, info};
 use crate::making::make;
@@ -21,8 +22,8 @@ use store_model::{Gate, Host, Ids, Sink, Source};
 use vx_base::NoRoom;
 
 /// Runs the command that the words name, and prints its answer to the sink. The words `dump LEAF FIRST COUNT` print the
-/// sectors from FIRST on of the disk of the file LEAF, which has no parent; `info LEAF` prints what the
-/// file is; `make` makes a file; `--help` and `--version` print what they say.
+/// sectors from FIRST on of the disk of the file LEAF, which has no parent; `info LEAF` prints what the file is; both replay
+/// what its log holds unapplied. `make` makes a file; `--help` and `--version` print what they say.
 pub fn run<R: Threads + Wait, H: Host, S: Source, K: Sink, I: Ids, G: Gate>(
     _rt: &R,
     alloc: Global,
@@ -50,11 +51,12 @@ pub fn run<R: Threads + Wait, H: Host, S: Source, K: Sink, I: Ids, G: Gate>(
     ensures rose { result ≡ Status.Fault → Rose (H.hosted host.old).faults (H.hosted host.new).faults ⊎ Rose (K.faults out.old) (K.faults out.new) }
     ensures quiet { result ≢ Status.Fault → ((H.hosted host.new).faults ≡ (H.hosted host.old).faults) × (K.faults out.new ≡ K.faults out.old) }
 
-    // What stays: all that is read, and all but the file that is made.
-    ensures stays { ((name : List ℕ) (file : File) → Makes (map string_bytes words.now) name file → ⊥) → SameContents (H.hosted host.old).folder (H.hosted host.new).folder }
+    // What stays: all files, but that the log of one that is opened may be replayed, and but for the one that is made.
+    ensures stays { ((leaf : List ℕ) → Shows (map string_bytes words.now) leaf → ⊥) → ((name : List ℕ) (file : File) → Makes (map string_bytes words.now) name file → ⊥) → SameContents (H.hosted host.old).folder (H.hosted host.new).folder }
+    ensures opened { (leaf : List ℕ) → Shows (map string_bytes words.now) leaf → OnlyOpens leaf (H.hosted host.old).folder (H.hosted host.new).folder }
+    ensures kept { (name : List ℕ) (file : File) → Makes (map string_bytes words.now) name file → result ≢ Status.Done → result ≢ Status.Fault → LooksAt file (H.hosted host.old).folder (H.hosted host.new).folder }
+    ensures others { (name : List ℕ) (file : File) → Makes (map string_bytes words.now) name file → AddsOnly name file (H.hosted host.old).folder (H.hosted host.new).folder }
     ensures undrawn { ((name : List ℕ) (file : File) → Makes (map string_bytes words.now) name file → ⊥) → I.drawn ids.new ≡ I.drawn ids.old }
-    ensures kept { result ≢ Status.Done → result ≢ Status.Fault → SameContents (H.hosted host.old).folder (H.hosted host.new).folder }
-    ensures others { (name : List ℕ) (file : File) → Makes (map string_bytes words.now) name file → KeepsOthers name (H.hosted host.old).folder (H.hosted host.new).folder }
     ensures idle { result ≢ Status.Fault → WhereTold (H.hosted host.old).folder (λ folder. WhereTold (H.hosted host.new).folder AllIdle) }
     ensures unread { S.left _input.new ≡ S.left _input.old }
 {

@@ -1,6 +1,7 @@
 use Rattle.std.proofs.Common.{refl}
 use Rattle.vhdx_app.specs.Causes.{meaning_of_dump}
-use Rattle.vhdx_app.proofs.Said.{dump_refused, no_memory_ended, refused_ended, sectors_shown, shown_ended}
+use Rattle.vhdx_app.proofs.Lent.{opens_none}
+use Rattle.vhdx_app.proofs.Said.{dump_refused, idle_reported, no_memory_ended, refused_ended, sectors_shown, shown_ended}
 use Rattle.vhdx_app.proofs.commands.dump.Goals as goal
 
 pub returns-in-Err-clause-ended : goal.returns-in-Err-clause-ended
@@ -17,3 +18,9 @@ returns-in-Err-find-clause-ended g c =
     let meaning = meaning_of_dump c.in-Err-find.refusal in
     refused_ended _ _ _ _ _ _ _ _ _ c.args.leaf.now meaning (dump_refused _ c.args.leaf.now _ c.args.first c.args.count meaning c.in-Ok.ensures c.in-Err-find.ensures.answer)
     c.in-Err-find.ensures.counts c.refuse_dump.ensures
+
+pub returns-in-Err-clause-stays : goal.returns-in-Err-clause-stays
+returns-in-Err-clause-stays g c = opens_none c.args.leaf.now _ _ refl
+
+pub returns-in-Err-find-clause-idle : goal.returns-in-Err-find-clause-idle
+returns-in-Err-find-clause-idle g c fault = idle_reported c.args.leaf.now (meaning_of_dump c.in-Err-find.refusal) _ _ _ _ _ c.in-Err-find.ensures.idle_unless c.refuse_dump.ensures fault

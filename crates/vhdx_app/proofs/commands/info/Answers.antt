@@ -1,7 +1,8 @@
 use Rattle.std.proofs.Common.{refl}
 use Rattle.file_open.specs.Causes.{meaning_of}
 use Rattle.vhdx_app.specs.Causes.{of_file}
-use Rattle.vhdx_app.proofs.Said.{counts_file, file_refused, file_shown, line_ended, no_memory_ended, refused_ended}
+use Rattle.vhdx_app.proofs.Lent.{opens_none}
+use Rattle.vhdx_app.proofs.Said.{counts_file, file_refused, file_shown, idle_reported, line_ended, no_memory_ended, refused_ended, unless_of_file}
 use Rattle.vhdx_app.proofs.commands.info.Goals as goal
 
 pub returns-in-Err-clause-ended : goal.returns-in-Err-clause-ended
@@ -18,3 +19,11 @@ returns-in-Err-numbers_of-clause-ended g c =
     let meaning = meaning_of c.in-Err-numbers_of.refusal in
     refused_ended _ _ _ _ _ _ _ _ _ c.args.leaf.now (of_file meaning) (file_refused _ c.args.leaf.now _ meaning c.in-Ok.ensures c.in-Err-numbers_of.ensures.answer)
     (counts_file _ _ meaning c.in-Err-numbers_of.ensures.counts) c.refuse_file.ensures
+
+pub returns-in-Err-clause-stays : goal.returns-in-Err-clause-stays
+returns-in-Err-clause-stays g c = opens_none c.args.leaf.now _ _ refl
+
+pub returns-in-Err-numbers_of-clause-idle : goal.returns-in-Err-numbers_of-clause-idle
+returns-in-Err-numbers_of-clause-idle g c fault =
+    let meaning = meaning_of c.in-Err-numbers_of.refusal in
+    idle_reported c.args.leaf.now (of_file meaning) _ _ _ _ _ (unless_of_file _ meaning c.in-Err-numbers_of.ensures.idle_unless) c.refuse_file.ensures fault

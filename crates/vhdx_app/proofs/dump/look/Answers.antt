@@ -2,7 +2,9 @@ use Rattle.std.proofs.Common.{◌≤◌, ◌*◌, ◌^◌, sym, ap, subst, ◌�
 use Rattle.store_model.specs.File.{seen}
 use Rattle.store_model.specs.Trace.{file_of}
 use Rattle.vhdx_app.specs.Dump.{empty_range, too_long, out_of_range, found}
-use Rattle.vhdx_app.proofs.Found.{unopened, sound_of}
+use Rattle.vhdx_app.proofs.Found.{unopened}
+use Rattle.vhdx_app.proofs.Looking.{kept_later, sectors_before, sound_after}
+use Rattle.file_open.proofs.Leaving.{after_opened, still_opened}
 use Rattle.vhdx_app.proofs.dump.look.Goals as goal
 
 pub returns-in_err-parts-clause-answer : goal.returns-in_err-parts-clause-answer
@@ -20,12 +22,17 @@ returns-then-saturating_add-sectors-clause-answer g c t told =
     (omega (arith, c.if-saturating_add-sectors.true, c.saturating_add.ensures))
 
 pub sectors_of-requires-clause-sound : goal.sectors_of-requires-clause-sound
-sectors_of-requires-clause-sound g c t told =
-    sound_of (seen (file_of t 0)) c.in_ok-parts.parts (c.in_ok-parts.ensures.opens t (sym (ap (λ d. d.told) c.in_ok-parts.ensures.store) ∙ told))
+sectors_of-requires-clause-sound g c = sound_after c.in_ok-parts.parts _ _ c.in_ok-parts.ensures.opens c.in_ok-parts.ensures.store.told
 
 pub returns-clause-answer : goal.returns-clause-answer
 returns-clause-answer g c t told =
     let few : c.in_ok-parts.parts.geometry.sectors * 512 ≤ 2 ^ 46 = subst (λ n. c.in_ok-parts.parts.geometry.sectors * n ≤ 2 ^ 46) c.in_ok-parts.ensures.served c.in_ok-parts.ensures.table.most in
     found c.in_ok-parts.parts _ (c.in_ok-parts.ensures.opens t told) (omega (arith, c.if-count-eq0.false)) c.if-count-gt-READ_LIMIT.false
     (omega (arith, c.if-saturating_add-sectors.false, c.saturating_add.ensures, few))
-    (c.in_ok-sectors_of.ensures.sectors t (ap (λ d. d.told) c.in_ok-parts.ensures.store ∙ told))
+    (sectors_before c.in_ok-parts.parts c.args.first c.args.count _ _ _ c.in_ok-parts.ensures.opens c.in_ok-parts.ensures.store.told c.in_ok-sectors_of.ensures.sectors t told)
+
+pub returns-clause-store : goal.returns-clause-store
+returns-clause-store g c = still_opened 0 _ _ _ c.in_ok-parts.ensures.store c.in_ok-sectors_of.ensures.stays
+
+pub returns-clause-kept : goal.returns-clause-kept
+returns-clause-kept g c = kept_later _ _ _ (ap (λ d. d.told) c.in_ok-sectors_of.ensures.stays) c.in_ok-parts.ensures.kept

@@ -1,8 +1,9 @@
 use Rattle.std.proofs.Common.{ap, subst, ◌∙◌, [], ◌∷◌}
 use Rattle.std.specs.Prelude.{option_map}
 use Rattle.store_model.specs.Folder.{attached_trace, HasFailed, RoseWhere}
-use Rattle.vhdx_app.proofs.Found.{fresh_of, opening_counts, opening_told, opening_quiet, there_opening, unlent_opening, unlent_opening_counts}
-use Rattle.vhdx_app.proofs.Lent.{are_away, contents_stay, idle_stays, idle_unlent, lent_as, seen-attached, stays_unlent}
+use Rattle.file_open.specs.Causes.{meaning_of}
+use Rattle.vhdx_app.proofs.Found.{fresh_of, opening_counts, opening_quiet, there_opening, unlent_opening, unlent_opening_counts}
+use Rattle.vhdx_app.proofs.Lent.{are_away, idle_told, idle_unlent, idle_untold, lent_as, opened_only, seen-attached, stays_unlent, unless_err, unsealed_lent}
 use Rattle.vhdx_app.proofs.info.numbers_of.Goals as goal
 
 pub returns-in_err-store-clause-answer : goal.returns-in_err-store-clause-answer
@@ -14,9 +15,14 @@ returns-in_err-store-clause-stays g c = stays_unlent c.args.leaf _ _ _ c.in_err-
 pub returns-in_err-store-clause-counts : goal.returns-in_err-store-clause-counts
 returns-in_err-store-clause-counts g c = unlent_opening_counts c.args.leaf _ _ _ _ c.from_residual.ensures.1 c.in_err-store.ensures.err
 
+pub returns-in_err-store-clause-idle_unless : goal.returns-in_err-store-clause-idle_unless
+returns-in_err-store-clause-idle_unless g c = unless_err meaning_of c.from_residual.result (idle_unlent c.args.leaf _ _ _ c.in_err-store.ensures.err c.requires.idle)
+
+pub open_file-opened-requires-clause-unsealed : goal.open_file-opened-requires-clause-unsealed
+open_file-opened-requires-clause-unsealed g c = unsealed_lent c.args.leaf _ _ _ c.in_ok-store.ensures.ok
+
 pub give_back-requires : goal.give_back-requires
-give_back-requires g c =
-    are_away c.args.leaf _ _ _ (lent_as c.args.leaf _ _ _ _ c.in_ok-store.ensures.ok (opening_told 0 _ _ c.open_file-opened.result c.open_file-opened.ensures.store)) c.in_ok-store.ensures.ok.there
+give_back-requires g c = are_away c.args.leaf _ _ _ (lent_as c.args.leaf _ _ _ _ c.in_ok-store.ensures.ok c.open_file-opened.ensures.kept) c.in_ok-store.ensures.ok.there
 
 pub returns-clause-answer : goal.returns-clause-answer
 returns-clause-answer g c t told =
@@ -24,8 +30,7 @@ returns-clause-answer g c t told =
     (c.open_file-opened.ensures.opens (attached_trace (c.args.leaf ∷ []) t) (ap (λ d. d.told) c.in_ok-store.ensures.ok.disk_is ∙ ap (option_map (attached_trace (c.args.leaf ∷ []))) told))
 
 pub returns-clause-stays : goal.returns-clause-stays
-returns-clause-stays g c =
-    contents_stay c.args.leaf _ _ _ _ (lent_as c.args.leaf _ _ _ _ c.in_ok-store.ensures.ok (opening_told 0 _ _ c.open_file-opened.result c.open_file-opened.ensures.store)) c.requires.idle c.in_ok-store.ensures.ok.there c.give_back.ensures.folder
+returns-clause-stays g c = opened_only c.args.leaf _ _ _ _ (lent_as c.args.leaf _ _ _ _ c.in_ok-store.ensures.ok c.open_file-opened.ensures.kept) c.in_ok-store.ensures.ok.there c.give_back.ensures.folder
 
 pub returns-clause-quiet : goal.returns-clause-quiet
 returns-clause-quiet g c =
@@ -39,8 +44,10 @@ returns-clause-counts g c =
     (subst (λ n. RoseWhere (HasFailed (g.H.S.Store.disk c.open_file-opened.new.store)) n (g.H.Host.hosted c.give_back.new.self).faults) (ap (λ h. h.faults) c.in_ok-store.ensures.ok.host_is) c.give_back.ensures.count)
     c.open_file-opened.result c.open_file-opened.ensures.store
 
-pub returns-in_err-store-clause-idle : goal.returns-in_err-store-clause-idle
-returns-in_err-store-clause-idle g c = idle_unlent c.args.leaf _ _ _ c.in_err-store.ensures.err c.requires.idle
-
 pub returns-clause-idle : goal.returns-clause-idle
-returns-clause-idle g c = idle_stays c.args.leaf _ _ _ _ (lent_as c.args.leaf _ _ _ _ c.in_ok-store.ensures.ok (opening_told 0 _ _ c.open_file-opened.result c.open_file-opened.ensures.store)) c.requires.idle c.give_back.ensures.folder
+returns-clause-idle g c =
+    idle_told c.args.leaf _ _ _ _ _ c.in_ok-store.ensures.ok c.open_file-opened.ensures.kept c.requires.idle c.give_back.ensures.folder c.open_file-opened.result c.open_file-opened.ensures.store
+
+pub returns-clause-idle_unless : goal.returns-clause-idle_unless
+returns-clause-idle_unless g c =
+    idle_untold c.args.leaf _ _ _ _ _ c.in_ok-store.ensures.ok c.open_file-opened.ensures.kept c.requires.idle c.give_back.ensures.folder c.open_file-opened.result c.open_file-opened.ensures.store

@@ -1,9 +1,11 @@
-use Rattle.std.proofs.Common.{Some, ap, ◌∙◌}
+use Rattle.std.proofs.Common.{Some, ap, refl, ◌∙◌}
 use Rattle.command_line.specs.Requests as wish
 use Rattle.command_line.specs.declared.request.Request.TheVariants.{Dump, Info, Make}
 use Rattle.command_line.proofs.Single.{one_dump, one_info, one_make}
 use Rattle.vhdx_app.specs.Printed.{done, none}
-use Rattle.vhdx_app.proofs.Said.{asked, asked_none, info_for, made_for, printed_for, text_sent}
+use Rattle.vhdx_app.proofs.Lent.{opens_none}
+use Rattle.vhdx_app.proofs.Made.{adds_for, adds_none, looks_still}
+use Rattle.vhdx_app.proofs.Said.{asked, asked_none, shown_none, info_for, made_for, printed_for, text_sent}
 use Rattle.vhdx_app.proofs.program.run.Goals as goal
 
 pub returns-in-Ok-Some-Dump-clause-printed : goal.returns-in-Ok-Some-Dump-clause-printed
@@ -44,3 +46,26 @@ returns-in-Err-clause-help g c asks = none c.out_of_memory.ensures
 
 pub returns-in-Err-clause-version : goal.returns-in-Err-clause-version
 returns-in-Err-clause-version g c asks = none c.out_of_memory.ensures
+
+pub returns-in-Ok-None-clause-opened : goal.returns-in-Ok-None-clause-opened
+returns-in-Ok-None-clause-opened g c leaf shows = absurd (shown_none _ leaf (asked_none _ _ c.in-Ok-None.field-0-is c.in-Ok-None.ensures) shows)
+
+pub returns-in-Ok-None-clause-kept : goal.returns-in-Ok-None-clause-kept
+returns-in-Ok-None-clause-kept g c name file is = absurd (asked_none _ _ c.in-Ok-None.field-0-is c.in-Ok-None.ensures (wish.make name file) is)
+
+pub returns-in-Ok-None-clause-others : goal.returns-in-Ok-None-clause-others
+returns-in-Ok-None-clause-others g c name file is = absurd (asked_none _ _ c.in-Ok-None.field-0-is c.in-Ok-None.ensures (wish.make name file) is)
+
+pub returns-in-Err-clause-opened : goal.returns-in-Err-clause-opened
+returns-in-Err-clause-opened g c leaf shows = opens_none leaf _ _ refl
+
+pub returns-in-Err-clause-kept : goal.returns-in-Err-clause-kept
+returns-in-Err-clause-kept g c name file is not_done fault = looks_still file _
+
+pub returns-in-Err-clause-others : goal.returns-in-Err-clause-others
+returns-in-Err-clause-others g c name file is = adds_none name file _
+
+pub returns-in-Ok-Some-Make-clause-others : goal.returns-in-Ok-Some-Make-clause-others
+returns-in-Ok-Some-Make-clause-others g c name file is =
+    adds_for _ name _ file _ _
+    (one_make _ _ name _ file (asked _ _ (Make c.in-Ok-Some-Make.name c.in-Ok-Some-Make.file) (c.in-Ok-Some-Make.field-0-is ∙ ap Some c.in-Ok-Some-Make.field-0-0-is) c.in-Ok-Some-Make.ensures) is) c.make.ensures.others
