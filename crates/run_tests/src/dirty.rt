@@ -1,10 +1,9 @@
 //! Files whose logs hold what isn't applied yet: what they are opened to, and what is left of them midway.
 
 use crate::common::{
-    NOTHING_FAILS, PLAIN, Patch, bytes_of, host_after, host_with, ids_of, line_of, prints,
+    Case, NOTHING_FAILS, PLAIN, Patch, bytes_of, host_after, host_with, ids_of, line_of, prints,
     run_done, run_line,
 };
-use crate::common::Case;
 use crate::files::{EMPTY, Plan, RING, copy, file_of, head, name_log, place, put_entry, zeroed};
 use log_format::Page;
 use mem_store::{Crash, MemHost, Pick};
@@ -82,10 +81,7 @@ const GROWING: Dirty = Dirty {
     before: &[],
     entries: &BLOCK_AND_TABLE,
     settled: 5_242_880,
-    after: &[
-        (3_145_728, &[6, 0, 0x40]),
-        (4_194_304, &[0xC3; 4096]),
-    ],
+    after: &[(3_145_728, &[6, 0, 0x40]), (4_194_304, &[0xC3; 4096])],
     byte: "c3",
     ..BLOCKS
 };
@@ -198,9 +194,7 @@ fn page_of(update: Update) -> Page {
 
 // Puts entries into the log of a file that had so many bytes when they were written.
 fn put_entries(file: &mut [u8], flushed: u64, entries: &[Entry]) -> Result<(), Fail> {
-    let ring = file
-        .get_mut(RING..2 * RING)
-        .ok_or("no room for a log")?;
+    let ring = file.get_mut(RING..2 * RING).ok_or("no room for a log")?;
     for entry in entries {
         let head = head(entry.number, entry.tail, flushed, entry.last);
         put_entry(ring, entry.at, &head, &[page_of(entry.update)]);
@@ -275,7 +269,8 @@ fn settled_files(rt: HostRuntime) -> Result<(), Fail> {
 #[test]
 fn each_command_settles(rt: HostRuntime) -> Result<(), Fail> {
     let alloc = rt.alloc();
-    let info = "f.vhdx dynamic sectors 4096 sector 512 block 1 id {03030303-0303-0303-0303-030303030303} parent none\n";
+    let info =
+        "f.vhdx dynamic sectors 4096 sector 512 block 1 id {02020202-0202-0202-0202-020202020202} parent none\n";
     let made = "made c.vhdx 4194304\n";
     for dirty in [&GROWING, &BLOCKS] {
         assert!(rt; settles(&rt, alloc, dirty, "info f.vhdx", info)?);
@@ -298,7 +293,11 @@ fn a_file_cut_below_its_log(rt: HostRuntime) -> Result<(), Fail> {
     name_log(&mut file, [7; 16]);
     put_entries(&mut file, 5_242_880, &BLOCK_AND_TABLE)?;
     let text = "refused 14 TruncatedBelowLog b.vhdx wanted 5242880 found 4194304\n";
-    for line in ["dump b.vhdx 0 1", "info b.vhdx", "make child c.vhdx --parent b.vhdx"] {
+    for line in [
+        "dump b.vhdx 0 1",
+        "info b.vhdx",
+        "make child c.vhdx --parent b.vhdx",
+    ] {
         let mut host = host_with(alloc, "b.vhdx", &file)?;
         let mut ids = ids_of(alloc, &[])?;
         let (status, out) = run_line(&rt, alloc, line, &mut host, &mut ids)?;
@@ -313,7 +312,14 @@ fn a_file_cut_below_its_log(rt: HostRuntime) -> Result<(), Fail> {
 fn shows<R: Threads + Wait>(rt: &R, alloc: Global, host: &MemHost) -> Result<bool, Fail> {
     let file = bytes_of(host, "f.vhdx").ok_or("no file")?;
     let sector = line_of(alloc, "0", GROWING.byte)?;
-    prints(rt, alloc, file, &["dump", "f.vhdx", "0", "1"], Status::Done, sector.as_str())
+    prints(
+        rt,
+        alloc,
+        file,
+        &["dump", "f.vhdx", "0", "1"],
+        Status::Done,
+        sector.as_str(),
+    )
 }
 
 #[test]
@@ -343,7 +349,11 @@ fn crashed<R: Threads + Wait>(
     pick: Pick,
 ) -> Result<Option<MemHost>, Fail> {
     let mut host = host_with(alloc, "f.vhdx", file)?;
-    host.crash = Some(Crash { store: 0, moment, pick });
+    host.crash = Some(Crash {
+        store: 0,
+        moment,
+        pick,
+    });
     let mut ids = ids_of(alloc, &[])?;
     run_done(rt, alloc, DUMP, &mut host, &mut ids)?;
     Ok(host.take_crashed()?)
