@@ -1,6 +1,6 @@
 #!/usr/bin/env bash
 # How long the search for the active sequence takes: rings of 1, 4, 16 and 64 MB as writers leave them, and hostile ones.
-# Run by hand; needs the kit, and about two minutes.
+# Run by hand; needs the kit, and about three minutes. Of five searches each line names the first and the fastest.
 set -e
 top=$(cd "$(dirname "$0")/.." && pwd)
 work=$(mktemp -d)

@@ -86,7 +86,7 @@ fn sequence_to(mind: &mut Mind, ring: &[u8], log: u64, id: &Guid, last: LogEntry
 
 /// The active sequence of a ring under the id, for a log that stands at `log` in its file. It takes the headers from the
 /// newest on, and looks at the rest of an entry only where its header and its place in a sequence are right. The entries
-/// of the first 65,536 sectors are each judged once.
+/// of the first 65,536 sectors are each judged once. It takes up to 250 KB of the stack.
 pub fn active(ring: &[u8], log: u64, id: &Guid) -> Option<Active>
     requires ring { length ring.now % 4096 ≡ 0 }
     requires short { length ring.now < 2 ^ 32 }
