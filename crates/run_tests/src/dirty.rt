@@ -1,12 +1,14 @@
 //! Files whose logs hold what isn't applied yet: what they are opened to, and what is left of them midway.
 
 use crate::common::{
-    Case, NOTHING_FAILS, PLAIN, Patch, bytes_of, host_after, host_with, ids_of, line_of, prints,
-    run_done, run_line,
+    Case, PLAIN, Patch, bytes_of, host_after, host_with, ids_of, line_of, prints, run_done,
+    run_line,
 };
 use crate::files::{EMPTY, Plan, RING, copy, file_of, head, name_log, place, put_entry, zeroed};
+use crate::headers::{ROOM, store_of};
+use file_open::open_file;
 use log_format::Page;
-use mem_store::{Crash, MemHost, Pick};
+use mem_store::{MemHost, MemStore, Pick};
 use std::alloc::Global;
 use std::sync::Wait;
 use std::test::Fail;
@@ -86,7 +88,7 @@ const GROWING: Dirty = Dirty {
     ..BLOCKS
 };
 
-static FILES: [Dirty; 7] = [
+static FILES: [Dirty; 6] = [
     GROWING,
     // what is grown is zeros, and an entry of the table that no block can have is mended
     Dirty {
@@ -172,7 +174,6 @@ static FILES: [Dirty; 7] = [
         entries: &BLOCK_AND_TABLE,
         ..BLOCKS
     },
-    BLOCKS,
 ];
 
 // The page that an update is.
@@ -326,9 +327,8 @@ fn shows<R: Threads + Wait>(rt: &R, alloc: Global, host: &MemHost) -> Result<boo
 fn faults(rt: HostRuntime) -> Result<(), Fail> {
     let alloc = rt.alloc();
     let file = dirty_file(alloc, &GROWING)?;
-    // The length, the signature, the headers, the log. Its replay asks for the length, grows the file, writes two pages and
-    // syncs. Then the length again, and what a dump of a file without a log reads behind its headers.
-    for call in 1..21u64 {
+    // The log is read; the length asked, the file grown, two pages written, all synced; the length asked again.
+    for call in 4..11u64 {
         let mut host = host_with(alloc, "f.vhdx", &file)?;
         host.failing_in_store = [call].to_vec(alloc)?;
         let mut ids = ids_of(alloc, &[])?;
@@ -340,35 +340,35 @@ fn faults(rt: HostRuntime) -> Result<(), Fail> {
     Ok(())
 }
 
-// The host of an image that is kept of a dump's store, if it comes to that moment.
-fn crashed<R: Threads + Wait>(
+// Whether a dump of each image of a moment of the store shows the sector.
+fn images_show<R: Threads + Wait>(
     rt: &R,
     alloc: Global,
-    file: &[u8],
+    store: &MemStore,
     moment: u64,
-    pick: Pick,
-) -> Result<Option<MemHost>, Fail> {
-    let mut host = host_with(alloc, "f.vhdx", file)?;
-    host.crash = Some(Crash {
-        store: 0,
-        moment,
-        pick,
-    });
-    let mut ids = ids_of(alloc, &[])?;
-    run_done(rt, alloc, DUMP, &mut host, &mut ids)?;
-    Ok(host.take_crashed()?)
+) -> Result<bool, Fail> {
+    if moment > store.order.len() as u64 {
+        return Err(Fail::from("no such moment"));
+    }
+    for pick in [Pick::Nothing, Pick::Everything, Pick::EverySecond] {
+        let image = store.image(moment, pick, ROOM)?;
+        if !shows(rt, alloc, &image)? {
+            return Ok(false);
+        }
+    }
+    Ok(true)
 }
 
 #[test]
 fn images_of_a_replay(rt: HostRuntime) -> Result<(), Fail> {
     let alloc = rt.alloc();
     let file = dirty_file(alloc, &GROWING)?;
-    // From none to all of a growth, two writes and a sync.
-    for n in 0..15u64 {
-        let pick = [Pick::Nothing, Pick::Everything, Pick::EverySecond][(n % 3) as usize];
-        let image = crashed(&rt, alloc, &file, n / 3, pick)?.ok_or("no such moment")?;
-        assert!(rt; shows(&rt, alloc, &image)?, "{n}");
+    let mut store = store_of(alloc, &file)?;
+    assert!(rt; open_file(alloc, &mut store, 0).is_ok());
+    // A growth, two writes and a sync.
+    assert_eq!(rt; store.order.len(), 4);
+    for moment in 0..5u64 {
+        assert!(rt; images_show(&rt, alloc, &store, moment)?, "{moment}");
     }
-    assert!(rt; crashed(&rt, alloc, &file, 5, Pick::Everything)?.is_none());
     Ok(())
 }
