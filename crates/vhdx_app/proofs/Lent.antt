@@ -13,11 +13,15 @@ use Rattle.file_open.specs.Causes.{Meaning, refuses, host_failed, store_failed, 
 use Rattle.file_open.specs.Effects.{HasOpened, IsOpened, KeepsFile, LeavesFile, LeavesOpened, OpensAlike, StaysSynced}
 use Rattle.file_open.specs.Opening as opening
 use Rattle.log_replay.specs.Replays.{OnlyChanges}
-use Rattle.vhdx_app.specs.Causes.{LeavesDump, UnlessStoreFailed, meaning_of_dump}
+use Rattle.vhdx_app.specs.Causes.{LeavesDump, UnlessStoreFailed, WhereRefused, meaning_of_dump, of_file}
 use Rattle.vhdx_app.specs.declared.refusal.DumpRefusal.{DumpRefusal}
+use Rattle.vhdx_app.specs.declared.refusal.DumpRefusal.TheVariants.{File as OfOpening}
+use Rattle.vhdx_format.specs.FileParts.{opened_bytes, read_head}
+use Rattle.vhdx_format.specs.Identifiers.{has_signature, identified}
+use Rattle.std.specs.Result.{IsErrAnd}
 use Rattle.file_open.specs.declared.refusal.OpenRefusal.{OpenRefusal}
 use Rattle.vx_base.specs.declared.parts.Parts.{Parts}
-use Rattle.vhdx_app.specs.Folders.{AllIdle, IsOpenedIn, Lends, LendsNone, OnlyOpens, contents_of}
+use Rattle.vhdx_app.specs.Folders.{AllIdle, IsOpenedIn, IsReplayedIn, Lends, LendsNone, OnlyOpens, contents_of}
 
 pub distinct : (leaf : List ℕ) → IsDistinct bytes_eq (leaf ∷ [])
 unfolding IsDistinct
@@ -159,6 +163,59 @@ opened_only leaf folder lent after told is there back_is f folder_is =
       },
     )
 
+pub replayed_in : (leaf : List ℕ) (folder lent after : Option (List Held)) (told : Option Trace) → IsLent leaf folder lent told → WhereTold folder (λ f. has_name leaf f ≡ true) → WhereTold told (λ trace. after ≡ option_map (given_back trace) lent)
+    → WhereBothTold (IsOpened 0) (option_map (attached_trace (leaf ∷ [])) folder) told → IsReplayedIn leaf folder after
+replayed_in leaf folder lent after told is there back_is opened f folder_is a after_is =
+    let b = back leaf folder lent after told is back_is f folder_is in
+    let same : with_file leaf (Some (file_of b.0 0)) f ≡ a = same_Some _ _ (sym (b.2).after_is ∙ after_is) in
+    let h : IsOpened 0 (attached_trace (leaf ∷ []) f) b.0 =
+    subst (λ x. WhereBothTold (IsOpened 0) x (Some b.0)) (ap (option_map (attached_trace (leaf ∷ []))) folder_is) (subst (WhereBothTold (IsOpened 0) (option_map (attached_trace (leaf ∷ [])) folder)) b.1 opened) in
+    ap (seen_named leaf) (sym same) ∙ ap (λ o. unwrap_or (option_map seen o) []) (put_in leaf f (file_of b.0 0) (there f folder_is)) ∙ h.bytes ∙ ap opened_bytes (seen-attached leaf f)
+
+-- a file that is missing has nothing to replay
+missing_file : (leaf : List ℕ) (folder : List Held) → has_name leaf folder ≡ false → file_named leaf folder ≡ None
+missing_file leaf [] none = refl
+missing_file leaf (held ∷ folder) none = by_name (bytes_eq held.name leaf) refl (missing_file leaf folder) where
+  by_name : (c : Bool) → bytes_eq held.name leaf ≡ c → (has_name leaf folder ≡ false → file_named leaf folder ≡ None) → file_named leaf (held ∷ folder) ≡ None
+  by_name true e rest = let no : true ≡ false = sym (or_left (bytes_eq held.name leaf) (has_name leaf folder) e) ∙ none in cc
+  by_name false e rest = ap (λ c. cond c held.file (file_named leaf folder)) e ∙ rest (sym (ap (λ c. c || has_name leaf folder) e) ∙ none)
+
+nothing_opened : opened_bytes [] ≡ []
+unfolding opened_bytes read_head identified has_signature
+nothing_opened = refl
+
+pub replayed_missing : (leaf : List ℕ) (before now : Option (List Held)) → WhereTold before (λ f. has_name leaf f ≡ false) → now ≡ before → IsReplayedIn leaf before now
+replayed_missing leaf before now none same f told a after_is =
+    let one : a ≡ f = same_Some a f (sym after_is ∙ same ∙ told) in
+    let empty : seen_named leaf f ≡ [] = ap (λ o. unwrap_or (option_map seen o) []) (missing_file leaf f (none f told)) in
+    ap (seen_named leaf) one ∙ empty ∙ sym nothing_opened ∙ ap opened_bytes (sym empty)
+
+replayed_unlent : (leaf : List ℕ) (old new : Hosted) (meaning : Meaning opening.Refusal) → LendsNone leaf old new meaning → WhereRefused meaning (IsReplayedIn leaf old.folder new.folder)
+replayed_unlent leaf old new (refuses refusal) (is, none, same) = replayed_missing leaf old.folder new.folder none (ap (λ h. h.folder) same)
+replayed_unlent leaf old new (host_failed fault) h = tt
+replayed_unlent leaf old new (store_failed fault) h = tt
+replayed_unlent leaf old new no_memory h = tt
+
+pub where_of_file : (P : Type 0) (meaning : Meaning opening.Refusal) → WhereRefused meaning P → WhereRefused (of_file meaning) P
+where_of_file P (refuses refusal) h = h
+where_of_file P (host_failed fault) h = h
+where_of_file P (store_failed fault) h = h
+where_of_file P no_memory h = h
+
+pub replayed_undumped : (leaf : List ℕ) (old new : Hosted) (result : Result (List ℕ) DumpRefusal) (refusal : OpenRefusal) → IsErrAnd result (λ e. e ≡ OfOpening refusal) → LendsNone leaf old new (meaning_of refusal)
+    → IfErr result (λ e. WhereRefused (meaning_of_dump e) (IsReplayedIn leaf old.folder new.folder))
+replayed_undumped leaf old new (Ok bytes) refusal is h = tt
+replayed_undumped leaf old new (Err e) refusal is h =
+    subst (λ e. WhereRefused (meaning_of_dump e) (IsReplayedIn leaf old.folder new.folder)) (sym is) (where_of_file _ (meaning_of refusal) (replayed_unlent leaf old new (meaning_of refusal) h))
+
+pub replayed_unopened : (leaf : List ℕ) (old new : Hosted) (result : Result Parts OpenRefusal) (refusal : OpenRefusal) → IsErrAnd result (λ e. e ≡ refusal) → LendsNone leaf old new (meaning_of refusal)
+    → IfErr result (λ e. WhereRefused (meaning_of e) (IsReplayedIn leaf old.folder new.folder))
+replayed_unopened leaf old new (Ok parts) refusal is h = tt
+replayed_unopened leaf old new (Err e) refusal is h = subst (λ e. WhereRefused (meaning_of e) (IsReplayedIn leaf old.folder new.folder)) (sym is) (replayed_unlent leaf old new (meaning_of refusal) h)
+
+pub replayed_for : (named leaf : List ℕ) (before now : Option (List Held)) → named ≡ leaf → IsReplayedIn named before now → IsReplayedIn leaf before now
+replayed_for named leaf before now same h = subst (λ n. IsReplayedIn n before now) same h
+
 -- what was lent
 pub lent_as : (leaf : List ℕ) (old new : Hosted) (lent : Disk) (told : Option Trace) → Lends leaf old new lent → WhereBothTold (KeepsFile 0) lent.told told → IsLent leaf old.folder new.folder told
 lent_as leaf old new lent told lends kept = record {
@@ -251,6 +308,25 @@ module _ (leaf : List ℕ) (old mid : Hosted) (now : Option (List Held)) (lent d
   idle_by (host_failed fault) h = absurd h
   idle_by (store_failed fault) h = tt
   idle_by no_memory h = idle_if h.told
+
+  pub replayed_opened : HasOpened 0 lent disk → IsReplayedIn leaf old.folder now
+  replayed_opened h =
+      replayed_in leaf old.folder mid.folder now disk.told (lent_as leaf old mid lent disk.told lends kept) lends.there back_is
+      (subst (λ x. WhereBothTold (IsOpened 0) x disk.told) (ap (λ d. d.told) lends.disk_is) h.told)
+
+  replayed_by : {R : Type 0} (meaning : Meaning R) → LeavesOpened 0 lent disk meaning → WhereRefused meaning (IsReplayedIn leaf old.folder now)
+  replayed_by (refuses refusal) h = replayed_opened h
+  replayed_by (host_failed fault) h = tt
+  replayed_by (store_failed fault) h = tt
+  replayed_by no_memory h = tt
+
+  pub replayed_dumped : (result : Result (List ℕ) DumpRefusal) → LeavesDump lent disk result → OnOk result (IsReplayedIn leaf old.folder now) × IfErr result (λ refusal. WhereRefused (meaning_of_dump refusal) (IsReplayedIn leaf old.folder now))
+  replayed_dumped (Ok bytes) h = (replayed_opened h, tt)
+  replayed_dumped (Err refusal) h = (tt, replayed_by (meaning_of_dump refusal) h)
+
+  pub replayed_told : (result : Result Parts OpenRefusal) → LeavesFile 0 lent disk result → OnOk result (IsReplayedIn leaf old.folder now) × IfErr result (λ refusal. WhereRefused (meaning_of refusal) (IsReplayedIn leaf old.folder now))
+  replayed_told (Ok parts) h = (replayed_opened h, tt)
+  replayed_told (Err refusal) h = (tt, replayed_by (meaning_of refusal) h)
 
   pub idle_dumped : (result : Result (List ℕ) DumpRefusal) → LeavesDump lent disk result → OnOk result (WhereTold old.folder (λ f. WhereTold now AllIdle))
   idle_dumped (Ok bytes) h = idle_opened h

@@ -7,7 +7,7 @@ use Rattle.command_line.specs.Requests as new
 use Rattle.file_open.specs.Causes.{CountsBy, IfCause, Meaning, refuses, host_failed, store_failed, no_memory, cause_in}
 use Rattle.file_open.specs.Opening as opening
 use Rattle.make_file.specs.Identifiers.{Draws}
-use Rattle.make_file.specs.Makes.{Answers, FailsIn, HasMade, IsAnswer, IsFree, LeavesOthers, Makes, Making, Outside, child_making, dynamic_making, fixed_making, held_as}
+use Rattle.make_file.specs.Makes.{Answers, FailsIn, IsAnswer, IsFree, LeavesOthers, Makes, Making, Outside, child_making, dynamic_making, fixed_making, held_as}
 use Rattle.make_file.specs.declared.drawing.FileIds.{FileIds}
 use Rattle.make_file.specs.declared.refusal.MakeRefusal.{MakeRefusal}
 use Rattle.make_file.specs.declared.refusal.MakeRefusal.TheVariants as make
@@ -24,7 +24,7 @@ use Rattle.vhdx_app.specs.Folders.{AllIdle, KeepsOthers, Listed, OnlyOpens, cont
 use Rattle.vhdx_app.specs.Info.{OpensIn}
 use Rattle.vhdx_app.specs.Making.{AddsOnly, IsMaking, LooksAt, RefusesMaking, made_line}
 use Rattle.vhdx_app.specs.Printed.{MakeEnded, Reports, Sent, cut, whole}
-use Rattle.vhdx_app.specs.Refusals.{Refusal, IdUnfit, NameTaken, OfFile}
+use Rattle.vhdx_app.specs.Refusals.{Refusal, IdUnfit, NameTaken}
 use Rattle.vhdx_app.specs.declared.status.Status.{Status}
 use Rattle.vhdx_app.specs.declared.status.Status.TheVariants.{Done, Fault, NoMemory}
 use Rattle.vhdx_app.proofs.Lent.{opens_none}

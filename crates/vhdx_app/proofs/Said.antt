@@ -13,7 +13,7 @@ use Rattle.vhdx_app.specs.Answers.{fault_line, sector_lines}
 use Rattle.make_file.specs.Makes.{Outside}
 use Rattle.make_file.specs.declared.refusal.MakeRefusal.{MakeRefusal}
 use Rattle.vhdx_app.specs.Making.{made_line}
-use Rattle.vhdx_app.specs.Causes.{UnlessStoreFailed, meaning_of_make, of_file}
+use Rattle.vhdx_app.specs.Causes.{UnlessStoreFailed, WhereRefused, meaning_of_make, of_file}
 use Rattle.vhdx_app.specs.Dump.{Finds}
 use Rattle.vhdx_app.specs.Printed.{Ended, IsDumpText, IsInfoText, IsMakeText, IsText, Printed, RefusesDump, RefusesFile, Reports, Sent, Shows, ShowsFile, ShowsSectors, cut, of_host, of_store, whole}
 use Rattle.vhdx_app.specs.Info.{OpensIn, info_line}
@@ -115,6 +115,22 @@ idle_reported file (refuses refusal) before after old new status h reports fault
 idle_reported file (host_failed fault_) before after old new status h reports fault = h
 idle_reported file (store_failed fault_) before after old new status h reports fault = absurd (fault (is_fault before after old new _ status reports))
 idle_reported file no_memory before after old new status h reports fault = h
+
+-- what is so where a rule refuses it is so where that was said
+not_shown : (before after : Option (List ℕ)) (old new : ℕ) (meant : Status) (text : List ℕ) (status : Status) → (meant ≡ Done → ⊥) → (meant ≡ Refused → ⊥) → Sent before after old new meant text status → (status ≡ Done) ⊎ (status ≡ Refused) → ⊥
+not_shown before after old new meant text status done refused (whole is sent same) (inl h) = done (sym is ∙ h)
+not_shown before after old new meant text status done refused (whole is sent same) (inr h) = refused (sym is ∙ h)
+not_shown before after old new meant text status done refused (cut is n sent rose) (inl h) = let e : Fault ≡ Done = sym is ∙ h in cc
+not_shown before after old new meant text status done refused (cut is n sent rose) (inr h) = let e : Fault ≡ Refused = sym is ∙ h in cc
+
+pub no_memory_shown : (before after : Option (List ℕ)) (old new : ℕ) (text : List ℕ) (status : Status) → Sent before after old new NoMemory text status → (status ≡ Done) ⊎ (status ≡ Refused) → ⊥
+no_memory_shown before after old new text status sent = not_shown before after old new NoMemory text status (λ e. cc) (λ e. cc) sent
+
+pub replayed_reported : {P : Type 0} (file : List ℕ) (meaning : Meaning Refusal) (before after : Option (List ℕ)) (old new : ℕ) (status : Status) → WhereRefused meaning P → Reports file meaning before after old new status → (status ≡ Done) ⊎ (status ≡ Refused) → P
+replayed_reported file (refuses refusal) before after old new status h reports shown = h
+replayed_reported file (host_failed fault) before after old new status h reports shown = absurd (not_shown before after old new Fault _ status (λ e. cc) (λ e. cc) reports shown)
+replayed_reported file (store_failed fault) before after old new status h reports shown = absurd (not_shown before after old new Fault _ status (λ e. cc) (λ e. cc) reports shown)
+replayed_reported file no_memory before after old new status h reports shown = absurd (no_memory_shown before after old new _ status reports shown)
 
 pub unless_of_file : (P : Type 0) (meaning : Meaning opening.Refusal) → UnlessStoreFailed meaning P → UnlessStoreFailed (of_file meaning) P
 unless_of_file P (refuses refusal) h = h

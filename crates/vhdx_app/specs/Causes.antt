@@ -54,6 +54,13 @@ UnlessStoreFailed (host_failed fault) P = P
 UnlessStoreFailed (store_failed fault) P = Unit {0}
 UnlessStoreFailed no_memory P = P
 
+-- this is so, where it is refused by a rule
+abbrev pub WhereRefused : {R : Type 0} → Meaning R → Type 0 → Type 0
+WhereRefused (refuses refusal) P = P
+WhereRefused (host_failed fault) P = Unit {0}
+WhereRefused (store_failed fault) P = Unit {0}
+WhereRefused no_memory P = Unit {0}
+
 -- what a refusal of making says
 abbrev pub meaning_of_make : MakeRefusal → Meaning Refusal
 meaning_of_make make.NameTaken = refuses refusals.NameTaken

@@ -4,6 +4,7 @@ use Rattle.store_model.specs.Disk.{Disk, WhereTold}
 use Rattle.store_model.specs.File.{File, seen, is_synced}
 use Rattle.store_model.specs.Folder.{Held, Hosted, HostFailed, has_name, attached_trace, seen_named, with_file, without}
 use Rattle.file_open.specs.Causes.{Meaning, refuses, host_failed, store_failed, no_memory}
+use Rattle.vhdx_format.specs.FileParts.{opened_bytes}
 use Rattle.file_open.specs.Effects.{OpensAlike}
 use Rattle.file_open.specs.Opening.{Refusal, FileMissing}
 
@@ -33,6 +34,10 @@ pub record IsOpenedIn (leaf : List ℕ) (folder after : List Held) : Type 0 wher
 
 abbrev pub OnlyOpens : List ℕ → Option (List Held) → Option (List Held) → Type 0
 OnlyOpens leaf before now = WhereTold before (λ folder. (after : List Held) × (now ≡ Some after) × IsOpenedIn leaf folder after)
+
+-- the file of this name holds what opening makes of it: its log is replayed, if it has a header and is long enough
+abbrev pub IsReplayedIn : List ℕ → Option (List Held) → Option (List Held) → Type 0
+IsReplayedIn leaf before now = WhereTold before (λ folder. WhereTold now (λ after. seen_named leaf after ≡ opened_bytes (seen_named leaf folder)))
 
 -- all that was there is as it was, and there is at most one more file, of this name
 abbrev pub KeepsOthers : List ℕ → Option (List Held) → Option (List Held) → Type 0

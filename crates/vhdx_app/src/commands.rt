@@ -1,10 +1,10 @@
 //! The commands that show what files hold: each prints its answer.
 
-ghost use Rattle.std.specs.Prelude.{◌≡◌, ◌≢◌, IfOk};
+ghost use Rattle.std.specs.Prelude.{◌≡◌, ◌≢◌, ◌⊎◌, IfOk};
 ghost use Rattle.store_model.specs.Disk.{WhereTold};
 ghost use Rattle.vhdx_app.specs.Answers.{sector_lines};
 ghost use Rattle.vhdx_app.specs.Dump.{IsGiven};
-ghost use Rattle.vhdx_app.specs.Folders.{AllIdle, OnlyOpens};
+ghost use Rattle.vhdx_app.specs.Folders.{AllIdle, IsReplayedIn, OnlyOpens};
 ghost use Rattle.vhdx_app.specs.Printed.{Ended, IsDumpText, IsInfoText, Sent};
 ghost use Rattle.vx_base.specs.Names.{IsName};
 
@@ -56,6 +56,7 @@ pub fn dump<H: Host, K: Sink>(
     ensures ended { Ended (IsDumpText (H.hosted host.old).folder leaf.now first count (H.hosted host.new).faults) (H.hosted host.old).faults (H.hosted host.new).faults (K.written out.old) (K.written out.new) (K.faults out.old) (K.faults out.new) result }
     ensures idle { result ≢ Status.Fault → WhereTold (H.hosted host.old).folder (λ folder. WhereTold (H.hosted host.new).folder AllIdle) }
     ensures stays { OnlyOpens leaf.now (H.hosted host.old).folder (H.hosted host.new).folder }
+    ensures replayed { (result ≡ Status.Done) ⊎ (result ≡ Status.Refused) → IsReplayedIn leaf.now (H.hosted host.old).folder (H.hosted host.new).folder }
 {
     let name = match name_of(alloc, leaf) {
         Ok(name) => name,
@@ -74,6 +75,7 @@ pub fn info<H: Host, K: Sink>(alloc: Global, host: &mut H, out: &mut K, leaf: &s
     ensures ended { Ended (IsInfoText (H.hosted host.old).folder leaf.now (H.hosted host.new).faults) (H.hosted host.old).faults (H.hosted host.new).faults (K.written out.old) (K.written out.new) (K.faults out.old) (K.faults out.new) result }
     ensures idle { result ≢ Status.Fault → WhereTold (H.hosted host.old).folder (λ folder. WhereTold (H.hosted host.new).folder AllIdle) }
     ensures stays { OnlyOpens leaf.now (H.hosted host.old).folder (H.hosted host.new).folder }
+    ensures replayed { (result ≡ Status.Done) ⊎ (result ≡ Status.Refused) → IsReplayedIn leaf.now (H.hosted host.old).folder (H.hosted host.new).folder }
 {
     let name = match name_of(alloc, leaf) {
         Ok(name) => name,

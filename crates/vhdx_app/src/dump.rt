@@ -8,11 +8,11 @@ ghost use Rattle.layer_file.specs.Sectors.{HasSectors};
 ghost use Rattle.store_model.specs.Disk.{WhereTold, WhereBothTold};
 ghost use Rattle.store_model.specs.File.{is_sealed, seen};
 ghost use Rattle.store_model.specs.Trace.{file_of};
-ghost use Rattle.vhdx_app.specs.Causes.{AnswersDump, AnswersIn, Counts, LeavesDump, UnlessStoreFailed, cause_of_dump, meaning_of_dump};
+ghost use Rattle.vhdx_app.specs.Causes.{AnswersDump, AnswersIn, Counts, LeavesDump, UnlessStoreFailed, WhereRefused, cause_of_dump, meaning_of_dump};
 ghost use Rattle.file_open.specs.Causes.{LeavesBy};
 ghost use Rattle.file_open.specs.Effects.{KeepsFile};
 ghost use Rattle.vhdx_app.specs.Dump.{IsGiven};
-ghost use Rattle.vhdx_app.specs.Folders.{AllIdle, OnlyOpens};
+ghost use Rattle.vhdx_app.specs.Folders.{AllIdle, IsReplayedIn, OnlyOpens};
 
 use crate::folder::lend;
 use crate::refusal::DumpRefusal;
@@ -107,6 +107,8 @@ pub fn find<H: Host>(
     ensures idle { OnOk result (WhereTold (H.hosted host.old).folder (λ folder. WhereTold (H.hosted host.new).folder AllIdle)) }
     ensures idle_unless { IfErr result (λ refusal. UnlessStoreFailed (meaning_of_dump refusal) (WhereTold (H.hosted host.old).folder (λ folder. WhereTold (H.hosted host.new).folder AllIdle))) }
     ensures stays { OnlyOpens leaf (H.hosted host.old).folder (H.hosted host.new).folder }
+    ensures replayed { OnOk result (IsReplayedIn leaf (H.hosted host.old).folder (H.hosted host.new).folder) }
+    ensures replayed_where { IfErr result (λ refusal. WhereRefused (meaning_of_dump refusal) (IsReplayedIn leaf (H.hosted host.old).folder (H.hosted host.new).folder)) }
     ensures given { IfOk result (IsGiven first count) }
     ensures quiet { OnOk result ((H.hosted host.new).faults ≡ (H.hosted host.old).faults) }
     ensures counts { IfErr result (Counts (H.hosted host.old).faults (H.hosted host.new).faults) }

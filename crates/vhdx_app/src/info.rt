@@ -4,8 +4,8 @@ ghost use Rattle.std.specs.Prelude.{◌≡◌, Some, option_map, IfOk, IfErr, On
 ghost use Rattle.block_table.specs.Tables.{HasTable};
 ghost use Rattle.file_open.specs.Causes.{meaning_of, CountsBy};
 ghost use Rattle.store_model.specs.Disk.{WhereTold};
-ghost use Rattle.vhdx_app.specs.Folders.{AllIdle, OnlyOpens};
-ghost use Rattle.vhdx_app.specs.Causes.{UnlessStoreFailed};
+ghost use Rattle.vhdx_app.specs.Folders.{AllIdle, IsReplayedIn, OnlyOpens};
+ghost use Rattle.vhdx_app.specs.Causes.{UnlessStoreFailed, WhereRefused};
 ghost use Rattle.vhdx_app.specs.Info.{AnswersOpeningIn};
 
 use crate::folder::lend;
@@ -23,6 +23,8 @@ pub fn numbers_of<H: Host>(alloc: Global, host: &mut H, leaf: Name) -> Result<Pa
     ensures idle { OnOk result (WhereTold (H.hosted host.old).folder (λ folder. WhereTold (H.hosted host.new).folder AllIdle)) }
     ensures idle_unless { IfErr result (λ refusal. UnlessStoreFailed (meaning_of refusal) (WhereTold (H.hosted host.old).folder (λ folder. WhereTold (H.hosted host.new).folder AllIdle))) }
     ensures stays { OnlyOpens leaf (H.hosted host.old).folder (H.hosted host.new).folder }
+    ensures replayed { OnOk result (IsReplayedIn leaf (H.hosted host.old).folder (H.hosted host.new).folder) }
+    ensures replayed_where { IfErr result (λ refusal. WhereRefused (meaning_of refusal) (IsReplayedIn leaf (H.hosted host.old).folder (H.hosted host.new).folder)) }
     ensures quiet { OnOk result ((H.hosted host.new).faults ≡ (H.hosted host.old).faults) }
     ensures counts { IfErr result (λ refusal. CountsBy (H.hosted host.old).faults (H.hosted host.new).faults (meaning_of refusal)) }
 {

@@ -6,7 +6,7 @@ ghost use Rattle.command_line.specs.Requests.{File};
 ghost use Rattle.make_file.specs.Makes.{outside};
 ghost use Rattle.store_model.specs.Cause.{Rose};
 ghost use Rattle.store_model.specs.Disk.{WhereTold};
-ghost use Rattle.vhdx_app.specs.Folders.{AllIdle, OnlyOpens, SameContents};
+ghost use Rattle.vhdx_app.specs.Folders.{AllIdle, IsReplayedIn, OnlyOpens, SameContents};
 ghost use Rattle.vhdx_app.specs.Making.{AddsOnly, LooksAt};
 ghost use Rattle.vhdx_app.specs.Printed.{IsDumpText, IsInfoText, IsMakeText, Printed, PrintedText, Sent, Shows};
 
@@ -54,6 +54,7 @@ pub fn run<R: Threads + Wait, H: Host, S: Source, K: Sink, I: Ids, G: Gate>(
     // What stays: all files, but that the log of one that is opened may be replayed, and but for the one that is made.
     ensures stays { ((leaf : List ℕ) → Shows (map string_bytes words.now) leaf → ⊥) → ((name : List ℕ) (file : File) → Makes (map string_bytes words.now) name file → ⊥) → SameContents (H.hosted host.old).folder (H.hosted host.new).folder }
     ensures opened { (leaf : List ℕ) → Shows (map string_bytes words.now) leaf → OnlyOpens leaf (H.hosted host.old).folder (H.hosted host.new).folder }
+    ensures replayed { (leaf : List ℕ) → Shows (map string_bytes words.now) leaf → (result ≡ Status.Done) ⊎ (result ≡ Status.Refused) → IsReplayedIn leaf (H.hosted host.old).folder (H.hosted host.new).folder }
     ensures kept { (name : List ℕ) (file : File) → Makes (map string_bytes words.now) name file → result ≢ Status.Done → result ≢ Status.Fault → LooksAt file (H.hosted host.old).folder (H.hosted host.new).folder }
     ensures others { (name : List ℕ) (file : File) → Makes (map string_bytes words.now) name file → AddsOnly name file (H.hosted host.old).folder (H.hosted host.new).folder }
     ensures undrawn { ((name : List ℕ) (file : File) → Makes (map string_bytes words.now) name file → ⊥) → I.drawn ids.new ≡ I.drawn ids.old }

@@ -1,5 +1,5 @@
 -- A file whose log is replayed is read as it was.
-use Rattle.std.proofs.Common.{◌≡◌, ℕ, ◌+◌, ◌%◌, ◌<◌, ◌≤◌, Bool, true, false, cond, List, length, take, drop, get_or, Option, Some, None, Result, Ok, Err, refl, sym, ap, subst, ◌∙◌, arith, inl, inr, lit≤, length-drop}
+use Rattle.std.proofs.Common.{◌≡◌, ℕ, ◌+◌, ◌%◌, ◌<◌, ◌≤◌, ◌⊎◌, Bool, true, false, cond, List, length, take, drop, get_or, Option, Some, None, Result, Ok, Err, refl, sym, ap, subst, ◌∙◌, arith, inl, inr, lit≤, length-drop}
 use Rattle.std.specs.Prelude.{codes, not, nat_lt, ok_or, ◌&&◌, ◌||◌}
 use Rattle.std.proofs.lemmas.Bool.{not-false, le-ltb, le-leb, lt-ltb, ltb-false, leb-true, eqb-true, cases_Bool}
 use Rattle.std.specs.Str.{bytes_eq}
@@ -15,6 +15,7 @@ use Rattle.vhdx_format.specs.FileParts.{flushed_of, read_head, settle, settled_b
 use Rattle.vhdx_format.specs.Headers.{current_header, has_bad_log_place, has_bad_version, read_headers}
 use Rattle.vhdx_format.specs.Identifiers.{has_signature, identified}
 use Rattle.vhdx_format.specs.Logs.{Entry, HasNoSequence, IsActive}
+use Rattle.vhdx_format.specs.ActiveLaws.{active_or_none}
 use Rattle.vhdx_format.specs.Rules.{BrokenRule, NoHeader, NotVhdx, TooShort, BadVersion, BadLogPlace, TruncatedBelowLog, ◌>>=◌, unless}
 use Rattle.vhdx_format.specs.SettledFiles.{after_replay, flushed, replayed, ring_of, settled}
 use Rattle.vhdx_format.proofs.CommitLemmas.{on_active-is, on_active-none}
@@ -276,3 +277,11 @@ module _ (header : Header) (file : List ℕ) (first : Entry) (others : List Entr
 
 pub replayed_files_are_read : ReplayedFilesAreRead
 replayed_files_are_read header file first others can = reads_as_before header file first others can
+
+-- a file's log has a sequence, or there is nothing to replay
+pub nothing_or_sequence : (header : Header) (file : List ℕ) → read_head file ≡ Ok header → HasNothingToReplay header file ⊎ ((first : Entry) × (others : List Entry) × HasSequence header file first others)
+nothing_or_sequence header file read = elim (cases_Bool (is_zero_id header.log)) [
+  | inl e ↦ inl (inl e)
+  | inr e ↦
+      elim (active_or_none header.log_at header.log (ring_of header.log_at header.log_len file) (whole header file read)) [ inl a ↦ inr (a.0, a.1, record { named = e; active = a.2 }) | inr n ↦ inl (inr n) ]
+]

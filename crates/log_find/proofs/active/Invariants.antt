@@ -1,13 +1,15 @@
-use Rattle.log_find.specs.KnownEntries.{AreKnown}
-use Rattle.log_find.proofs.Newest.{IsCandidate, rank}
+use Rattle.std.specs.List.{sum_by}
+use Rattle.log_find.specs.Found.{AreNewest}
+use Rattle.log_find.specs.KnownEntries.{IsMindOf}
+use Rattle.log_find.proofs.Candidates.{rank}
 use Rattle.log_find.proofs.active.Given as goal
 
-abbrev pub invariant-loop-candidate : goal.invariant-loop-candidate
-invariant-loop-candidate l =
+abbrev pub invariant-loop-last : goal.invariant-loop-last
+invariant-loop-last l =
     record {
-      candidate : IsCandidate l.log l.id l.ring l.candidate;
-      known : AreKnown l.log l.id l.ring l.known;
+      newest : AreNewest l.log l.id l.ring l.heads;
+      mind : IsMindOf l.log l.id l.ring l.mind;
     }
 
-abbrev pub decreases-loop-candidate : goal.decreases-loop-candidate
-decreases-loop-candidate l = rank l.ring l.candidate
+abbrev pub decreases-loop-last : goal.decreases-loop-last
+decreases-loop-last l = sum_by (rank l.ring) l.heads

@@ -1,8 +1,8 @@
 use Rattle.std.proofs.Common.{refl}
 use Rattle.file_open.specs.Causes.{meaning_of}
 use Rattle.vhdx_app.specs.Causes.{of_file}
-use Rattle.vhdx_app.proofs.Lent.{opens_none}
-use Rattle.vhdx_app.proofs.Said.{counts_file, file_refused, file_shown, idle_reported, line_ended, no_memory_ended, refused_ended, unless_of_file}
+use Rattle.vhdx_app.proofs.Lent.{opens_none, replayed_for, where_of_file}
+use Rattle.vhdx_app.proofs.Said.{counts_file, file_refused, file_shown, idle_reported, line_ended, no_memory_ended, no_memory_shown, replayed_reported, refused_ended, unless_of_file}
 use Rattle.vhdx_app.proofs.commands.info.Goals as goal
 
 pub returns-in-Err-clause-ended : goal.returns-in-Err-clause-ended
@@ -27,3 +27,12 @@ pub returns-in-Err-numbers_of-clause-idle : goal.returns-in-Err-numbers_of-claus
 returns-in-Err-numbers_of-clause-idle g c fault =
     let meaning = meaning_of c.in-Err-numbers_of.refusal in
     idle_reported c.args.leaf.now (of_file meaning) _ _ _ _ _ (unless_of_file _ meaning c.in-Err-numbers_of.ensures.idle_unless) c.refuse_file.ensures fault
+
+pub returns-in-Err-clause-replayed : goal.returns-in-Err-clause-replayed
+returns-in-Err-clause-replayed g c shown = absurd (no_memory_shown _ _ _ _ _ _ c.out_of_memory.ensures shown)
+
+pub returns-in-Err-numbers_of-clause-replayed : goal.returns-in-Err-numbers_of-clause-replayed
+returns-in-Err-numbers_of-clause-replayed g c shown =
+    let meaning = meaning_of c.in-Err-numbers_of.refusal in
+    replayed_for _ c.args.leaf.now _ _ c.in-Ok.ensures
+    (replayed_reported c.args.leaf.now (of_file meaning) _ _ _ _ _ (where_of_file _ meaning c.in-Err-numbers_of.ensures.replayed_where) c.refuse_file.ensures shown)

@@ -1,9 +1,9 @@
-use Rattle.std.proofs.Common.{Ok, Err, ap, subst, ◌∙◌, [], ◌∷◌}
+use Rattle.std.proofs.Common.{ap, subst, ◌∙◌, [], ◌∷◌}
 use Rattle.std.specs.Prelude.{option_map}
 use Rattle.store_model.specs.Folder.{attached_trace, HasFailed, RoseWhere}
 use Rattle.vhdx_app.specs.Causes.{AnswersIn, meaning_of_dump}
 use Rattle.vhdx_app.proofs.Found.{counts_of, fresh_of, quiet_of, there_answers, unlent_answers, unlent_counts}
-use Rattle.vhdx_app.proofs.Lent.{are_away, idle_dumped, idle_undumped, idle_unlent, lent_as, opened_only, seen-attached, stays_unlent, unless_err, unsealed_lent}
+use Rattle.vhdx_app.proofs.Lent.{are_away, idle_dumped, idle_undumped, idle_unlent, lent_as, opened_only, replayed_dumped, replayed_undumped, seen-attached, stays_unlent, unless_err, unsealed_lent}
 use Rattle.vhdx_app.proofs.dump.find.Goals as goal
 
 pub returns-in_err-store-clause-answer : goal.returns-in_err-store-clause-answer
@@ -52,3 +52,14 @@ returns-clause-idle g c =
 pub returns-clause-idle_unless : goal.returns-clause-idle_unless
 returns-clause-idle_unless g c =
     idle_undumped c.args.leaf _ _ _ _ _ c.in_ok-store.ensures.ok c.look-looked.ensures.kept c.requires.idle c.give_back.ensures.folder c.look-looked.result c.look-looked.ensures.store
+
+pub returns-in_err-store-clause-replayed_where : goal.returns-in_err-store-clause-replayed_where
+returns-in_err-store-clause-replayed_where g c = replayed_undumped c.args.leaf _ _ _ _ c.from_residual.ensures.1 c.in_err-store.ensures.err
+
+pub returns-clause-replayed : goal.returns-clause-replayed
+returns-clause-replayed g c =
+    (replayed_dumped c.args.leaf _ _ _ _ _ c.in_ok-store.ensures.ok c.look-looked.ensures.kept c.requires.idle c.give_back.ensures.folder c.look-looked.result c.look-looked.ensures.store).0
+
+pub returns-clause-replayed_where : goal.returns-clause-replayed_where
+returns-clause-replayed_where g c =
+    (replayed_dumped c.args.leaf _ _ _ _ _ c.in_ok-store.ensures.ok c.look-looked.ensures.kept c.requires.idle c.give_back.ensures.folder c.look-looked.result c.look-looked.ensures.store).1

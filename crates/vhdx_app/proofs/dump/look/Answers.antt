@@ -1,10 +1,10 @@
-use Rattle.std.proofs.Common.{◌≤◌, ◌*◌, ◌^◌, sym, ap, subst, ◌∙◌, arith}
+use Rattle.std.proofs.Common.{◌≤◌, ◌*◌, ◌^◌, ap, subst, arith}
 use Rattle.store_model.specs.File.{seen}
 use Rattle.store_model.specs.Trace.{file_of}
 use Rattle.vhdx_app.specs.Dump.{empty_range, too_long, out_of_range, found}
 use Rattle.vhdx_app.proofs.Found.{unopened}
 use Rattle.vhdx_app.proofs.Looking.{kept_later, sectors_before, sound_after}
-use Rattle.file_open.proofs.Leaving.{after_opened, still_opened}
+use Rattle.file_open.proofs.Leaving.{still_opened}
 use Rattle.vhdx_app.proofs.dump.look.Goals as goal
 
 pub returns-in_err-parts-clause-answer : goal.returns-in_err-parts-clause-answer

@@ -3,7 +3,7 @@ use Rattle.std.specs.Prelude.{option_map}
 use Rattle.store_model.specs.Folder.{attached_trace, HasFailed, RoseWhere}
 use Rattle.file_open.specs.Causes.{meaning_of}
 use Rattle.vhdx_app.proofs.Found.{fresh_of, opening_counts, opening_quiet, there_opening, unlent_opening, unlent_opening_counts}
-use Rattle.vhdx_app.proofs.Lent.{are_away, idle_told, idle_unlent, idle_untold, lent_as, opened_only, seen-attached, stays_unlent, unless_err, unsealed_lent}
+use Rattle.vhdx_app.proofs.Lent.{are_away, idle_told, idle_unlent, idle_untold, lent_as, opened_only, replayed_told, replayed_unopened, seen-attached, stays_unlent, unless_err, unsealed_lent}
 use Rattle.vhdx_app.proofs.info.numbers_of.Goals as goal
 
 pub returns-in_err-store-clause-answer : goal.returns-in_err-store-clause-answer
@@ -51,3 +51,14 @@ returns-clause-idle g c =
 pub returns-clause-idle_unless : goal.returns-clause-idle_unless
 returns-clause-idle_unless g c =
     idle_untold c.args.leaf _ _ _ _ _ c.in_ok-store.ensures.ok c.open_file-opened.ensures.kept c.requires.idle c.give_back.ensures.folder c.open_file-opened.result c.open_file-opened.ensures.store
+
+pub returns-in_err-store-clause-replayed_where : goal.returns-in_err-store-clause-replayed_where
+returns-in_err-store-clause-replayed_where g c = replayed_unopened c.args.leaf _ _ _ _ c.from_residual.ensures.1 c.in_err-store.ensures.err
+
+pub returns-clause-replayed : goal.returns-clause-replayed
+returns-clause-replayed g c =
+    (replayed_told c.args.leaf _ _ _ _ _ c.in_ok-store.ensures.ok c.open_file-opened.ensures.kept c.requires.idle c.give_back.ensures.folder c.open_file-opened.result c.open_file-opened.ensures.store).0
+
+pub returns-clause-replayed_where : goal.returns-clause-replayed_where
+returns-clause-replayed_where g c =
+    (replayed_told c.args.leaf _ _ _ _ _ c.in_ok-store.ensures.ok c.open_file-opened.ensures.kept c.requires.idle c.give_back.ensures.folder c.open_file-opened.result c.open_file-opened.ensures.store).1

@@ -5,7 +5,7 @@ use Rattle.command_line.proofs.Single.{one_dump, one_info, one_make}
 use Rattle.vhdx_app.specs.Printed.{done, none}
 use Rattle.vhdx_app.proofs.Lent.{opens_none}
 use Rattle.vhdx_app.proofs.Made.{adds_for, adds_none, looks_still}
-use Rattle.vhdx_app.proofs.Said.{asked, asked_none, shown_none, info_for, made_for, printed_for, text_sent}
+use Rattle.vhdx_app.proofs.Said.{asked, asked_none, shown_none, info_for, made_for, no_memory_shown, printed_for, text_sent}
 use Rattle.vhdx_app.proofs.program.run.Goals as goal
 
 pub returns-in-Ok-Some-Dump-clause-printed : goal.returns-in-Ok-Some-Dump-clause-printed
@@ -69,3 +69,9 @@ pub returns-in-Ok-Some-Make-clause-others : goal.returns-in-Ok-Some-Make-clause-
 returns-in-Ok-Some-Make-clause-others g c name file is =
     adds_for _ name _ file _ _
     (one_make _ _ name _ file (asked _ _ (Make c.in-Ok-Some-Make.name c.in-Ok-Some-Make.file) (c.in-Ok-Some-Make.field-0-is ∙ ap Some c.in-Ok-Some-Make.field-0-0-is) c.in-Ok-Some-Make.ensures) is) c.make.ensures.others
+
+pub returns-in-Ok-None-clause-replayed : goal.returns-in-Ok-None-clause-replayed
+returns-in-Ok-None-clause-replayed g c leaf shows ended = absurd (shown_none _ leaf (asked_none _ _ c.in-Ok-None.field-0-is c.in-Ok-None.ensures) shows)
+
+pub returns-in-Err-clause-replayed : goal.returns-in-Err-clause-replayed
+returns-in-Err-clause-replayed g c leaf shows ended = absurd (no_memory_shown _ _ _ _ _ _ c.out_of_memory.ensures ended)
