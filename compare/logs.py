@@ -5,6 +5,7 @@ Of each file as it was when qemu was stopped, the program replays one copy and q
 Run by hand; needs the kit and the package qemu-utils.
 """
 import os
+import pathlib
 import random
 import shutil
 import subprocess
@@ -42,6 +43,7 @@ def stopped(name, seed):
 def files_of_a_stopped_qemu():
     with_log = 0
     for seed in range(20):
+        pathlib.Path("k.vhdx").unlink(missing_ok=True)
         stopped("k.vhdx", seed)
         with_log += names_a_log("k.vhdx")
         shutil.copy("k.vhdx", "ours.vhdx")

@@ -5,7 +5,7 @@ import subprocess
 import sys
 
 TOP = pathlib.Path(__file__).resolve().parent.parent
-PROGRAM = TOP / "vhdx"
+PROGRAM = os.environ.get("VHDX_PROGRAM", TOP / "vhdx")
 SECTOR = 512
 MOST = 2048
 
