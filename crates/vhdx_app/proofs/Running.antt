@@ -1,0 +1,78 @@
+-- What a run does, from what its commands do.
+use Rattle.std.proofs.Common.{◌≡◌, ◌≢◌, ◌⊎◌, ℕ, List, Option, Some, None, refl, inr, sym, subst, ◌∙◌}
+use Rattle.std.specs.Prelude.{MatchOption, codes}
+use Rattle.command_line.specs.Requests.{File, Wish, plain}
+use Rattle.command_line.specs.Requests as wish
+use Rattle.command_line.specs.Words.{Asks, AsksNothing}
+use Rattle.command_line.specs.declared.request.Request.{Request}
+use Rattle.command_line.proofs.Asked.{asked_once}
+use Rattle.make_file.specs.Makes.{outside}
+use Rattle.store_model.specs.Cause.{Rose}
+use Rattle.store_model.specs.Disk.{WhereTold}
+use Rattle.store_model.specs.Folder.{Hosted}
+use Rattle.vhdx_app.specs.Commands.{Ended, MakeEnded}
+use Rattle.vhdx_app.specs.Folders.{AllIdle, IsReplayedIn, OnlyOpens, OpensSafely}
+use Rattle.vhdx_app.specs.Printed.{Sent, cut, whole}
+use Rattle.vhdx_app.specs.Runs.{Ends, OpensFirst, Runs}
+use Rattle.vhdx_app.specs.Worlds.{World, world}
+use Rattle.vhdx_app.specs.declared.status.Status.{Status}
+use Rattle.vhdx_app.specs.declared.status.Status.TheVariants.{Done, Refused, Usage, Fault, NoMemory}
+use Rattle.vhdx_app.proofs.Home.{home_added, home_opened, home_still}
+use Rattle.vhdx_app.proofs.Lent.{opens_none}
+use Rattle.vhdx_app.proofs.Made.{adds_none, looks_still, still_making}
+use Rattle.vhdx_app.proofs.Safe.{still_safely}
+use Rattle.vhdx_app.proofs.Said.{asked, asked_none, no_memory_shown}
+
+module _ (words : List (List ℕ)) (told : Option Request) (h : MatchOption told (AsksNothing words) (λ r. Asks words (plain r))) where
+  -- the words have one wish, and it is the one that was told
+  pub runs_for : (request : Request) → told ≡ Some request → (before now : World) (status : Status) → Runs (plain request) before now status → (w : Wish) → Asks words w → Runs w before now status
+  runs_for request is before now status runs w asks = subst (λ w. Runs w before now status) (asked_once words (plain request) w (asked words told request is h) asks) runs
+
+  pub some_asked : (request : Request) → told ≡ Some request → AsksNothing words → ⊥
+  some_asked request is nothing = nothing (plain request) (asked words told request is h)
+
+  pub none_asked : told ≡ None → (w : Wish) → Asks words w → ⊥
+  none_asked is = asked_none words told is h
+
+-- ---- the commands
+
+pub opens_first : (leaf : List ℕ) (before now : World) (status : Status) → OnlyOpens leaf before.host.folder now.host.folder → ((status ≡ Done) ⊎ (status ≡ Refused) → IsReplayedIn leaf before.host.folder now.host.folder)
+    → OpensSafely leaf before.host now.host → now.drawn ≡ before.drawn → now.left ≡ before.left → OpensFirst leaf before now status
+opens_first leaf before now status opened replayed moments undrawn unread = record { opened = opened; replayed = replayed; moments = moments; undrawn = undrawn; unread = unread }
+
+module _ (before now : World) (status : Status) (idle : WhereTold before.host.folder AllIdle) where
+  pub opened_ends : (leaf : List ℕ) (is_text : Status → List ℕ → Type 0) → Ended is_text before.host.faults now.host.faults before.written now.written before.sink_faults now.sink_faults status → OnlyOpens leaf before.host.folder now.host.folder
+      → (status ≢ Fault → WhereTold before.host.folder (λ folder. WhereTold now.host.folder AllIdle)) → Ends before now status
+  opened_ends leaf is_text ended opened stays_idle = record { rose = ended.rose; quiet = ended.quiet; home = home_opened leaf before.host.folder now.host.folder idle opened; idle = stays_idle }
+
+  pub made_ends : (name : List ℕ) (file : File) → MakeEnded name file (outside before.host before.drawn) (outside now.host now.drawn) before.written now.written before.sink_faults now.sink_faults status → Ends before now status
+  made_ends name file ended = record { rose = ended.ended.rose; quiet = ended.ended.quiet; home = home_added name file before.host.folder now.host.folder idle ended.others; idle = ended.idle }
+
+-- ---- where nothing is done but that a text is printed
+
+sent_rose : (meant : Status) (before after : Option (List ℕ)) (old new : ℕ) (text : List ℕ) (status : Status) → (meant ≡ Fault → ⊥) → Sent before after old new meant text status → status ≡ Fault → Rose old new
+sent_rose meant before after old new text status none (whole is sent same) fault = absurd (none (sym is ∙ fault))
+sent_rose meant before after old new text status none (cut is n sent rose) fault = rose
+
+sent_quiet : (meant : Status) (before after : Option (List ℕ)) (old new : ℕ) (text : List ℕ) (status : Status) → Sent before after old new meant text status → status ≢ Fault → new ≡ old
+sent_quiet meant before after old new text status (whole is sent same) fault = same
+sent_quiet meant before after old new text status (cut is n sent rose) fault = absurd (fault is)
+
+module _ (host : Hosted) (drawn : Option (List (List ℕ))) (left sunk after : Option (List ℕ)) (old new : ℕ) (status : Status) (idle : WhereTold host.folder AllIdle) where
+  pub sent_ends : (meant : Status) (text : List ℕ) → (meant ≡ Fault → ⊥) → Sent sunk after old new meant text status → Ends (world host drawn left sunk old) (world host drawn left after new) status
+  sent_ends meant text none sent = record {
+    rose = λ fault. inr (sent_rose meant sunk after old new text status none sent fault);
+    quiet = λ fault. (refl, sent_quiet meant sunk after old new text status sent fault);
+    home = home_still host.folder host.folder idle refl;
+    idle = λ fault f told. idle;
+  }
+
+  pub no_memory_runs : Sent sunk after old new NoMemory (codes "no memory\n") status → (w : Wish) → Runs w (world host drawn left sunk old) (world host drawn left after new) status
+  no_memory_runs sent (wish.dump leaf first count) = record { printed = record { meant = NoMemory; text = codes "no memory\n"; said = refl; sent = sent }; opens = opens_first leaf _ _ status (opens_none leaf host.folder host.folder idle refl) (λ shown. absurd (no_memory_shown _ _ _ _ _ _ sent shown)) (still_safely leaf host host idle refl refl) refl refl }
+  no_memory_runs sent (wish.info leaf) = record { printed = record { meant = NoMemory; text = codes "no memory\n"; said = refl; sent = sent }; opens = opens_first leaf _ _ status (opens_none leaf host.folder host.folder idle refl) (λ shown. absurd (no_memory_shown _ _ _ _ _ _ sent shown)) (still_safely leaf host host idle refl refl) refl refl }
+  no_memory_runs sent (wish.make name file) = record { printed = record { meant = NoMemory; text = codes "no memory\n"; said = refl; sent = sent }; kept = λ done fault. looks_still file host.folder idle; others = adds_none name file host.folder idle; moments = still_making name file host idle; unread = refl }
+  no_memory_runs sent wish.help = record { printed = record { meant = NoMemory; text = codes "no memory\n"; said = refl; sent = sent }; stays = refl }
+  no_memory_runs sent wish.version = record { printed = record { meant = NoMemory; text = codes "no memory\n"; said = refl; sent = sent }; stays = refl }
+
+pub usage_ends : (host : Hosted) (drawn : Option (List (List ℕ))) (left sunk : Option (List ℕ)) (old : ℕ) (status : Status) → WhereTold host.folder AllIdle → status ≡ Usage → Ends (world host drawn left sunk old) (world host drawn left sunk old) status
+usage_ends host drawn left sunk old status idle is = record { rose = λ fault. let e : Usage ≡ Fault = sym is ∙ fault in cc; quiet = λ fault. (refl, refl); home = home_still host.folder host.folder idle refl; idle = λ fault f told. idle }

@@ -1,0 +1,76 @@
+-- What a run does, by what the words ask for.
+use Rattle.std.specs.Prelude.{◌≡◌, ◌≢◌, ◌⊎◌, ℕ, List, codes}
+use Rattle.command_line.specs.Requests.{File, Wish, dump, help, info, make, version}
+use Rattle.command_line.specs.Words.{help_text, version_text}
+use Rattle.make_file.specs.Makes.{Outside, outside}
+use Rattle.store_model.specs.Cause.{Rose}
+use Rattle.store_model.specs.Disk.{WhereTold}
+use Rattle.vhdx_app.specs.Folders.{AllHome, AllIdle, IsReplayedIn, OnlyOpens, OpensSafely}
+use Rattle.vhdx_app.specs.Making.{AddsOnly, LooksAt, MakesSafely}
+use Rattle.vhdx_app.specs.Printed.{IsDumpText, IsInfoText, IsMakeText, IsOwnText, Printed, Sent}
+use Rattle.vhdx_app.specs.Worlds.{World}
+use Rattle.vhdx_app.specs.declared.status.Status.{Status}
+use Rattle.vhdx_app.specs.declared.status.Status.TheVariants.{Done, Refused, Usage, Fault, NoMemory}
+
+-- the text of the status that was meant went to the sink
+abbrev pub Prints : (Status → List ℕ → Type 0) → World → World → Status → Type 0
+Prints is_text before now status = Printed is_text before.written now.written before.sink_faults now.sink_faults status
+
+-- nothing was done but that
+abbrev pub OnlyPrints : World → World → Type 0
+OnlyPrints before now = now ≡ record before { written = now.written; sink_faults = now.sink_faults }
+
+-- A file is opened, and beside that nothing is done: its log may be replayed, and it is where no fault ended the run and memory
+-- didn't run out. `moments` says so of each moment of the run, of what a crash may leave then.
+pub record OpensFirst (leaf : List ℕ) (before now : World) (status : Status) : Type 0 where
+  pub opened : OnlyOpens leaf before.host.folder now.host.folder
+  pub replayed : (status ≡ Done) ⊎ (status ≡ Refused) → IsReplayedIn leaf before.host.folder now.host.folder
+  pub moments : OpensSafely leaf before.host now.host
+  pub undrawn : now.drawn ≡ before.drawn
+  pub unread : now.left ≡ before.left
+
+pub record RunsDump (leaf : List ℕ) (first count : ℕ) (before now : World) (status : Status) : Type 0 where
+  pub printed : Prints (IsDumpText before.host now.host leaf first count) before now status
+  pub opens : OpensFirst leaf before now status
+
+pub record RunsInfo (leaf : List ℕ) (before now : World) (status : Status) : Type 0 where
+  pub printed : Prints (IsInfoText before.host now.host leaf) before now status
+  pub opens : OpensFirst leaf before now status
+
+abbrev pub outside_of : World → Outside
+outside_of w = outside w.host w.drawn
+
+-- At most the one file is added, at its end or at any moment; none is where no fault ended the run and it isn't done.
+pub record RunsMake (name : List ℕ) (file : File) (before now : World) (status : Status) : Type 0 where
+  pub printed : Prints (IsMakeText name file (outside_of before) (outside_of now)) before now status
+  pub kept : status ≢ Done → status ≢ Fault → LooksAt file before.host.folder now.host.folder
+  pub others : AddsOnly name file before.host.folder now.host.folder
+  pub moments : MakesSafely name file before.host now.host
+  pub unread : now.left ≡ before.left
+
+-- a text of the program's own is printed, and nothing else is done
+pub record RunsText (own : List ℕ) (before now : World) (status : Status) : Type 0 where
+  pub printed : Prints (IsOwnText own) before now status
+  pub stays : OnlyPrints before now
+
+-- what a run does that is asked for this
+abbrev pub Runs : Wish → World → World → Status → Type 0
+Runs (dump leaf first count) before now status = RunsDump leaf first count before now status
+Runs (info leaf) before now status = RunsInfo leaf before now status
+Runs (make name file) before now status = RunsMake name file before now status
+Runs help before now status = RunsText help_text before now status
+Runs version before now status = RunsText version_text before now status
+
+-- what it does where the words ask for nothing: nothing at all, or it tells that memory ran out
+pub data RunsNothing (before now : World) (status : Status) : Type 0 where
+  usage : status ≡ Usage → now ≡ before → RunsNothing before now status
+  no_memory : OnlyPrints before now → Sent before.written now.written before.sink_faults now.sink_faults NoMemory (codes "no memory\n") status
+      → RunsNothing before now status
+
+-- However it ends: a fault is answered only where a count rose, the host's or the sink's, and none is passed over. No file is
+-- away, and nothing of any is unsynced but after a fault.
+pub record Ends (before now : World) (status : Status) : Type 0 where
+  pub rose : status ≡ Fault → Rose before.host.faults now.host.faults ⊎ Rose before.sink_faults now.sink_faults
+  pub quiet : status ≢ Fault → (now.host.faults ≡ before.host.faults) × (now.sink_faults ≡ before.sink_faults)
+  pub home : WhereTold before.host.folder (λ folder. WhereTold now.host.folder AllHome)
+  pub idle : status ≢ Fault → WhereTold before.host.folder (λ folder. WhereTold now.host.folder AllIdle)
