@@ -19,7 +19,7 @@ USE = re.compile(r"^(?:pub |unfoldable |ghost )*use Rattle\.([\w.«»]+?)(?:\.\{
 
 
 class Module:
-    """A file of specs/: its words with their lines, its imports, and of constructors and fields the word that has them."""
+    """A file of specs/: its words with their lines, its imports, and of constructors the word that has them."""
 
     def __init__(self, path):
         self.words, self.names, self.modules, self.owners, self.inner = {}, {}, {}, {}, {}
@@ -43,8 +43,9 @@ class Module:
                 self.words[word].append(line)
                 inner = re.match(r"^ +(?:pub )?([^\s():]+) :", line)
                 if inner:
-                    self.owners.setdefault(inner.group(1), word)
                     self.inner.setdefault(word, set()).add(inner.group(1))
+                    if any(first.startswith(("pub data ", "data ")) for first in self.words[word]):
+                        self.owners.setdefault(inner.group(1), word)
 
     def add_use(self, path, names, alias):
         if names is not None:
@@ -121,9 +122,9 @@ def roots():
         found = USE.match(line.replace("ghost use", "use"))
         if found:
             program.add_use(*found.groups())
-    start = text.index("pub fn run<")
-    for clause in re.findall(r"^ +(?:requires|ensures) .*$", text[start:], re.M):
-        yield from mentions(clause, program.names, program.modules, {})
+    head = text[text.index("pub fn run<"):]
+    clauses = head[:head.index("\n{\n")]
+    yield from mentions(clauses[clauses.index("requires"):], program.names, program.modules, {})
 
 
 def reached():
@@ -148,10 +149,10 @@ def listing(found):
     for path in order:
         words = [word for word in module(path).words if word in found[path]]
         count += len(words)
-        lines += sum(len([line for line in module(path).words[word] if line.strip()]) for word in words)
+        lines += sum(1 for word in words for line in module(path).words[word] if line.strip() and not line.strip().startswith("--"))
         crate, _, rest = path.partition(".specs.")
         rows.append(f"- `{crate}` {rest}: " + ", ".join(f"`{word}`" for word in words))
-    head = f"{count} words in {len(order)} files, {lines:,} lines with their comments."
+    head = f"{count} words in {len(order)} files, {lines:,} lines without comments."
     return head, rows
 
 
