@@ -1,6 +1,6 @@
 -- What the functions of the commands say of themselves; what a run promises doesn't rest on these.
 use Rattle.std.specs.Prelude.{◌≡◌, ◌≢◌, ◌⊎◌, ◌<◌, ◌≤◌, ◌+◌, ◌*◌, ◌^◌, ℕ, true, false, List, [], ◌∷◌, length, codes, Option, option_map, Result, Ok, Err}
-use Rattle.command_line.specs.Requests.{File}
+use Rattle.command_line.specs.Requests.{File as NewFile}
 use Rattle.command_line.specs.Requests as new
 use Rattle.file_open.specs.Causes.{IfCause, Meaning, refuses, host_failed, store_failed, no_memory, cause_of}
 use Rattle.file_open.specs.Opening as opening
@@ -8,14 +8,13 @@ use Rattle.file_open.specs.declared.refusal.OpenRefusal.{OpenRefusal}
 use Rattle.make_file.specs.Makes.{Outside}
 use Rattle.store_model.specs.Cause.{Rose}
 use Rattle.store_model.specs.Disk.{Disk, WhereTold}
-use Rattle.store_model.specs.Folder.{Held, Hosted, HostFailed, attached_trace, has_name, without}
+use Rattle.store_model.specs.Folder.{Held, Hosted, HostFailed, attached_trace, has_name, seen_named, without}
 use Rattle.vhdx_format.specs.AllocationTables.{IsBlockSize}
 use Rattle.vhdx_format.specs.Fields.{megabyte, sector_size}
 use Rattle.vx_base.specs.Names.{IsName}
 use Rattle.vx_base.specs.declared.parts.Parts.{Parts}
 use Rattle.vhdx_app.specs.Answers.{fault_line}
 use Rattle.vhdx_app.specs.Folders.{AllIdle}
-use Rattle.vhdx_app.specs.Info.{OpensIn}
 use Rattle.vhdx_app.specs.Making.{AddsOnly, LooksAt, MakesSafely}
 use Rattle.vhdx_app.specs.Printed.{IsMakeText, Printed, Sent}
 use Rattle.vhdx_app.specs.Refusals.{Refusal, refusal_line}
@@ -35,6 +34,11 @@ LendsNone name old new (host_failed fault) = HostFailed old new fault
 LendsNone name old new (store_failed fault) = ⊥
 LendsNone name old new no_memory = ⊥
 
+-- In the folder the file of this name is opened to its numbers, or it is refused.
+pub data OpensIn (folder : List Held) (leaf : List ℕ) : Result Parts opening.Refusal → Type 0 where
+  missing : has_name leaf folder ≡ false → OpensIn folder leaf (Err opening.FileMissing)
+  there : (result : Result Parts opening.Refusal) → has_name leaf folder ≡ true → opening.Opens (seen_named leaf folder) result → OpensIn folder leaf result
+
 -- the answer on a file that is opened
 abbrev pub AnswersOpeningIn : List Held → List ℕ → Result Parts OpenRefusal → Type 0
 AnswersOpeningIn folder leaf (Ok parts) = OpensIn folder leaf (Ok parts)
@@ -47,7 +51,7 @@ pub record IsGiven (first count : ℕ) (bytes : List ℕ) : Type 0 where
 
 -- a file that may be asked for: a disk of at least a sector and at most 64 TB, blocks of a size that a block may have, and,
 -- of a child, the name of a parent
-abbrev pub IsNewFile : File → Type 0
+abbrev pub IsNewFile : NewFile → Type 0
 IsNewFile (new.fixed sectors block) = (1 ≤ sectors) × (sectors ≤ 2 ^ 37) × IsBlockSize (megabyte * block)
 IsNewFile (new.dynamic sectors block) = (1 ≤ sectors) × (sectors ≤ 2 ^ 37) × IsBlockSize (megabyte * block)
 IsNewFile (new.child parent block) = IsName parent × IsBlockSize (megabyte * block)
@@ -68,7 +72,7 @@ pub record Ended (is_text : Status → List ℕ → Type 0) (faults_before fault
 
 -- `make` has ended. Where it made no file and met no fault there is what it looked at, and after any end but that of a fault
 -- nothing of any file is unsynced.
-pub record MakeEnded (name : List ℕ) (file : File) (before now : Outside) (sunk after : Option (List ℕ)) (old new : ℕ) (status : Status) : Type 0 where
+pub record MakeEnded (name : List ℕ) (file : NewFile) (before now : Outside) (sunk after : Option (List ℕ)) (old new : ℕ) (status : Status) : Type 0 where
   pub ended : Ended (IsMakeText name file before now) before.host.faults now.host.faults sunk after old new status
   pub kept : status ≢ Done → status ≢ Fault → LooksAt file before.host.folder now.host.folder
   pub others : AddsOnly name file before.host.folder now.host.folder

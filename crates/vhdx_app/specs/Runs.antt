@@ -1,6 +1,6 @@
 -- What a run does, by what the words ask for.
 use Rattle.std.specs.Prelude.{◌≡◌, ◌≢◌, ◌⊎◌, ℕ, List, codes}
-use Rattle.command_line.specs.Requests.{File, Wish, dump, help, info, make, version}
+use Rattle.command_line.specs.Requests.{File as NewFile, Wish, dump, help, info, make, version}
 use Rattle.command_line.specs.Words.{help_text, version_text}
 use Rattle.make_file.specs.Makes.{Outside, outside}
 use Rattle.store_model.specs.Cause.{Rose}
@@ -41,7 +41,7 @@ abbrev pub outside_of : World → Outside
 outside_of w = outside w.host w.drawn
 
 -- At most the one file is added, at its end or at any moment; none is where no fault ended the run and it isn't done.
-pub record RunsMake (name : List ℕ) (file : File) (before now : World) (status : Status) : Type 0 where
+pub record RunsMake (name : List ℕ) (file : NewFile) (before now : World) (status : Status) : Type 0 where
   pub printed : Prints (IsMakeText name file (outside_of before) (outside_of now)) before now status
   pub kept : status ≢ Done → status ≢ Fault → LooksAt file before.host.folder now.host.folder
   pub others : AddsOnly name file before.host.folder now.host.folder
