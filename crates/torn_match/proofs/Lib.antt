@@ -1,0 +1,4 @@
+pub mod Meant
+pub mod Copies
+pub mod Entries
+pub mod Moments

@@ -1,0 +1,2 @@
+pub mod TornMatches
+pub mod Laws
