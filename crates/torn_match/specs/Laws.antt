@@ -41,10 +41,12 @@ IsOldOrWritten old at n bytes image = (bytes_at image at n ≡ bytes_at old at n
 
 -- A copy that is written and that is valid in the image is the one before or the one that was written, in full.
 pub record CopiesAreWhole : Type 0 where
-  pub header : (file : File) (copy : ℕ) (bytes image : List ℕ) → is_synced file ≡ true → 1 ≤ copy → copy ≤ 2 → length bytes ≡ 4096 → header_place copy ≤ length (seen file)
+  pub header : (file : File) (copy : ℕ) (bytes image : List ℕ) → is_synced file ≡ true → 1 ≤ copy → copy ≤ 2
+      → length bytes ≡ 4096 → header_place copy ≤ length (seen file)
       → HasNoTornMatch (with_op (Write (header_place copy) bytes) file) image → is_valid_header (bytes_at image (header_place copy) 4096) ≡ true
       → IsOldOrWritten (seen file) (header_place copy) 4096 bytes image
-  pub region : (file : File) (copy : ℕ) (bytes image : List ℕ) → is_synced file ≡ true → 1 ≤ copy → copy ≤ 2 → length bytes ≡ 65536 → region_place copy ≤ length (seen file)
+  pub region : (file : File) (copy : ℕ) (bytes image : List ℕ) → is_synced file ≡ true → 1 ≤ copy → copy ≤ 2
+      → length bytes ≡ 65536 → region_place copy ≤ length (seen file)
       → HasNoTornMatch (with_op (Write (region_place copy) bytes) file) image → is_valid_region_table (bytes_at image (region_place copy) 65536) ≡ true
       → IsOldOrWritten (seen file) (region_place copy) 65536 bytes image
 
@@ -75,14 +77,18 @@ start_write header e = Write header.log_at (drop (header.log_len - e.at) e.bytes
 abbrev pub head_write : Header → Entry → Op
 head_write header e = Write (header.log_at + e.at) (take (header.log_len - e.at) e.bytes)
 
+abbrev pub in_one : Header → Entry → File → File
+in_one header e file = with_op (whole_write header e) file
+
+abbrev pub in_two : Header → Entry → File → File
+in_two header e file = with_op (head_write header e) (with_op (start_write header e) file)
+
 -- An entry that is written in one part or in two begins, where it is valid in the image, as the ring did, or is whole.
 pub record WrittenEntriesAreWhole : Type 0 where
   pub one : (header : Header) (file : File) (e : Entry) → e.at + length e.bytes ≤ header.log_len
-      → GoesToLog header file e (seen (with_op (whole_write header e) file))
-      → EntriesAreWhole header file e (seen (with_op (whole_write header e) file)) (with_op (whole_write header e) file)
+      → GoesToLog header file e (seen (in_one header e file)) → EntriesAreWhole header file e (seen (in_one header e file)) (in_one header e file)
   pub start : (header : Header) (file : File) (e : Entry) → header.log_len < e.at + length e.bytes
-      → GoesToLog header file e (seen (with_op (head_write header e) (with_op (start_write header e) file)))
-      → EntriesAreWhole header file e (seen (with_op (head_write header e) (with_op (start_write header e) file))) (with_op (start_write header e) file)
+      → GoesToLog header file e (seen (in_two header e file))
+      → EntriesAreWhole header file e (seen (in_two header e file)) (with_op (start_write header e) file)
   pub both : (header : Header) (file : File) (e : Entry) → header.log_len < e.at + length e.bytes
-      → GoesToLog header file e (seen (with_op (head_write header e) (with_op (start_write header e) file)))
-      → EntriesAreWhole header file e (seen (with_op (head_write header e) (with_op (start_write header e) file))) (with_op (head_write header e) (with_op (start_write header e) file))
+      → GoesToLog header file e (seen (in_two header e file)) → EntriesAreWhole header file e (seen (in_two header e file)) (in_two header e file)

@@ -63,8 +63,10 @@ IsWholeFrom file image at n = IsTouched file at n → WasMeant (λ meant. bytes_
 -- No torn match: each copy of the header and of the region table that is valid in the image, and each entry that the log of its
 -- current header holds, is whole.
 pub record HasNoTornMatch (file : File) (image : List ℕ) : Type 0 where
-  pub headers : (copy : ℕ) → 1 ≤ copy → copy ≤ 2 → is_valid_header (bytes_at image (header_place copy) 4096) ≡ true → IsWholeFrom file image (header_place copy) 4096
-  pub regions : (copy : ℕ) → 1 ≤ copy → copy ≤ 2 → is_valid_region_table (bytes_at image (region_place copy) 65536) ≡ true → IsWholeFrom file image (region_place copy) 65536
+  pub headers : (copy : ℕ) → 1 ≤ copy → copy ≤ 2 → is_valid_header (bytes_at image (header_place copy) 4096) ≡ true
+      → IsWholeFrom file image (header_place copy) 4096
+  pub regions : (copy : ℕ) → 1 ≤ copy → copy ≤ 2 → is_valid_region_table (bytes_at image (region_place copy) 65536) ≡ true
+      → IsWholeFrom file image (region_place copy) 65536
   pub entries : (header : Header) (e : Entry) → read_head image ≡ Ok header → HoldsEntry header.log_at header.log (ring_in header image) e
       → IsEntryTouched file header.log_at header.log_len e → WasMeant (λ meant. ring_bytes (ring_in header meant) e.at (length e.bytes) ≡ e.bytes) file
 
