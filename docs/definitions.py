@@ -152,7 +152,8 @@ def listing(found):
         lines += sum(1 for word in words for line in module(path).words[word] if line.strip() and not line.strip().startswith("--"))
         crate, _, rest = path.partition(".specs.")
         rows.append(f"- `{crate}` {rest}: " + ", ".join(f"`{word}`" for word in words))
-    head = f"{count} words in {len(order)} files, {lines:,} lines without comments."
+    whole = sum(1 for path in order for line in file_of(path).read_text().split("\n") if line.strip() and not line.startswith("use "))
+    head = f"{count} words in {len(order)} files: {lines:,} lines without comments, in {whole:,} lines of these files without imports."
     return head, rows
 
 

@@ -1,5 +1,6 @@
 -- The files that a name stands for, and the disk that they show: today it is one file, which has no parent.
-use Rattle.std.specs.Prelude.{◌≡◌, ◌<◌, ◌+◌, ◌*◌, ℕ, true, false, List, [], ◌∷◌, length, Some, None, Result, Ok, Err}
+use Rattle.std.specs.Prelude.{◌≡◌, ◌<◌, ◌+◌, ◌*◌, ℕ, true, false, List, [], ◌∷◌, length, Option, Some, None, Result, Ok, Err}
+use Rattle.store_model.specs.Disk.{WhereTold}
 use Rattle.store_model.specs.Folder.{Held, has_name, seen_named}
 use Rattle.vx_base.specs.declared.parts.Parts.{Parts}
 use Rattle.file_open.specs.Opening.{Opens, FileMissing}
@@ -8,6 +9,7 @@ use Rattle.vhdx_format.specs.Fields.{bytes_at}
 use Rattle.vhdx_format.specs.FileParts.{shape_of}
 use Rattle.vhdx_format.specs.Layers.{layer_sector}
 use Rattle.vhdx_format.specs.SettledFiles.{StandsFor}
+use Rattle.vhdx_app.specs.Refusals.{Refusal, OfFile}
 
 -- what refuses, and the file that it is of
 pub record FileRefusal (R : Type 0) : Type 0 where
@@ -35,6 +37,11 @@ pub data Links (folder : List Held) (leaf : List ℕ) : Result (List Link) (File
   refused : (refusal : opening.Refusal) → has_name leaf folder ≡ true → Opens (seen_named leaf folder) (Err refusal)
       → Links folder leaf (Err (refusal_of leaf refusal))
   alone : (parts : Parts) → has_name leaf folder ≡ true → Opens (seen_named leaf folder) (Ok parts) → Links folder leaf (Ok (link leaf parts ∷ []))
+
+-- what refuses one of them; where the folder is told, it is the first by its cause
+pub data RefusesOpening (folder : Option (List Held)) (leaf : List ℕ) : FileRefusal Refusal → Type 0 where
+  not_opened : (file : List ℕ) (refusal : opening.Refusal) → IsFileOf leaf file → WhereTold folder (λ f. Links f leaf (Err (refusal_of file refusal)))
+      → RefusesOpening folder leaf (refusal_of file (OfFile refusal))
 
 -- a sector's bytes are those of the first file that owns it, as that file is once its log is replayed
 pub data HasSector (folder : List Held) (sector : ℕ) : List Link → List ℕ → Type 0 where

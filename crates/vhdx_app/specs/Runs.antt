@@ -29,12 +29,9 @@ pub record OpensFirst (leaf : List ℕ) (before now : World) (status : Status) :
   pub undrawn : now.drawn ≡ before.drawn
   pub unread : now.left ≡ before.left
 
-pub record RunsDump (leaf : List ℕ) (first count : ℕ) (before now : World) (status : Status) : Type 0 where
-  pub printed : Prints (IsDumpText before.host now.host leaf first count) before now status
-  pub opens : OpensFirst leaf before now status
-
-pub record RunsInfo (leaf : List ℕ) (before now : World) (status : Status) : Type 0 where
-  pub printed : Prints (IsInfoText before.host now.host leaf) before now status
+-- what a file shows is printed, or what refuses it
+pub record RunsShowing (leaf : List ℕ) (is_text : Status → List ℕ → Type 0) (before now : World) (status : Status) : Type 0 where
+  pub printed : Prints is_text before now status
   pub opens : OpensFirst leaf before now status
 
 abbrev pub outside_of : World → Outside
@@ -55,8 +52,8 @@ pub record RunsText (own : List ℕ) (before now : World) (status : Status) : Ty
 
 -- what a run does that is asked for this
 abbrev pub Runs : Wish → World → World → Status → Type 0
-Runs (dump leaf first count) before now status = RunsDump leaf first count before now status
-Runs (info leaf) before now status = RunsInfo leaf before now status
+Runs (dump leaf first count) before now status = RunsShowing leaf (IsDumpText before.host now.host leaf first count) before now status
+Runs (info leaf) before now status = RunsShowing leaf (IsInfoText before.host now.host leaf) before now status
 Runs (make name file) before now status = RunsMake name file before now status
 Runs help before now status = RunsText help_text before now status
 Runs version before now status = RunsText version_text before now status
