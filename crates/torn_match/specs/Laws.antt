@@ -1,6 +1,6 @@
 -- What it means that an image has no torn match, of one write to a file that was synced.
 use Rattle.std.specs.Prelude.{◌≡◌, ◌⊎◌, ◌<◌, ◌≤◌, ℕ, ◌+◌, ◌-◌, ◌%◌, Bool, true, false, List, [], ◌∷◌, length, take, drop, Ok}
-use Rattle.store_model.specs.Bytes.{bytes_at}
+use Rattle.store_model.specs.Bytes.{bytes_at, written_over}
 use Rattle.store_model.specs.File.{Op, Write, Tear, Grow, Sync, Seal, File, IsFileImage, is_synced, seen, with_op}
 use Rattle.vx_base.specs.declared.parts.Header.{Header}
 use Rattle.vhdx_format.specs.FileParts.{read_head}
@@ -35,20 +35,24 @@ FailedLeavesNoMore =
 
 -- ---- copies of the header and of the region table
 
--- the n bytes of the image from `at` on are those of the file, or the ones that were written there
-abbrev pub IsOldOrWritten : List ℕ → ℕ → ℕ → List ℕ → List ℕ → Type 0
-IsOldOrWritten old at n bytes image = (bytes_at image at n ≡ bytes_at old at n) ⊎ (bytes_at image at n ≡ bytes)
+-- the n bytes of the image from `at` on are those before a write, or those behind it
+abbrev pub IsOldOrNew : ℕ → ℕ → List ℕ → List ℕ → List ℕ → Type 0
+IsOldOrNew at n old new image = (bytes_at image at n ≡ bytes_at old at n) ⊎ (bytes_at image at n ≡ bytes_at new at n)
 
--- A copy that is written and that is valid in the image is the one before or the one that was written, in full.
+-- what a crash may leave, without a torn match, of one write to a file that was synced
+pub record IsLeftOfOne (file : File) (at : ℕ) (bytes image : List ℕ) : Type 0 where
+  pub synced : is_synced file ≡ true
+  pub left : IsFileImage (with_op (Write at bytes) file) image
+  pub whole : HasNoTornMatch (with_op (Write at bytes) file) image
+
+-- A copy that is valid in it is the one before the write or the one behind it, in full.
 pub record CopiesAreWhole : Type 0 where
-  pub header : (file : File) (copy : ℕ) (bytes image : List ℕ) → is_synced file ≡ true → 1 ≤ copy → copy ≤ 2
-      → length bytes ≡ 4096 → header_place copy ≤ length (seen file)
-      → HasNoTornMatch (with_op (Write (header_place copy) bytes) file) image → is_valid_header (bytes_at image (header_place copy) 4096) ≡ true
-      → IsOldOrWritten (seen file) (header_place copy) 4096 bytes image
-  pub region : (file : File) (copy : ℕ) (bytes image : List ℕ) → is_synced file ≡ true → 1 ≤ copy → copy ≤ 2
-      → length bytes ≡ 65536 → region_place copy ≤ length (seen file)
-      → HasNoTornMatch (with_op (Write (region_place copy) bytes) file) image → is_valid_region_table (bytes_at image (region_place copy) 65536) ≡ true
-      → IsOldOrWritten (seen file) (region_place copy) 65536 bytes image
+  pub header : (file : File) (at : ℕ) (bytes image : List ℕ) → IsLeftOfOne file at bytes image → (copy : ℕ) → 1 ≤ copy → copy ≤ 2
+      → is_valid_header (bytes_at image (header_place copy) 4096) ≡ true
+      → IsOldOrNew (header_place copy) 4096 (seen file) (written_over (seen file) at bytes) image
+  pub region : (file : File) (at : ℕ) (bytes image : List ℕ) → IsLeftOfOne file at bytes image → (copy : ℕ) → 1 ≤ copy → copy ≤ 2
+      → is_valid_region_table (bytes_at image (region_place copy) 65536) ≡ true
+      → IsOldOrNew (region_place copy) 65536 (seen file) (written_over (seen file) at bytes) image
 
 -- ---- log entries
 
