@@ -1,0 +1,17 @@
+//! Tests of what guests and users write and read: calls, scripts, words, and the stores below them. Values come from outside.
+#![tactic(auto)]
+
+#[cfg(test)]
+mod claiming;
+#[cfg(test)]
+mod files;
+#[cfg(test)]
+mod history;
+#[cfg(test)]
+mod memory;
+#[cfg(test)]
+mod scripts;
+#[cfg(test)]
+mod transcripts;
+#[cfg(test)]
+mod words;

@@ -1,0 +1,95 @@
+//! Scripts, with their lines or their first broken line.
+
+use script::{Form, ScriptKind, ScriptRefusal, read_script};
+use std::alloc::Global;
+use std::test::Fail;
+
+const STEPS: ScriptKind = ScriptKind::Steps;
+
+const SERVE: ScriptKind = ScriptKind::Serve;
+
+// Whether the text is a script of these lines.
+fn are_lines(
+    alloc: Global,
+    kind: ScriptKind,
+    text: &[u8],
+    wanted: &[(u32, Form)],
+) -> Result<bool, Fail> {
+    let script = read_script(alloc, text, kind)?;
+    let mut read = script.lines().iter().zip(wanted.iter());
+    Ok(
+        script.lines().len() == wanted.len()
+            && read.all(|(line, (guest, form))| line.guest == *guest && line.form == *form),
+    )
+}
+
+#[test]
+fn lines_are_read(rt: HostRuntime) -> Result<(), Fail> {
+    let forms =
+        b"# all forms\xff\x00\nread 4094 4\nwrite 0 1 aB\n\ntrim 18446744073709551615 0\nflush";
+    let read = Form::Read {
+        first: 4094,
+        count: 4,
+    };
+    let write = Form::Write {
+        first: 0,
+        count: 1,
+        byte: 0xab,
+    };
+    let trim = Form::Trim {
+        first: u64::MAX,
+        count: 0,
+    };
+    let steps = [(1, read), (1, write), (1, trim), (1, Form::Flush)];
+    assert!(rt; are_lines(rt.alloc(), STEPS, forms, &steps)?);
+    let served = [(1, write), (64, Form::Flush)];
+    assert!(rt; are_lines(rt.alloc(), SERVE, b"1 write 0 1 ab\n64 flush\n", &served)?);
+    assert!(rt; are_lines(rt.alloc(), SERVE, b"\n\n#", &[])?);
+    // a line of 80 bytes
+    let longest =
+        b"#2345678901234567890123456789012345678901234567890123456789012345678901234567890\nflush";
+    assert!(rt; are_lines(rt.alloc(), STEPS, longest, &[(1, Form::Flush)])?);
+    Ok(())
+}
+
+// The number of the first broken line; None of a script.
+fn broken_line(alloc: Global, kind: ScriptKind, text: &[u8]) -> Result<Option<u64>, Fail> {
+    match read_script(alloc, text, kind) {
+        Ok(_) => Ok(None),
+        Err(ScriptRefusal::Line { number }) => Ok(Some(number)),
+        Err(ScriptRefusal::NoRoom) => Err("no room")?,
+    }
+}
+
+static BROKEN_STEPS: [(&[u8], u64); 14] = [
+    (b"flush\nwrite 0 1 g1\nread\n", 2),
+    (b"read 0 01", 1),
+    (b"read 0  1", 1),
+    (b"read 0 1 ", 1),
+    (b"read 0", 1),
+    (b" flush", 1),
+    (b"flush\r\n", 1),
+    (b"Flush", 1),
+    (b"#\n\nread 18446744073709551616 1\nnone", 3),
+    (b"write 0 1 0aa", 1),
+    (b"read -1 1", 1),
+    (b"1 flush", 1),
+    (b"\nfinish", 2),
+    (
+        b"\n#23456789012345678901234567890123456789012345678901234567890123456789012345678901",
+        2,
+    ),
+];
+
+static BROKEN_SERVE: [&[u8]; 5] = [b"flush", b"0 flush", b"65 flush", b"1  flush", b"1 put"];
+
+#[test]
+fn the_first_broken_line_is_named(rt: HostRuntime) -> Result<(), Fail> {
+    for (text, wanted) in &BROKEN_STEPS {
+        assert_eq!(rt; broken_line(rt.alloc(), STEPS, text)?, Some(*wanted));
+    }
+    for text in &BROKEN_SERVE {
+        assert_eq!(rt; broken_line(rt.alloc(), SERVE, text)?, Some(1));
+    }
+    Ok(())
+}
