@@ -46,11 +46,9 @@ fn listed_writes_fail(rt: HostRuntime) -> Result<(), Fail> {
 
 #[test]
 fn listed_identifiers_come_first(rt: HostRuntime) -> Result<(), Fail> {
-    let mut ids = MemIds::new(rt.alloc(), [[7; 16]].to_vec(rt.alloc())?, 1)?;
+    let mut ids = MemIds::new([[7; 16]].to_vec(rt.alloc())?);
     assert_eq!(rt; ids.draw(), [7; 16]);
-    assert!(rt; ids.tells);
     assert_eq!(rt; ids.draw()[15], 1);
-    assert!(rt; !ids.tells);
     Ok(())
 }
 
