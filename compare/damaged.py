@@ -41,8 +41,8 @@ class Plan:
         self.parent = rng.random() < 0.02
         self.log_length = rng.choice((1, 1, 1, 2)) * MB
         self.meta_length = rng.choice((1, 1, 1, 2)) * MB
-        self.bat_length = MB
-        room = 9 - (1 + self.log_length // MB + self.meta_length // MB + 1)
+        self.bat_length = rng.choice((1, 1, 1, 2)) * MB
+        room = 8 - (self.log_length + self.meta_length + self.bat_length) // MB
         units = self.block // MB
         ratio = model.chunk_ratio(self.sector, self.block)
         if self.fixed:
@@ -60,7 +60,7 @@ class Plan:
 
     def place_all(self, units):
         """Gives every piece its place, in the usual order or in another one."""
-        pieces = [("log", self.log_length), ("meta", self.meta_length), ("bat", MB)] + [(b, units * MB) for b in self.present]
+        pieces = [("log", self.log_length), ("meta", self.meta_length), ("bat", self.bat_length)] + [(b, units * MB) for b in self.present]
         if self.rng.random() < 0.5:
             self.rng.shuffle(pieces)
         self.at, end = {}, MB
@@ -96,6 +96,8 @@ def write_regions(plan, image):
     rows = [(BAT, plan.at["bat"], plan.bat_length, 1), (METADATA, plan.at["meta"], plan.meta_length, 1)]
     if rng.random() < 0.2:
         rows.append((rng.randbytes(16), rng.getrandbits(64), rng.getrandbits(32), rng.getrandbits(32) & ~1))
+    if rng.random() < 0.01:
+        rows += [(rng.randbytes(16), 0, 0, 0) for _ in range(rng.choice((2047, 2048)) - len(rows))]
     if rng.random() < 0.5:
         rng.shuffle(rows)
     plan.region_rows = len(rows)
@@ -119,6 +121,8 @@ def write_metadata(plan, image):
         items.append((rng.randbytes(16), rng.choice((0, 1, 2, 3)), rng.randbytes(rng.choice((0, 5, 4096)))))
     if rng.random() < 0.05:
         items.append((model.SIZE[0], 1, bytes(8)))
+    if rng.random() < 0.01:
+        items += [(rng.randbytes(16), 1, b"") for _ in range(rng.choice((1500, 2047, 2048)) - len(items))]
     if rng.random() < 0.5:
         rng.shuffle(items)
     at, end = plan.at["meta"], 65536
@@ -144,7 +148,7 @@ def write_blocks(plan, image):
         state = rng.randrange(8) if bitmap else rng.choice((0, 1, 2, 3))
         put(image, bat + 8 * index, struct.pack("<Q", rng.getrandbits(61) << 3 | state))
     if rng.random() < 0.3:
-        put(image, bat + 8 * rng.randint(entries, MB // 8 - 1), struct.pack("<Q", rng.getrandbits(64)))
+        put(image, bat + 8 * rng.randint(entries, plan.bat_length // 8 - 1), struct.pack("<Q", rng.getrandbits(64)))
     for block in plan.present:
         at = plan.at[block]
         put(image, bat + 8 * index_of(plan, block), struct.pack("<Q", at | rng.getrandbits(17) << 3 | 6))
@@ -306,6 +310,7 @@ def torn_entry(plan, image, place, tail, number, log_id):
 
 # The damage. Each takes a field, gives it another value, and makes the checksum true again most of the time.
 
+TOP = 1 << 64
 UNITS = (0, MB, 2 * MB, 3 * MB, 4 * MB, 5 * MB, 6 * MB, 8 * MB)
 FEW = (0, 1, 2, 3, 4, 5, 7, 2047, 2048)
 IDS = [key[0] for key in (*model.LENGTHS, model.LOCATOR, model.RETIRED)]
@@ -338,7 +343,8 @@ def change(plan, image, at, width, likely=FEW):
 
 
 def places_in(plan):
-    return [*plan.at.values(), *plan.at.values(), plan.length, plan.length - MB, *UNITS]
+    """Places that a field may name: those of the pieces more often than others."""
+    return [*plan.at.values(), *plan.at.values(), plan.length, plan.length - MB, TOP - MB, TOP - plan.block, *UNITS]
 
 
 def copied(image, at, width, apart):
@@ -363,7 +369,7 @@ def damage_header(plan, image):
 def damage_regions(plan, image):
     """Signature, count, an entry's fields, an entry more: of one copy or of both alike."""
     rng, at = plan.rng, plan.rng.choice((196608, 262144))
-    row = at + 16 + 32 * rng.randrange(plan.region_rows + (rng.random() < 0.2))
+    row = at + 16 + 32 * rng.randrange(min(20, plan.region_rows) + (rng.random() < 0.2))
     what = rng.choice(("head", "count", "id", "offset", "offset", "offset", "length", "length", "length", "flags", "more", "more", "more"))
     if what == "more":
         entry = rng.choice((bytes(image[row:row + 32]), struct.pack("<16sQII", rng.randbytes(16), MB, MB, rng.getrandbits(1)),
@@ -388,8 +394,8 @@ def damage_metadata(plan, image):
     rng, at, count = plan.rng, plan.at["meta"], len(plan.items)
     chosen = rng.randrange(count)
     row, (_, offset, length) = at + 32 + 32 * chosen, plan.items[chosen]
-    offsets = [0, 65535, 65536, plan.meta_length, plan.meta_length - length, *(item[1] for item in plan.items)]
-    lengths = [0, 4, 8, 16, MB, MB + 1, MB - 65536, plan.meta_length - offset, plan.meta_length - offset + 1, length + 1, 2 * length]
+    offsets = [0, 65535, 65536, plan.meta_length, plan.meta_length - length, (1 << 32) - length, *(item[1] for item in plan.items)]
+    lengths = [0, 4, 8, 16, MB, MB + 1, MB - 65536, plan.meta_length - offset, plan.meta_length - offset + 1, length + 1, 2 * length, (1 << 32) - offset]
     what = rng.choice(("head", "count", "id", "id", "offset", "offset", "length", "length", "flags", "flags", "more", "more"))
     if what == "more":
         old = bytes(image[row:row + 32])
@@ -407,7 +413,7 @@ def damage_value(plan, image):
     """The value of an item, or a retired name."""
     rng, at = plan.rng, plan.at["meta"]
     if rng.random() < 0.08:
-        name = rng.choice(("", "a/b", "..", "x\0", "\ud800", "q" * 256, "\u00e9" * 128, ".", "a\\b", "o\ud83d\ude00/")).encode("utf-16-le", "surrogatepass")
+        name = rng.choice(("", "other.vhdx", "q" * 255, "\u00e9" * 127, "o\ud83d\ude00", "a/b", "..", "x\0", "\ud800", "q" * 256, "\u00e9" * 128, ".", "a\\b", "o\ud83d\ude00/")).encode("utf-16-le", "surrogatepass")
         row = at + 32 + 32 * len(plan.items)
         put(image, row, struct.pack("<16sIII4x", model.RETIRED[0], 65536 + 16384, len(name) + rng.choice((0, 0, 0, 1)), 1))
         put(image, at + 65536 + 16384, name)
@@ -454,12 +460,12 @@ def damage_log(plan, image):
     row = 64 + 32 * rng.randrange(max(1, min(count, 126)))
     ring = plan.log_length
     spots = [0, 0, 4096, 65536, 131072, 196608 - PAGE, 196608, plan.at["log"], plan.at["log"] - PAGE, plan.at["log"] + ring, plan.length, plan.length - PAGE,
-             1 << 63, (1 << 63) - PAGE, plan.length + MB]
+             1 << 63, (1 << 63) - PAGE, TOP - PAGE, plan.length + MB]
     at, width, likely = rng.choice((
         (0, 4, FEW), (8, 4, (0, PAGE, length - PAGE, length + PAGE, ring, ring + PAGE)), (12, 4, (0, PAGE, place, ring, ring - PAGE, place + 512)),
-        (16, 8, (0, 1, 2, 6)), (24, 4, (0, 1, count - 1, count + 1, 126, 127)), (32, 16, FEW), (48, 8, (0, len(image), len(image) + 1, len(image) - 1)),
+        (16, 8, (0, 1, 2, 6)), (24, 4, (0, 1, count - 1, count + 1, 126, 127, 1 << 27, (1 << 27) + count)), (32, 16, FEW), (48, 8, (0, len(image), len(image) + 1, len(image) - 1)),
         (48, 8, (len(image) + 1, plan.length)), (56, 8, (0, len(image), plan.length + 1, plan.length + 2 * MB, LONGEST, LONGEST + 1)), (row, 4, FEW),
-        (row + 4, 4, FEW), (row + 8, 8, (0, PAGE, 512, MB, PAGE + 8)), (row + 16, 8, spots), (row + 16, 8, spots), (row + 24, 8, FEW), (page, 4, FEW),
+        (row + 4, 4, FEW), (row + 8, 8, (0, PAGE, 512, MB, PAGE + 8, TOP - PAGE, 1 << 63)), (row + 16, 8, spots), (row + 16, 8, spots), (row + 24, 8, FEW), (page, 4, FEW),
         (page + 4, 4, FEW), (page + 4092, 4, FEW)))
     change(plan, entry, at, width, likely)
     if mended(rng):
@@ -474,7 +480,7 @@ def damage_log(plan, image):
 def damage_length(plan, image):
     rng = plan.rng
     length = rng.choice((rng.randrange(16), MB - 1, MB, rng.randrange(len(image) + 1), len(image) - 1, len(image) - 512, len(image) - MB,
-                         rng.choice(places_in(plan)) + rng.choice((0, -1, 1, 4096)), len(image) + rng.choice((1, PAGE, MB))))
+                         rng.choice(list(plan.at.values())) + rng.choice((0, -1, 1, 4096)), len(image) + rng.choice((1, PAGE, MB))))
     length = max(0, length)
     del image[length:]
     image.extend(bytes(length - len(image)))
@@ -545,7 +551,7 @@ def compared(seed, folder):
     except model.Refused:
         settled = model.Settled(data)
     first, count = ranges(plan, rng, answer)
-    calls = [(("info", NAME), model.info(NAME, data)), (("dump", NAME, first, count), model.dump(NAME, data, first, count))]
+    calls = [(("info", NAME), model.info(NAME, answer)), (("dump", NAME, first, count), model.dump(NAME, answer, first, count))]
     if rng.random() < 0.5:
         calls.reverse()
     met, differences = {call[0][0]: int(call[1][0].split()[1]) if call[1][1] else 0 for call in calls}, []

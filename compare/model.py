@@ -2,8 +2,8 @@
 definitions, its code or its tests. It is evidence beside the proofs: compare/damaged.py holds the program to it.
 
 open_file(data) gives Opened(..) or Refused(number, name, values), the first rule that the bytes break; sector(opened, n) the bytes of a
-sector of its disk; info(name, data) and dump(name, data, first, count) what these commands print, and their status. There is a function
-for each rule, in the order in which they are asked. Other files aren't looked at: a parent is refused, a retired name is kept alone.
+sector of its disk; info(name, answer) and dump(name, answer, first, count) what these commands print, and their status. There is a
+function for each rule, in the order in which they are asked. Other files aren't looked at: a parent is refused, a retired name is kept alone.
 """
 import collections
 import functools
@@ -31,7 +31,7 @@ class Refused(Exception):
 
 
 class Settled:
-    """A file's bytes, the log's updates laid over them in their order, and zeros up to the length."""
+    """A file's bytes, the log's updates laid over them in their order (no bytes: zeros), and zeros up to the length."""
 
     def __init__(self, data, updates=(), length=0):
         self.data, self.updates = data, updates
@@ -43,7 +43,7 @@ class Settled:
         for start, end, new in self.updates:
             low, high = max(start, at), min(end, at + count)
             if low < high:
-                out[low - at:high - at] = bytes(high - low) if new is None else new[low - start:high - start]
+                out[low - at:high - at] = new[low - start:high - start] if new else bytes(high - low)
         return bytes(out)
 
 
@@ -151,21 +151,21 @@ def around(ring, place, count):
 
 
 def update_of(descriptor, number, header):
-    """What a descriptor names: (start, end, its four leading fields), or None where it breaks a rule."""
-    signature, word, middle, at, own_number = struct.unpack("<4sIQQQ", descriptor)
-    if signature not in (b"zero", b"desc") or own_number != number:
+    """What a descriptor names: (start, end, kind, leading and trailing bytes), or None where it breaks a rule."""
+    kind, trailing, leading, at, own_number = struct.unpack("<4s4s8sQQ", descriptor)
+    if kind not in (b"zero", b"desc") or own_number != number:
         return None
-    length = middle if signature == b"zero" else PAGE
+    length = int.from_bytes(leading, "little") if kind == b"zero" else PAGE
     forbidden = length and (at < 196608 or overlap(at, length, header.log_offset, header.log_length))
     if not whole(at, PAGE) or not whole(length, PAGE) or at + length > 1 << 63 or forbidden:
         return None
-    return at, at + length, signature, struct.pack("<Q", middle), struct.pack("<I", word)
+    return at, at + length, kind, leading, trailing
 
 
-def data_of(page, number, first, last):
+def data_of(page, number, leading, trailing):
     """The page that a data sector and its descriptor's leading and trailing bytes give, or None where signature or number is wrong."""
     high, low = struct.unpack("<4xI4084xI", page)
-    return first + page[8:4092] + last if page[:4] == b"data" and high << 32 | low == number else None
+    return leading + page[8:4092] + trailing if page[:4] == b"data" and high << 32 | low == number else None
 
 
 def entry_at(ring, place, header):
@@ -178,14 +178,13 @@ def entry_at(ring, place, header):
     entry = around(ring, place, length)
     if described * PAGE > length or not checksum_holds(entry):
         return None
-    updates, page = [], described
-    for i in range(count):
-        start, end, kind, *ends = update_of(entry[64 + 32 * i:96 + 32 * i], number, header) or (0, 0, None)
-        page += kind == b"desc"
-        new = data_of(entry[page * PAGE - PAGE:page * PAGE], number, *ends) if kind == b"desc" and page * PAGE <= length else None
-        if kind is None or kind == b"desc" and new is None:
-            return None
-        updates.append((start, end, new))
+    named = [update_of(entry[64 + 32 * i:96 + 32 * i], number, header) for i in range(count)]
+    if None in named or (described + sum(kind == b"desc" for _, _, kind, *_ in named)) * PAGE > length:
+        return None
+    pages = (entry[at:at + PAGE] for at in range(described * PAGE, length, PAGE))
+    updates = [(at, end, data_of(next(pages), number, *ends) if kind == b"desc" else b"") for at, end, kind, *ends in named]
+    if any(new is None for _, _, new in updates):
+        return None
     return Entry(place, length, tail, number, flushed, last, updates)
 
 
@@ -521,16 +520,12 @@ def dump_lines(at, first, count):
     return "".join(f"{n} {sector(at, n).hex()}\n" for n in range(first, first + count))
 
 
-def printed(name, data, text):
+def info(name, answer):
+    return (refusal_line(name, answer), 1) if isinstance(answer, Refused) else (info_line(name, answer), 0)
+
+
+def dump(name, answer, first, count):
     try:
-        return text(opened(data, False)), 0
+        return (refusal_line(name, answer), 1) if isinstance(answer, Refused) else (dump_lines(answer, first, count), 0)
     except Refused as why:
         return refusal_line(name, why), 1
-
-
-def info(name, data):
-    return printed(name, data, lambda at: info_line(name, at))
-
-
-def dump(name, data, first, count):
-    return printed(name, data, lambda at: dump_lines(at, first, count))
