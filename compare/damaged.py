@@ -280,7 +280,9 @@ def cut_to(plan, image):
     """Sometimes the file is shorter than its settled bytes, mostly by zeros alone; its length."""
     rng = plan.rng
     if rng.random() < 0.3:
-        full = len(image.rstrip(b"\0")) if rng.random() < 0.8 else 0
+        full = len(image) if rng.random() < 0.8 else 0
+        while full and not any(image[full - PAGE:full]):
+            full -= PAGE
         least = max(plan.at["log"] + plan.log_length, full)
         del image[rng.choice((least, rng.randint(least, len(image)), max(least, len(image) - rng.choice((0, 1, 512))))):]
     return len(image)
@@ -370,8 +372,10 @@ def damage_regions(plan, image):
     """Signature, count, an entry's fields, an entry more: of one copy or of both alike."""
     rng, at = plan.rng, plan.rng.choice((196608, 262144))
     row = at + 16 + 32 * rng.randrange(min(20, plan.region_rows) + (rng.random() < 0.2))
-    what = rng.choice(("head", "count", "id", "offset", "offset", "offset", "length", "length", "length", "flags", "more", "more", "more"))
-    if what == "more":
+    what = rng.choice(("head", "count", "id", "offset", "offset", "offset", "length", "length", "length", "flags", "gone", "more", "more", "more"))
+    if what == "gone":
+        put(image, row, rng.choice((bytes(16), BAT, METADATA)) + image[row + 16:row + 28] + bytes(4))
+    elif what == "more":
         entry = rng.choice((bytes(image[row:row + 32]), struct.pack("<16sQII", rng.randbytes(16), MB, MB, rng.getrandbits(1)),
                             struct.pack("<16sQII", rng.choice((BAT, METADATA)), rng.choice(places_in(plan)), MB, rng.getrandbits(1))))
         where = at + 16 + 32 * rng.randint(0, plan.region_rows)
@@ -566,9 +570,10 @@ def compared(seed, folder):
         if found != expected:
             differences.append(f"seed {seed} ({kind}): {' '.join(map(str, words))}\n  model   {expected[1]} {expected[0][:300].rstrip()}\n"
                                f"  program {found[1]} {found[0][:300].rstrip()}")
-    if settled.length <= LONGEST and path.read_bytes() != settled.read(0, settled.length):
+    held = settled.read(0, min(settled.length, LONGEST)) if settled.updates or settled.length > len(data) else data
+    if settled.length <= LONGEST and path.read_bytes() != held:
         differences.append(f"seed {seed} ({kind}): the bytes left in the file aren't the settled ones")
-    replayed = settled.length != len(data) or settled.read(0, len(data)) != data
+    replayed = held != data
     return met["info"], met.get("dump"), replayed, kind.split(" log")[0], differences
 
 

@@ -62,19 +62,19 @@ def crc_on(value, data):
     return value
 
 
-STEP = bytes(256)
+STEP = bytes(1024)
 OVER_ZEROS = [crc_on(1 << bit, STEP) for bit in range(32)]
 
 
 @functools.lru_cache(maxsize=256)
 def crc32c(data):
-    """The CRC-32C; 256 zeros at once, since what they do to the value is linear in its bits."""
+    """The CRC-32C; 1,024 zeros at once, since what they do to the value is linear in its bits."""
     value = 0xFFFFFFFF
-    for at in range(0, len(data), 256):
-        if data[at:at + 256] == STEP:
+    for at in range(0, len(data), len(STEP)):
+        if data[at:at + len(STEP)] == STEP:
             value = functools.reduce(int.__xor__, (over for bit, over in enumerate(OVER_ZEROS) if value >> bit & 1), 0)
         else:
-            value = crc_on(value, data[at:at + 256])
+            value = crc_on(value, data[at:at + len(STEP)])
     return value ^ 0xFFFFFFFF
 
 
