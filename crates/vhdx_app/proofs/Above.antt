@@ -10,7 +10,7 @@ use Rattle.vx_base.specs.declared.parts.Parts.{Parts}
 use Rattle.shown_ids.specs.Shown.{shown}
 use Rattle.file_open.specs.Effects.{IsOpened}
 use Rattle.file_open.specs.declared.refusal.OpenRefusal.{OpenRefusal}
-use Rattle.vhdx_app.specs.Folders.{Lends}
+use Rattle.vhdx_app.specs.Commands.{Lends}
 use Rattle.vhdx_app.specs.Making.{ShowsIds}
 use Rattle.vhdx_app.proofs.Lent.{seen-attached}
 
