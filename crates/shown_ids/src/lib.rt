@@ -19,6 +19,7 @@ use header_pair::header_in;
 use parent_locator::{LocatorRefusal, linkage, parse, second_linkage};
 use std::alloc::Global;
 use store_model::{Store, StoreFault};
+use vhdx_format::{HEADER_LEN, HEADER_STEP, LOG_SECTOR};
 use vx_base::{Bytes, Guid, Header, NoRoom, Parts, bytes_at, guid_at};
 
 // Adds one, if there is one.
@@ -56,8 +57,8 @@ fn add_copy<S: Store>(
     ensures ids { OnOk result (WhereTold (S.disk store.old).told (λ trace. ids.new.items ≡ ids.old.items ++ header_ids (held_header (seen (file_of trace file)) copy))) }
     ensures store { LeavesStore file (S.disk store.old) (S.disk store.new) result }
 {
-    let mut bytes = [0; 4096];
-    store.read_at(file, 65_536 * u64::from(copy), &mut bytes)?;
+    let mut bytes = [0; HEADER_LEN];
+    store.read_at(file, HEADER_STEP as u64 * u64::from(copy), &mut bytes)?;
     add_header(ids, header_in(&bytes, copy))?;
     Ok(())
 }
@@ -103,7 +104,7 @@ fn add_places<S: Store>(
     ensures store { LeavesStore file (S.disk store.old) (S.disk store.new) result }
 {
     for k in 0..count {
-        let id = place_id(store, file, at + 4_096 * u64::from(k))?;
+        let id = place_id(store, file, at + LOG_SECTOR as u64 * u64::from(k))?;
         add(ids, id)?;
     }
     Ok(())
@@ -157,7 +158,7 @@ pub fn collect<S: Store>(
         log_len,
         ..
     } = parts.header;
-    add_places(store, file, log_at, log_len / 4_096, &mut ids)?;
+    add_places(store, file, log_at, log_len / LOG_SECTOR as u32, &mut ids)?;
     add_locator(alloc, &parts.locator, &mut ids)?;
     Ok(ids)
 }
