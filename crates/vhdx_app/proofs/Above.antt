@@ -9,7 +9,7 @@ use Rattle.store_model.specs.Trace.{Trace, file_of}
 use Rattle.vx_base.specs.declared.parts.Parts.{Parts}
 use Rattle.shown_ids.specs.Shown.{shown}
 use Rattle.file_open.specs.Effects.{IsOpened}
-use Rattle.file_open.specs.declared.refusal.OpenRefusal.{OpenRefusal}
+use Rattle.vhdx_app.specs.declared.refusal.LeafRefusal.{LeafRefusal}
 use Rattle.vhdx_app.specs.Commands.{Lends}
 use Rattle.vhdx_app.specs.Making.{ShowsIds}
 use Rattle.vhdx_app.proofs.Lent.{seen-attached}
@@ -23,7 +23,7 @@ shows_before parts known (Some x) (Some y) h is t told =
     subst (λ (s : Trace). ShowsIds parts (seen (file_of s 0)) known) (same_Some x t told) (record { settled = seen (file_of y 0); stands = h.bytes; known_are = is y refl })
 
 -- what is shown of a file that is lent is shown of it in its folder
-pub shows_in : (leaf : List ℕ) (old new : Hosted) (lent : Disk) (result : Result Parts OpenRefusal) (known : List (List ℕ)) → Lends leaf old new lent
+pub shows_in : (leaf : List ℕ) (old new : Hosted) (lent : Disk) (result : Result Parts LeafRefusal) (known : List (List ℕ)) → Lends leaf old new lent
     → IfOk result (λ parts. WhereTold lent.told (λ t. ShowsIds parts (seen (file_of t 0)) known)) → IfOk result (λ parts. WhereTold old.folder (λ f. ShowsIds parts (seen_named leaf f) known))
 shows_in leaf old new lent (Ok parts) known lends h = λ f told.
     subst (λ bytes. ShowsIds parts bytes known) (seen-attached leaf f)

@@ -7,8 +7,9 @@ use Rattle.vhdx_format.specs.Layers.{layer_sector}
 use Rattle.vhdx_format.specs.OpenedFiles.{OpensFile, sound}
 use Rattle.vhdx_format.specs.SettledFiles.{StandsFor}
 use Rattle.vhdx_format.proofs.FileLemmas.{stands_once}
-use Rattle.file_open.specs.Opening.{Opens, opened}
 use Rattle.file_open.specs.Opening as opening
+use Rattle.vhdx_app.proofs.Alone.{file_of_opened}
+use Rattle.vhdx_app.specs.Opening.{opened, NotOpened, OpensAlone, ByFile}
 use Rattle.vhdx_app.specs.Causes.{FindsIn, FindsNamed}
 use Rattle.vhdx_app.specs.Causes as one
 use Rattle.vhdx_app.specs.Chains.{HasFlat, HasSector, Link, Links, FileRefusal, link, refusal_of}
@@ -24,15 +25,15 @@ abbrev pub named : List ℕ → Result (List ℕ) Refusal → Result (List ℕ) 
 named leaf (Ok bytes) = Ok bytes
 named leaf (Err refusal) = Err (refusal_of leaf refusal)
 
-abbrev pub linked : List ℕ → Result Parts opening.Refusal → Result (List Link) (FileRefusal opening.Refusal)
+abbrev pub linked : List ℕ → Result Parts NotOpened → Result (List Link) (FileRefusal NotOpened)
 linked leaf (Ok parts) = Ok (link leaf parts ∷ [])
 linked leaf (Err refusal) = Err (refusal_of leaf refusal)
 
-pub links_there : (folder : List Held) (leaf : List ℕ) (result : Result Parts opening.Refusal) → has_name leaf folder ≡ true → Opens (seen_named leaf folder) result → Links folder leaf (linked leaf result)
+pub links_there : (folder : List Held) (leaf : List ℕ) (result : Result Parts NotOpened) → has_name leaf folder ≡ true → OpensAlone (seen_named leaf folder) result → Links folder leaf (linked leaf result)
 links_there folder leaf (Ok parts) has opens = chain.alone parts has opens
 links_there folder leaf (Err refusal) has opens = chain.refused refusal has opens
 
-pub links_by : (folder : List Held) (leaf : List ℕ) (result : Result Parts opening.Refusal) → OpensIn folder leaf result → Links folder leaf (linked leaf result)
+pub links_by : (folder : List Held) (leaf : List ℕ) (result : Result Parts NotOpened) → OpensIn folder leaf result → Links folder leaf (linked leaf result)
 links_by folder leaf _ (code.missing none) = chain.missing none
 links_by folder leaf _ (code.there result has opens) = links_there folder leaf result has opens
 
@@ -45,7 +46,7 @@ finds_of folder leaf first count _ has (one.found parts settled bytes opens some
     dump.found parts [] bytes (chain.alone parts has opens) some most within (record { len = sectors.len; each = λ i below. chain.own leaf parts [] settled _ stands (sectors.each i below) })
 
 pub finds_by : (folder : List Held) (leaf : List ℕ) (first count : ℕ) (result : Result (List ℕ) Refusal) → FindsNamed folder leaf first count result → Finds folder leaf first count (named leaf result)
-finds_by folder leaf first count _ (one.missing none) = dump.refused leaf opening.FileMissing (chain.missing none)
+finds_by folder leaf first count _ (one.missing none) = dump.refused leaf (ByFile opening.FileMissing) (chain.missing none)
 finds_by folder leaf first count _ (one.there result has h) = finds_of folder leaf first count result has h
 
 pub finds_there : (folder : List Held) (leaf file : List ℕ) (first count : ℕ) (result : Result (List ℕ) Refusal) → has_name leaf folder ≡ true → seen_named leaf folder ≡ file → FindsIn file first count result → Finds folder leaf first count (named leaf result)
@@ -66,8 +67,8 @@ record Stands (file : List ℕ) : Type 0 where
 stands_of : (file : List ℕ) (parts : Parts) → OpensFile file (Ok parts) → Stands file
 stands_of file parts (sound _ bytes read stands table) = record { bytes = bytes; stands = stands }
 
-stands_for : (file : List ℕ) (parts : Parts) → Opens file (Ok parts) → Stands file
-stands_for file parts (opened _ none opens) = stands_of file parts opens
+stands_for : (file : List ℕ) (parts : Parts) → OpensAlone file (Ok parts) → Stands file
+stands_for file parts (opened _ none opens) = stands_of file parts (file_of_opened file parts opens)
 
 no_sector : (folder : List Held) (s : ℕ) (bytes : List ℕ) (links : List Link) → links ≡ [] → HasSector folder s links bytes → ⊥
 no_sector folder s bytes _ e (chain.own name parts parents file _ stands is) = cc
@@ -77,15 +78,15 @@ sector_one : (folder : List Held) (leaf : List ℕ) (parts : Parts) (file : List
 sector_one folder leaf parts file s bytes stands (chain.own _ _ _ own _ also is) = ap (λ f. layer_sector (shape_of parts) f s) (stands_once (seen_named leaf folder) file own stands also) ∙ is
 sector_one folder leaf parts file s bytes stands (chain.inherited _ _ _ own _ also is h) = absurd (no_sector folder s bytes [] refl h)
 
-refused_one : (folder : List Held) (leaf : List ℕ) (first count : ℕ) (file : List ℕ) (refusal : opening.Refusal) → Links folder leaf (Err (refusal_of file refusal)) → FoundOne folder leaf first count (Err (refusal_of file (OfFile refusal)))
-refused_one folder leaf first count _ _ (chain.missing none) = record { one_result = Err (OfFile opening.FileMissing); finds = one.missing none; is = refl }
+refused_one : (folder : List Held) (leaf : List ℕ) (first count : ℕ) (file : List ℕ) (refusal : NotOpened) → Links folder leaf (Err (refusal_of file refusal)) → FoundOne folder leaf first count (Err (refusal_of file (OfFile refusal)))
+refused_one folder leaf first count _ _ (chain.missing none) = record { one_result = Err (OfFile (ByFile opening.FileMissing)); finds = one.missing none; is = refl }
 refused_one folder leaf first count _ _ (chain.refused refusal has opens) = record { one_result = Err (OfFile refusal); finds = one.there _ has (one.refused refusal opens); is = refl }
 
 module _ (folder : List Held) (leaf : List ℕ) (first count : ℕ) where
   -- the leaf is opened, and it has no parent
   record OpenedOne (parts : Parts) (parents : List Link) : Type 0 where
     has : has_name leaf folder ≡ true
-    opens : Opens (seen_named leaf folder) (Ok parts)
+    opens : OpensAlone (seen_named leaf folder) (Ok parts)
     alone : parents ≡ []
 
   opened_as : (name : List ℕ) (parts : Parts) (parents : List Link) → Links folder leaf (Ok (link name parts ∷ parents)) → OpenedOne parts parents

@@ -3,12 +3,12 @@ use Rattle.std.specs.Prelude.{◌≡◌, ◌<◌, ◌+◌, ◌*◌, ℕ, true, f
 use Rattle.store_model.specs.Disk.{WhereTold}
 use Rattle.store_model.specs.Folder.{Held, has_name, seen_named}
 use Rattle.vx_base.specs.declared.parts.Parts.{Parts}
-use Rattle.file_open.specs.Opening.{Opens, FileMissing}
-use Rattle.file_open.specs.Opening as opening
+use Rattle.file_open.specs.Opening.{FileMissing}
 use Rattle.vhdx_format.specs.Fields.{bytes_at}
 use Rattle.vhdx_format.specs.FileParts.{shape_of}
 use Rattle.vhdx_format.specs.Layers.{layer_sector}
 use Rattle.vhdx_format.specs.SettledFiles.{StandsFor}
+use Rattle.vhdx_app.specs.Opening.{NotOpened, OpensAlone, ByFile}
 use Rattle.vhdx_app.specs.Refusals.{Refusal, OfFile}
 
 -- what refuses, and the file that it is of
@@ -32,15 +32,15 @@ abbrev pub link : List ℕ → Parts → Link
 link name parts = record { name = name; parts = parts }
 
 -- the files from this one on, each before its parent; or what refuses one of them
-pub data Links (folder : List Held) (leaf : List ℕ) : Result (List Link) (FileRefusal opening.Refusal) → Type 0 where
-  missing : has_name leaf folder ≡ false → Links folder leaf (Err (refusal_of leaf FileMissing))
-  refused : (refusal : opening.Refusal) → has_name leaf folder ≡ true → Opens (seen_named leaf folder) (Err refusal)
+pub data Links (folder : List Held) (leaf : List ℕ) : Result (List Link) (FileRefusal NotOpened) → Type 0 where
+  missing : has_name leaf folder ≡ false → Links folder leaf (Err (refusal_of leaf (ByFile FileMissing)))
+  refused : (refusal : NotOpened) → has_name leaf folder ≡ true → OpensAlone (seen_named leaf folder) (Err refusal)
       → Links folder leaf (Err (refusal_of leaf refusal))
-  alone : (parts : Parts) → has_name leaf folder ≡ true → Opens (seen_named leaf folder) (Ok parts) → Links folder leaf (Ok (link leaf parts ∷ []))
+  alone : (parts : Parts) → has_name leaf folder ≡ true → OpensAlone (seen_named leaf folder) (Ok parts) → Links folder leaf (Ok (link leaf parts ∷ []))
 
 -- what refuses one of them; where the folder is told, it is the first by its cause
 pub data RefusesOpening (folder : Option (List Held)) (leaf : List ℕ) : FileRefusal Refusal → Type 0 where
-  not_opened : (file : List ℕ) (refusal : opening.Refusal) → IsFileOf leaf file → WhereTold folder (λ f. Links f leaf (Err (refusal_of file refusal)))
+  not_opened : (file : List ℕ) (refusal : NotOpened) → IsFileOf leaf file → WhereTold folder (λ f. Links f leaf (Err (refusal_of file refusal)))
       → RefusesOpening folder leaf (refusal_of file (OfFile refusal))
 
 -- a sector's bytes are those of the first file that owns it, as that file is once its log is replayed

@@ -2,9 +2,8 @@
 use Rattle.std.specs.Prelude.{◌≡◌, ◌≢◌, ◌⊎◌, ◌<◌, ◌≤◌, ◌+◌, ◌*◌, ◌^◌, ℕ, true, false, List, [], ◌∷◌, length, codes, Option, option_map, Result, Ok, Err}
 use Rattle.command_line.specs.Requests.{File as NewFile}
 use Rattle.command_line.specs.Requests as new
-use Rattle.file_open.specs.Causes.{IfCause, Meaning, refuses, host_failed, store_failed, no_memory, cause_of}
+use Rattle.file_open.specs.Causes.{IfCause, Meaning, refuses, host_failed, store_failed, no_memory}
 use Rattle.file_open.specs.Opening as opening
-use Rattle.file_open.specs.declared.refusal.OpenRefusal.{OpenRefusal}
 use Rattle.make_file.specs.Makes.{Outside}
 use Rattle.store_model.specs.Cause.{Rose}
 use Rattle.store_model.specs.Disk.{Disk, WhereTold}
@@ -16,8 +15,10 @@ use Rattle.vx_base.specs.declared.parts.Parts.{Parts}
 use Rattle.vhdx_app.specs.Answers.{fault_line}
 use Rattle.vhdx_app.specs.Folders.{AllIdle}
 use Rattle.vhdx_app.specs.Making.{AddsOnly, LooksAt, MakesSafely}
+use Rattle.vhdx_app.specs.Opening.{NotOpened, OpensAlone, ByFile, cause_of_leaf}
 use Rattle.vhdx_app.specs.Printed.{IsMakeText, Printed, Sent}
 use Rattle.vhdx_app.specs.Refusals.{Refusal, refusal_line}
+use Rattle.vhdx_app.specs.declared.refusal.LeafRefusal.{LeafRefusal}
 use Rattle.vhdx_app.specs.declared.status.Status.{Status}
 use Rattle.vhdx_app.specs.declared.status.Status.TheVariants.{Done, Refused, Usage, Fault, NoMemory}
 
@@ -28,21 +29,21 @@ pub record Lends (name : List ℕ) (old new : Hosted) (disk : Disk) : Type 0 whe
   pub host_is : new ≡ record old { folder = option_map (without (name ∷ [])) old.folder }
 
 -- It isn't lent: no file has the name, or the host failed.
-abbrev pub LendsNone : List ℕ → Hosted → Hosted → Meaning opening.Refusal → Type 0
-LendsNone name old new (refuses refusal) = (refusal ≡ opening.FileMissing) × WhereTold old.folder (λ f. has_name name f ≡ false) × (new ≡ old)
+abbrev pub LendsNone : List ℕ → Hosted → Hosted → Meaning NotOpened → Type 0
+LendsNone name old new (refuses refusal) = (refusal ≡ ByFile opening.FileMissing) × WhereTold old.folder (λ f. has_name name f ≡ false) × (new ≡ old)
 LendsNone name old new (host_failed fault) = HostFailed old new fault
 LendsNone name old new (store_failed fault) = ⊥
 LendsNone name old new no_memory = ⊥
 
 -- In the folder the file of this name is opened to its numbers, or it is refused.
-pub data OpensIn (folder : List Held) (leaf : List ℕ) : Result Parts opening.Refusal → Type 0 where
-  missing : has_name leaf folder ≡ false → OpensIn folder leaf (Err opening.FileMissing)
-  there : (result : Result Parts opening.Refusal) → has_name leaf folder ≡ true → opening.Opens (seen_named leaf folder) result → OpensIn folder leaf result
+pub data OpensIn (folder : List Held) (leaf : List ℕ) : Result Parts NotOpened → Type 0 where
+  missing : has_name leaf folder ≡ false → OpensIn folder leaf (Err (ByFile opening.FileMissing))
+  there : (result : Result Parts NotOpened) → has_name leaf folder ≡ true → OpensAlone (seen_named leaf folder) result → OpensIn folder leaf result
 
 -- the answer on a file that is opened
-abbrev pub AnswersOpeningIn : List Held → List ℕ → Result Parts OpenRefusal → Type 0
+abbrev pub AnswersOpeningIn : List Held → List ℕ → Result Parts LeafRefusal → Type 0
 AnswersOpeningIn folder leaf (Ok parts) = OpensIn folder leaf (Ok parts)
-AnswersOpeningIn folder leaf (Err refusal) = IfCause (OpensIn folder leaf) (cause_of refusal)
+AnswersOpeningIn folder leaf (Err refusal) = IfCause (OpensIn folder leaf) (cause_of_leaf refusal)
 
 -- the bytes of so many sectors, whose numbers are numbers of 64 bits
 pub record IsGiven (first count : ℕ) (bytes : List ℕ) : Type 0 where

@@ -1,7 +1,7 @@
 use Rattle.std.proofs.Common.{ap, subst, ◌∙◌, [], ◌∷◌}
 use Rattle.std.specs.Prelude.{option_map}
 use Rattle.store_model.specs.Folder.{attached_trace, HasFailed, RoseWhere}
-use Rattle.file_open.specs.Causes.{meaning_of}
+use Rattle.vhdx_app.specs.Opening.{meaning_of_leaf}
 use Rattle.vhdx_app.proofs.Above.{shows_in}
 use Rattle.vhdx_app.proofs.Found.{fresh_of, opening_counts, opening_healthy, opening_quiet, there_opening, unlent_opening, unlent_opening_counts}
 use Rattle.vhdx_app.proofs.Lent.{are_away, idle_told, idle_unlent, idle_untold, lent_as, opened_only, seen-attached, stays_unlent, unless_err, unsealed_lent}
@@ -18,7 +18,7 @@ pub returns-in_err-store-clause-counts : goal.returns-in_err-store-clause-counts
 returns-in_err-store-clause-counts g c = unlent_opening_counts c.args.leaf _ _ _ _ c.from_residual.ensures.1 c.in_err-store.ensures.err
 
 pub returns-in_err-store-clause-idle_unless : goal.returns-in_err-store-clause-idle_unless
-returns-in_err-store-clause-idle_unless g c = unless_err meaning_of c.from_residual.result (idle_unlent c.args.leaf _ _ _ c.in_err-store.ensures.err c.requires.idle)
+returns-in_err-store-clause-idle_unless g c = unless_err meaning_of_leaf c.from_residual.result (idle_unlent c.args.leaf _ _ _ c.in_err-store.ensures.err c.requires.idle)
 
 pub look_above-opened-requires-clause-unsealed : goal.look_above-opened-requires-clause-unsealed
 look_above-opened-requires-clause-unsealed g c = unsealed_lent c.args.leaf _ _ _ c.in_ok-store.ensures.ok
