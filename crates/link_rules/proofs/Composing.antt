@@ -1,5 +1,5 @@
 -- What is left behind several answers, one after another.
-use Rattle.std.proofs.Common.{◌≡◌, ℕ, List, [], ◌++◌, Option, Some, None, Result, Ok, Err, refl, sym, ap, subst, ◌∙◌}
+use Rattle.std.proofs.Common.{◌≡◌, ℕ, Bool, true, false, List, [], ◌++◌, Option, Some, None, Result, Ok, Err, refl, sym, ap, subst, ◌∙◌}
 use Rattle.std.specs.Prelude.{◌||◌}
 use Rattle.std.specs.Str.{bytes_eq}
 use Rattle.std.specs.Result.{IsErrAnd}
@@ -13,7 +13,9 @@ use Rattle.file_open.specs.Causes.{Meaning, refuses, host_failed, store_failed, 
 use Rattle.file_open.specs.Effects.{OpensAlike}
 use Rattle.file_open.proofs.Again.{opens_again}
 use Rattle.link_rules.specs.Causes.{meaning_of}
-use Rattle.link_rules.specs.Chains.{is_among}
+use Rattle.vx_base.specs.declared.parts.Parts.{Parts}
+use Rattle.file_open.specs.Opening as opening
+use Rattle.link_rules.specs.Chains.{OpensIn, missing, present, is_among}
 use Rattle.link_rules.specs.Effects.{HasReplayed, IsKept, untouched, replayed, KeepsEach, Leaves, LeavesBy, Replays, StaysIdle, Within}
 use Rattle.link_rules.specs.Folders.{AllIdle, Contents, contents}
 use Rattle.link_rules.specs.Steps.{IsInside}
@@ -47,7 +49,7 @@ alike_itself bytes = record { stands = λ b s. s; reads = λ r o. o; opens = λ 
 alike_both : (a b c : List ℕ) → OpensAlike a b → OpensAlike b c → OpensAlike a c
 alike_both a b c x y = record { stands = λ s h. y.stands s (x.stands s h); reads = λ r o. y.reads r (x.reads r o); opens = λ r o. y.opens r (x.opens r o) }
 
-kept_alike : (opened : List (List ℕ)) (name bytes now : List ℕ) → IsKept opened name bytes now → OpensAlike bytes now
+pub kept_alike : (opened : List (List ℕ)) (name bytes now : List ℕ) → IsKept opened name bytes now → OpensAlike bytes now
 kept_alike opened name bytes _ (untouched x) = alike_itself bytes
 kept_alike opened name bytes _ (replayed now x s) = (opens_again bytes now s).alike
 
@@ -118,3 +120,30 @@ still_idle opened old mid idle h = by_folder old.folder refl
     by_folder : (folder : Option (List Held)) → old.folder ≡ folder → WhereTold mid.folder AllIdle
     by_folder None e t told = let never : None ≡ Some t = sym (h.untold e) ∙ told in cc
     by_folder (Some f) e t told = h.idle f e t told
+
+-- ---- a file that wasn't opened is as it was
+
+pub same_by : (opened : List (List ℕ)) (f g : Contents) (name : List ℕ) → Replays opened f g → is_among name opened ≡ false → g name ≡ f name
+same_by opened f g name r apart = by_file (f name) refl
+  where
+    kept : (bytes now : List ℕ) → IsKept opened name bytes now → now ≡ bytes
+    kept bytes _ (untouched x) = refl
+    kept bytes _ (replayed now x s) = let never : true ≡ false = sym x ∙ apart in cc
+
+    by_file : (file : Option (List ℕ)) → f name ≡ file → g name ≡ f name
+    by_file None e = r.none name e ∙ sym e
+    by_file (Some bytes) e =
+        let one = r.each name bytes e in
+        one.1 ∙ ap Some (kept bytes one.0 one.2) ∙ sym e
+
+pub opens_same : (f g : Contents) (name : List ℕ) (result : Result Parts opening.Refusal) → g name ≡ f name → OpensIn g name result → OpensIn f name result
+opens_same f g name _ same (missing none) = missing (sym same ∙ none)
+opens_same f g name _ same (present bytes result had opens) = present bytes result (sym same ∙ had) opens
+
+pub right_false : (a b : Bool) → (a || b) ≡ false → b ≡ false
+right_false true b e = cc
+right_false false b e = e
+
+pub left_false : (a b : Bool) → (a || b) ≡ false → a ≡ false
+left_false true b e = cc
+left_false false b e = refl
