@@ -17,7 +17,9 @@ use Rattle.vx_base.specs.declared.parts.Parts.{Parts}
 use Rattle.file_open.specs.Opening as opening
 use Rattle.link_rules.specs.Chains.{OpensIn, missing, present, is_among}
 use Rattle.link_rules.specs.Effects.{HasReplayed, IsKept, untouched, replayed, KeepsEach, Leaves, LeavesBy, Replays, StaysIdle, Within}
-use Rattle.link_rules.specs.Folders.{AllIdle, Contents, contents}
+use Rattle.link_rules.specs.Folders.{AllIdle, Contents, ReturnsHealthy, contents}
+use Rattle.store_model.specs.Moments.{IsHealthy, LastReturnedCounts}
+use Rattle.store_model.proofs.Throughout.{last_join, returned_join}
 use Rattle.link_rules.specs.Steps.{IsInside}
 use Rattle.link_rules.specs.declared.refusal.LinkRefusal.{LinkRefusal}
 use Rattle.link_rules.proofs.Lent.{none_kept, none_replayed, idle_as}
@@ -87,18 +89,25 @@ module _ (opened : List (List ℕ)) (old mid new : Hosted) (before : HasReplayed
   idle_then : StaysIdle mid.folder new.folder → StaysIdle old.folder new.folder
   idle_then h = idle_both (Replays opened) old.folder mid.folder new.folder before.files h
 
+  healthy_then : ReturnsHealthy mid new → ReturnsHealthy old new
+  healthy_then h f told = let one = before.files f told in returned_join IsHealthy old mid new (before.healthy f told) (h one.0 one.1)
+
+  last_then : (count : ℕ) → WhereTold mid.folder (λ g. LastReturnedCounts count mid new) → WhereTold old.folder (λ f. LastReturnedCounts count old new)
+  last_then count h f told = let one = before.files f told in last_join IsHealthy count old mid new (before.healthy f told) (h one.0 one.1)
+
   pub replayed_then : (more : List (List ℕ)) → HasReplayed more mid new → HasReplayed (opened ++ more) old new
   replayed_then more h = record {
     files = within_both (Replays opened) (Replays more) (Replays (opened ++ more)) (replays_both opened more) old.folder mid.folder new.folder before.files h.files;
     untold = λ none. h.untold (before.untold none);
     idle = idle_then h.idle;
     quiet = h.quiet ∙ before.quiet;
+    healthy = healthy_then h.healthy;
   }
 
   pub left_then : {R : Type 0} (meaning : Meaning R) → LeavesBy mid new meaning → LeavesBy old new meaning
   left_then (refuses refusal) h = record { opened = opened ++ h.opened; has = replayed_then h.opened h.has }
-  left_then (host_failed fault) h = record { files = files_then h.files; idle = idle_then h.idle; rose = subst (λ n. Rose n new.faults) before.quiet h.rose; told = h.told }
-  left_then (store_failed fault) h = record { files = files_then h.files; rose = subst (λ n. Rose n new.faults) before.quiet h.rose; some = h.some }
+  left_then (host_failed fault) h = record { files = files_then h.files; idle = idle_then h.idle; rose = subst (λ n. Rose n new.faults) before.quiet h.rose; told = h.told; healthy = healthy_then h.healthy }
+  left_then (store_failed fault) h = record { files = files_then h.files; rose = subst (λ n. Rose n new.faults) before.quiet h.rose; some = h.some; last = last_then fault.count h.last }
   left_then no_memory h = record { files = files_then h.files; idle = idle_then h.idle; quiet = h.quiet ∙ before.quiet }
 
 -- a refusal for which no file was opened

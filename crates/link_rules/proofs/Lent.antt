@@ -1,6 +1,6 @@
 -- A folder that lends one file and has it back, opened.
-use Rattle.std.proofs.Common.{◌≡◌, ◌≤◌, ◌+◌, ℕ, zero, suc, Bool, true, false, cond, List, [], ◌∷◌, Option, Some, None, refl, sym, ap, subst, ◌∙◌, arith}
-use Rattle.std.specs.Prelude.{◌||◌, All, Ok, Err, Result, option_map, unwrap_or}
+use Rattle.std.proofs.Common.{◌≡◌, ◌≤◌, ◌+◌, ℕ, zero, suc, Bool, true, false, cond, List, [], ◌∷◌, Option, Some, None, refl, sym, ap, subst, ◌∙◌, arith, inl, inr}
+use Rattle.std.specs.Prelude.{◌⊎◌, ◌||◌, All, Ok, Err, Result, option_map, unwrap_or}
 use Rattle.std.specs.List.{IsDistinct}
 use Rattle.std.specs.Str.{bytes_eq}
 use Rattle.std.proofs.lemmas.Bool.{or_left, or_right}
@@ -23,7 +23,10 @@ use Rattle.vx_base.specs.declared.parts.Parts.{Parts}
 use Rattle.std.specs.Result.{IsErrAnd}
 use Rattle.link_rules.specs.Chains.{OpensIn, missing, present, is_among}
 use Rattle.link_rules.specs.Effects.{HasReplayed, StoreStopped, IsKept, untouched, replayed, KeepsEach, LeavesBy, LeavesNamed, Replays, StaysIdle, Within}
-use Rattle.link_rules.specs.Folders.{AllIdle, contents, Lends, LendsNone}
+use Rattle.link_rules.specs.Folders.{AllIdle, ReturnsHealthy, contents, Lends, LendsNone}
+use Rattle.store_model.specs.Folder.{KeepsStore, come_back, IsKept as IsComeBack}
+use Rattle.store_model.specs.Moments.{IsHealthy, LastReturnedCounts}
+use Rattle.store_model.proofs.Throughout.{last_one, returned_none, returned_one}
 
 pub distinct : (leaf : List ℕ) → IsDistinct bytes_eq (leaf ∷ [])
 unfolding IsDistinct
@@ -300,6 +303,7 @@ none_replayed old idle = record {
   untold = λ none. none;
   idle = λ f told g also. idle g also;
   quiet = refl;
+  healthy = λ f told. returned_none IsHealthy old old refl;
 }
 
 pub none_kept : (old new : Hosted) → new.folder ≡ old.folder → Within KeepsEach old.folder new.folder
@@ -316,7 +320,7 @@ pub unlent_leaves : (leaf : List ℕ) (old new : Hosted) (meaning : Meaning open
 unlent_leaves leaf old new (refuses refusal) idle (is, none, same) = record { opened = []; has = replayed_as old new same idle }
 unlent_leaves leaf old new (host_failed fault) idle failed =
     let same : new.folder ≡ old.folder = ap (λ (h : Hosted). h.folder) failed.stays in
-    record { files = none_kept old new same; idle = idle_as old new same idle; rose = failed.rose; told = failed.count }
+    record { files = none_kept old new same; idle = idle_as old new same idle; rose = failed.rose; told = failed.count; healthy = λ f told. returned_none IsHealthy old new (ap (λ (h : Hosted). h.past) failed.stays) }
 unlent_leaves leaf old new (store_failed fault) idle h = absurd h
 unlent_leaves leaf old new no_memory idle same = record {
   files = none_kept old new (ap (λ (h : Hosted). h.folder) same);
@@ -369,7 +373,7 @@ none_failed old new fresh same (file, there, failed) =
 -- ---- a file that was lent, opened and given back
 
 module _ (leaf : List ℕ) (old mid new : Hosted) (lent disk : Disk) (lends : Lends leaf old mid lent) (kept : WhereBothTold (KeepsFile 0) lent.told disk.told) (idle : WhereTold old.folder AllIdle)
-    (back_is : WhereTold disk.told (λ trace. new.folder ≡ option_map (given_back trace) mid.folder)) (untold_is : disk.told ≡ None → mid.folder ≡ None → new.folder ≡ None) (count : RoseWhere (HasFailed disk) mid.faults new.faults) where
+    (back_is : WhereTold disk.told (λ trace. new.folder ≡ option_map (given_back trace) mid.folder)) (untold_is : disk.told ≡ None → mid.folder ≡ None → new.folder ≡ None) (count : RoseWhere (HasFailed disk) mid.faults new.faults) (past_is : KeepsStore disk mid new) where
   is_lent : IsLent leaf old.folder mid.folder disk.told
   is_lent = lent_as leaf old mid lent disk.told lends kept
 
@@ -386,6 +390,30 @@ module _ (leaf : List ℕ) (old mid new : Hosted) (lent disk : Disk) (lends : Le
 
   stays_synced : WhereBothTold (StaysSynced 0) lent.told disk.told → StaysIdle old.folder new.folder
   stays_synced synced = idle_stays leaf old.folder mid.folder new.folder disk.told is_lent idle (synced_by leaf old mid lent disk lends synced) back_is
+
+  -- the store that came back
+  kept_one : (f : List Held) → old.folder ≡ Some f → (u : Trace) × (rest : List Held) × IsComeBack (come_back disk u rest) old.past new.past
+  kept_one f told =
+      let b = back leaf old.folder mid.folder new.folder disk.told is_lent back_is f told in
+      let rest = with_file leaf None f in
+      let mid_folder : mid.folder ≡ Some rest = ap (λ (h : Hosted). h.folder) lends.host_is ∙ ap (option_map (without (leaf ∷ []))) told in
+      (b.0, rest, subst (λ p. IsComeBack (come_back disk b.0 rest) p new.past) (ap (λ (h : Hosted). h.past) lends.host_is) (past_is b.0 b.1 rest mid_folder))
+
+  healthy_back : disk ≡ record lent { told = disk.told } → ReturnsHealthy old new
+  healthy_back same f told =
+      let fresh = fresh_of leaf old mid lent lends in
+      let k = kept_one f told in
+      let u : Trace = k.0 in
+      let rest : List Held = k.1 in
+      returned_one IsHealthy old new (come_back disk u rest) k.2
+      (record { reads = λ file. ap (λ (d : Disk). d.failed_reads file) same ∙ fresh.reads file; changes = λ file. ap (λ (d : Disk). d.failed_changes file) same ∙ fresh.changes file })
+
+  last_back : (n file : ℕ) → (n ≡ disk.failed_reads file) ⊎ (n ≡ disk.failed_changes file) → WhereTold old.folder (λ f. LastReturnedCounts n old new)
+  last_back n file counted f told =
+      let k = kept_one f told in
+      let u : Trace = k.0 in
+      let rest : List Held = k.1 in
+      last_one n file old new (come_back disk u rest) k.2 counted
 
   lent_quiet : disk ≡ record lent { told = disk.told } → new.faults ≡ old.faults
   lent_quiet same = count.none (none_failed lent disk (fresh_of leaf old mid lent lends) same) ∙ faults
@@ -415,6 +443,7 @@ module _ (leaf : List ℕ) (old mid new : Hosted) (lent disk : Disk) (lends : Le
     untold = lent_untold;
     idle = stays_synced (both_synced lent.told disk.told h.told);
     quiet = lent_quiet h.counts;
+    healthy = healthy_back h.counts;
   }
 
   store_stopped : (fault : StoreFault) → CallFailed 0 lent disk fault → StoreStopped old new fault.count
@@ -426,6 +455,7 @@ module _ (leaf : List ℕ) (old mid new : Hosted) (lent disk : Disk) (lends : Le
         files = lent_kept;
         rose = subst (λ n. Rose n new.faults) faults (count.some (0, omega (arith, files), λ e. omega (arith, e, risen)));
         some = omega (arith, c.told, risen);
+        last = last_back fault.count 0 (inl c.told);
       }
   store_stopped fault (of_change stays of_file c) =
       let fresh = fresh_of leaf old mid lent lends in
@@ -435,6 +465,7 @@ module _ (leaf : List ℕ) (old mid new : Hosted) (lent disk : Disk) (lends : Le
         files = lent_kept;
         rose = subst (λ n. Rose n new.faults) faults (count.some (0, omega (arith, files), λ e. omega (arith, e, risen)));
         some = omega (arith, c.told, risen);
+        last = last_back fault.count 0 (inr c.told);
       }
 
   by_meaning : (meaning : Meaning opening.Refusal) → LeavesOpened 0 lent disk meaning → LeavesBy old new meaning
