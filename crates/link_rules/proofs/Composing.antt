@@ -45,7 +45,7 @@ replays_both a b f g h x y = record {
       (two.0, two.1, kept_both a b name bytes one.0 two.0 one.2 two.2);
 }
 
-alike_itself : (bytes : List ℕ) → OpensAlike bytes bytes
+pub alike_itself : (bytes : List ℕ) → OpensAlike bytes bytes
 alike_itself bytes = record { stands = λ b s. s; reads = λ r o. o; opens = λ r o. o }
 
 alike_both : (a b c : List ℕ) → OpensAlike a b → OpensAlike b c → OpensAlike a c

@@ -59,7 +59,7 @@ module _ (P Q R : List ℕ → Type 0) (first : (name : List ℕ) → P name →
 
 -- ---- one file that is put in
 
-own_name : (a b : List ℕ) → bytes_eq a b ≡ true → a ≡ b
+pub own_name : (a b : List ℕ) → bytes_eq a b ≡ true → a ≡ b
 own_name a b e = (bytes_eq-Decides a b).0 e
 
 one_safe : (leaf : List ℕ) (folder : List Held) (file : File) → AllIdle folder → has_name leaf folder ≡ true
