@@ -1,0 +1,41 @@
+pub mod Numbers
+pub mod Alike
+pub mod Places
+pub mod Apart
+pub mod Beside
+pub mod Crashes
+pub mod Payload
+pub mod Written
+pub mod Committed
+pub mod Committing
+pub mod Allocating
+pub mod Grown
+pub mod WriteSteps
+pub mod AsHeld
+pub mod Standing
+pub mod Planned
+pub mod BlockRuns
+pub mod Counting
+pub mod Looked
+pub mod Entries
+pub mod Failing
+pub mod Under
+pub mod Ending
+pub mod Pages
+pub mod Entered
+mod Placing
+pub mod Leaving
+mod Chunks
+pub mod SameTables
+pub mod Marking
+mod Marked
+pub mod Dropping
+mod Rooms
+mod Behind
+mod Reused
+mod Cleared
+pub mod Owned
+pub mod Parted
+pub mod Readable
+pub mod Tests
+pub mod Beginning

@@ -1,0 +1,29 @@
+use Rattle.std.proofs.Common.{◌≡◌, ◌≤◌, ◌%◌, ◌∙◌, arith, ap, sym}
+use Rattle.vhdx_format.specs.Layers.{table_entry}
+use Rattle.table_pages.specs.Held.{held_file, shape_of}
+use Rattle.layer_session.proofs.Dropping.{drops, drops_place, drops_place_ready, drops_ready}
+use Rattle.layer_session.proofs.file.Layer.drop_block.Goals as goal
+
+pub returns-else-held-clause-dropped : goal.returns-else-held-clause-dropped
+returns-else-held-clause-dropped g c =
+    drops c.args.self.now c.set_entry.new.self.tables (g.S.Store.disk c.args.store.now) c.args.first c.args.count c.entry_index.result c.requires.some c.requires.on_disk c.requires.run c.requires.whole c.entry_index.ensures.index
+    c.entry_index.ensures.inside c.set_entry.ensures.parts c.set_entry.ensures.set c.set_entry.ensures.tables c.set_entry.ensures.places c.requires.ready c.set_entry.new.self c.set_entry.ensures.only
+
+pub returns-else-held-clause-ready : goal.returns-else-held-clause-ready
+returns-else-held-clause-ready g c =
+    drops_ready c.args.self.now c.set_entry.new.self.tables (g.S.Store.disk c.args.store.now) c.args.first c.args.count c.entry_index.result c.requires.some c.requires.on_disk c.requires.run c.requires.whole c.entry_index.ensures.index
+    c.entry_index.ensures.inside c.set_entry.ensures.parts c.set_entry.ensures.set c.set_entry.ensures.tables c.set_entry.ensures.places c.requires.ready c.set_entry.new.self c.set_entry.ensures.only
+
+pub returns-then-can_free-clause-dropped : goal.returns-then-can_free-clause-dropped
+returns-then-can_free-clause-dropped g c =
+    drops_place c.args.self.now c.set_entry.new.self.tables (g.S.Store.disk c.args.store.now) c.args.first c.args.count c.entry_index.result c.requires.some c.requires.on_disk c.requires.run c.requires.whole c.entry_index.ensures.index
+    c.entry_index.ensures.inside c.set_entry.ensures.parts c.set_entry.ensures.set c.set_entry.ensures.tables c.set_entry.ensures.places c.requires.ready
+    c.args.word c.block_units-units.result (omega arith) (λ trace told. c.requires.found trace told ∙ ap (table_entry (shape_of c.args.self.now.tables.parts) (held_file c.args.self.now.tables trace)) (sym c.entry_index.ensures.index))
+    c.block_units-units.ensures.is c.set_entry.new.self c.free_after_commit.new.self c.set_entry.ensures.only c.free_after_commit.ensures
+
+pub returns-then-can_free-clause-ready : goal.returns-then-can_free-clause-ready
+returns-then-can_free-clause-ready g c =
+    drops_place_ready c.args.self.now c.set_entry.new.self.tables (g.S.Store.disk c.args.store.now) c.args.first c.args.count c.entry_index.result c.requires.some c.requires.on_disk c.requires.run c.requires.whole c.entry_index.ensures.index
+    c.entry_index.ensures.inside c.set_entry.ensures.parts c.set_entry.ensures.set c.set_entry.ensures.tables c.set_entry.ensures.places c.requires.ready
+    c.args.word c.block_units-units.result (omega arith) (λ trace told. c.requires.found trace told ∙ ap (table_entry (shape_of c.args.self.now.tables.parts) (held_file c.args.self.now.tables trace)) (sym c.entry_index.ensures.index))
+    c.block_units-units.ensures.is c.set_entry.new.self c.free_after_commit.new.self c.set_entry.ensures.only c.free_after_commit.ensures

@@ -1,0 +1,99 @@
+use Rattle.std.proofs.Common.{◌≡◌, ◌+◌, ◌*◌, ◌/◌, ◌%◌, ◌^◌, ◌<◌, ◌≤◌, ℕ, length, slice_get, ◌-◌, arith, refl, sym, subst, ap, ◌∙◌}
+use Rattle.table_pages.specs.Held.{held_file, shape_of}
+use Rattle.layer_session.specs.Planning as spec
+use Rattle.layer_session.specs.Blocks as blocks
+use Rattle.layer_session.specs.Planning.{IsLooked, IsPlanned, nothing}
+use Rattle.layer_session.specs.TablesRead.{AreReadable, HasRead}
+use Rattle.store_model.specs.Disk.{Disk}
+use Rattle.std.proofs.lemmas.List.{length-set}
+use Rattle.std.specs.Prelude.{None, false}
+use Rattle.layer_session.proofs.Counting.{set_beside, set_here}
+use Rattle.layer_session.proofs.Looked.{counted_then, few_then, looked_none, looked_then, rest_few}
+use Rattle.layer_session.proofs.Planned.{read_again, read_then, same_held}
+use Rattle.layer_session.proofs.planning.+look.Goals as goal
+
+pub returns-then-count-eq0-clause-looked : goal.returns-then-count-eq0-clause-looked
+returns-then-count-eq0-clause-looked g t c trace told = looked_none _ _ c.args.trims c.args.plans.now c.args.k c.args.first c.args.count c.if-count-eq0.true
+
+pub look-requires : goal.look-requires
+look-requires g t c κs within =
+    let stays = c.in_ok-plan.ensures.stays in
+    let parts = c.plan_of.ensures.reads.as_held.parts_are in (
+      omega arith,
+      (
+        within.0,
+        (
+          within.1,
+          (
+            subst (AreReadable c.plan_of.new.tables) (sym stays) (read_again c.args.tables.now c.plan_of.new.tables (g.S.Store.disk c.args.store.now) c.requires.readable c.plan_of.ensures.reads),
+            (
+              subst (λ p. c.args.first + c.run_in_block-len.result + (c.args.count - c.run_in_block-len.result) ≤ p.sectors) (sym parts) (omega arith),
+              (
+                omega (
+                  arith,
+                  rest_few c.args.tables.now c.plan_of.new.tables (g.S.Store.disk c.args.store.now) c.requires.readable.sizes c.plan_of.ensures.reads c.args.first c.args.count c.run_in_block-len.result (omega arith) c.run_in_block-len.ensures.is
+                      (record { blocks = 0; bitmaps = 0; tables = false; chunk = None }) _ c.in_ok-plan.plan refl,
+                  length-set c.args.plans.now c.args.k c.in_ok-plan.plan,
+                  c.requires.few,
+                ),
+                omega (arith, length-set c.args.plans.now c.args.k c.in_ok-plan.plan, c.requires.room),
+              ),
+            ),
+          ),
+        ),
+      ),
+    )
+
+pub returns-in_err-rest-clause-reads : goal.returns-in_err-rest-clause-reads
+returns-in_err-rest-clause-reads g t c =
+    read_then c.args.tables.now c.plan_of.new.tables c.look.new.tables (g.S.Store.disk c.args.store.now) c.plan_of.ensures.reads
+    (subst (HasRead c.plan_of.new.tables c.look.new.tables) c.in_ok-plan.ensures.stays c.look.ensures.reads)
+
+pub returns-clause-reads : goal.returns-clause-reads
+returns-clause-reads g t c =
+    read_then c.args.tables.now c.plan_of.new.tables c.look.new.tables (g.S.Store.disk c.args.store.now) c.plan_of.ensures.reads
+    (subst (HasRead c.plan_of.new.tables c.look.new.tables) c.in_ok-plan.ensures.stays c.look.ensures.reads)
+
+pub returns-in_err-rest-clause-before : goal.returns-in_err-rest-clause-before
+returns-in_err-rest-clause-before g t c i l = c.look.ensures.before i (omega (arith, l)) ∙ set_beside c.args.plans.now c.args.k i c.in_ok-plan.plan l
+
+pub returns-clause-before : goal.returns-clause-before
+returns-clause-before g t c i l = c.look.ensures.before i (omega (arith, l)) ∙ set_beside c.args.plans.now c.args.k i c.in_ok-plan.plan l
+
+pub returns-clause-few : goal.returns-clause-few
+returns-clause-few g t c =
+    few_then c.args.tables.now c.plan_of.new.tables (g.S.Store.disk c.args.store.now) c.requires.readable.sizes c.plan_of.ensures.reads c.args.first c.args.count c.run_in_block-len.result (omega arith) c.run_in_block-len.ensures.is
+    c.in_ok-rest.rest c.with_plan.result c.in_ok-plan.plan c.with_plan.ensures c.in_ok-rest.ensures.few.0 c.in_ok-rest.ensures.few.1
+
+pub returns-clause-looked : goal.returns-clause-looked
+returns-clause-looked g t c trace told =
+    looked_then c.args.tables.now c.plan_of.new.tables (g.S.Store.disk c.args.store.now) c.requires.readable.sizes c.plan_of.ensures.reads c.args.first c.args.count c.run_in_block-len.result (omega arith) c.run_in_block-len.ensures.is
+    c.in_ok-rest.rest c.with_plan.result c.in_ok-plan.plan c.with_plan.ensures trace c.args.trims c.look.new.plans c.args.k c.requires.on_disk (c.in_ok-plan.ensures.planned trace told)
+    (c.look.ensures.before c.args.k (omega arith) ∙ set_here c.args.plans.now c.args.k c.in_ok-plan.plan (omega (arith, c.requires.few, few_blocks)))
+    (c.in_ok-rest.ensures.looked trace (ap (λ (d : Disk). d.told) c.in_ok-plan.ensures.stays ∙ told))
+  where
+    few_blocks : 0 < blocks.blocks_of (shape_of c.args.tables.now.parts) c.args.first c.args.count
+    few_blocks =
+        omega (
+          arith,
+          rest_few c.args.tables.now c.plan_of.new.tables (g.S.Store.disk c.args.store.now) c.requires.readable.sizes c.plan_of.ensures.reads c.args.first c.args.count c.run_in_block-len.result (omega arith) c.run_in_block-len.ensures.is
+              c.in_ok-rest.rest c.with_plan.result c.in_ok-plan.plan c.with_plan.ensures,
+        )
+
+pub returns-then-count-eq0-clause-counted : goal.returns-then-count-eq0-clause-counted
+returns-then-count-eq0-clause-counted g t c = nothing c.args.k c.args.first c.args.count _ c.if-count-eq0.true refl
+
+pub returns-clause-counted : goal.returns-clause-counted
+returns-clause-counted g t c =
+    counted_then c.args.tables.now c.plan_of.new.tables (g.S.Store.disk c.args.store.now) c.requires.readable.sizes c.plan_of.ensures.reads c.args.first c.args.count c.run_in_block-len.result (omega arith) c.run_in_block-len.ensures.is
+    c.in_ok-rest.rest c.with_plan.result c.in_ok-plan.plan c.with_plan.ensures c.look.new.plans c.args.k
+    (c.look.ensures.before c.args.k (omega arith) ∙ set_here c.args.plans.now c.args.k c.in_ok-plan.plan (omega (arith, c.requires.few, few_blocks)))
+    c.in_ok-rest.ensures.counted
+  where
+    few_blocks : 0 < blocks.blocks_of (shape_of c.args.tables.now.parts) c.args.first c.args.count
+    few_blocks =
+        omega (
+          arith,
+          rest_few c.args.tables.now c.plan_of.new.tables (g.S.Store.disk c.args.store.now) c.requires.readable.sizes c.plan_of.ensures.reads c.args.first c.args.count c.run_in_block-len.result (omega arith) c.run_in_block-len.ensures.is
+              c.in_ok-rest.rest c.with_plan.result c.in_ok-plan.plan c.with_plan.ensures,
+        )

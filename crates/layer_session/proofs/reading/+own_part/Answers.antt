@@ -1,0 +1,102 @@
+use Rattle.std.specs.Prelude.{min}
+use Rattle.std.proofs.Common.{◌≡◌, ◌^◌, ◌<◌, ◌≤◌, ◌+◌, ◌-◌, ◌*◌, length, List, ℕ, true, arith, ap, sym, subst, ◌∙◌, length-append, ◌++◌}
+use Rattle.store_model.specs.File.{seen}
+use Rattle.store_model.specs.Trace.{file_of}
+use Rattle.table_pages.specs.Held.{held_file, shape_of}
+use Rattle.table_pages.specs.declared.tables.TableParts.{TableParts}
+use Rattle.layer_session.specs.Reading.{AreStored}
+use Rattle.layer_session.specs.TablesRead.{AreBitsThere, AreReadable, HasRead}
+use Rattle.layer_session.specs.Keeping.{IsPartAt}
+use Rattle.store_model.specs.Disk.{Disk, WhereTold}
+use Rattle.layer_session.proofs.Owned.{owned_rest, rest_long}
+use Rattle.layer_session.proofs.Parted.{owned_again, part_again, part_front, part_rest, stored_again}
+use Rattle.layer_session.proofs.Planned.{bits_there_again, read_again, read_then, same_bitmap}
+use Rattle.layer_session.proofs.reading.+own_part.Goals as goal
+
+pub own_few-requires-clause-part : goal.own_few-requires-clause-part
+own_few-requires-clause-part g n c t told =
+    let some : 0 < c.args.count = omega arith in
+    let few : c.min-len.result ≤ c.args.count = omega arith in
+    let part = c.requires.part some t told in
+    part_front c.args.tables.now.parts (seen (file_of t c.args.tables.now.parts.file)) (held_file c.args.tables.now t) c.requires.readable.sizes (c.requires.stored t told) c.args.first c.args.count c.requires.on_disk part.run
+    c.args.place part some c.min-len.result few
+
+pub own_part-requires : goal.own_part-requires
+own_part-requires g n c κs within =
+    let old = c.args.tables.now in
+    let new = c.own_few.new.tables in
+    let disk = g.S.Store.disk c.args.store.now in
+    let stays = sym c.in_ok-own_few.ensures.stays in
+    let reads = c.own_few.ensures.reads in
+    let e : old.parts ≡ new.parts = sym reads.as_held.parts_are in
+    let len = c.min-len.result in
+    let few : len ≤ c.args.count = omega arith in
+    let out : length c.split_at_mut-piece.result.1.now ≡ old.parts.sector * (c.args.count - len) =
+    rest_long old.parts.sector len c.args.count (length c.args.out.now) (length c.split_at_mut-piece.result.1.now) few c.requires.out
+    (let v = ap length c.split_at_mut-piece.ensures.value in let f = c.split_at_mut-piece.ensures.front_len ∙ ap (λ s. s * len) c.from.ensures in omega (arith, v, f, length-append c.split_at_mut-piece.result.0.now c.split_at_mut-piece.result.1.now)) in (
+      omega arith,
+      (
+        within.0,
+        (
+          within.1,
+          (
+            subst (AreReadable new) stays (read_again old new disk c.requires.readable reads),
+            (
+              subst (λ (d : Disk). WhereTold d.told (λ trace. AreStored (shape_of new.parts) (seen (file_of trace new.parts.file)) (held_file new trace))) stays (stored_again old new disk reads c.requires.stored),
+              (
+                subst (λ (p : TableParts). c.args.first + len + (c.args.count - len) ≤ p.sectors) e (omega arith),
+                (
+                  subst (λ (p : TableParts). length c.split_at_mut-piece.result.1.now ≡ p.sector * (c.args.count - len)) e out,
+                  (
+                    omega arith,
+                    (
+                      omega arith,
+                      (
+                        subst (λ (p : TableParts). p.parent ≡ true) e c.requires.parent,
+                        (
+                          omega arith,
+                          (
+                            λ some. subst (AreBitsThere (c.args.first + len) new) stays
+                                (bits_there_again old new disk (c.args.first + len) reads (same_bitmap old disk c.args.first (c.args.first + len) (omega arith) (c.requires.bitmap (omega arith)))),
+                            λ some. subst (λ (d : Disk). WhereTold d.told (λ trace. IsPartAt (shape_of new.parts) (held_file new trace) (c.args.first + len) (c.args.count - len) c.saturating_add.result)) stays
+                                (part_again old new disk reads (c.args.first + len) (c.args.count - len) c.saturating_add.result
+                                (λ t told.
+                                let some_here : 0 < c.args.count = omega arith in
+                                let less : len < c.args.count = omega (arith, some) in
+                                let part = c.requires.part some_here t told in
+                                part_rest old.parts (seen (file_of t old.parts.file)) (held_file old t) c.requires.readable.sizes (c.requires.stored t told) c.args.first c.args.count c.requires.on_disk part.run
+                                c.args.place part some_here len c.saturating_add.result few less (c.saturating_add.ensures ∙ ap (λ s. min (c.args.place + s * len) (2 ^ 64 - 1)) c.from.ensures))),
+                          ),
+                        ),
+                      ),
+                    ),
+                  ),
+                ),
+              ),
+            ),
+          ),
+        ),
+      ),
+    )
+
+pub returns-in_err-own_part-clause-reads : goal.returns-in_err-own_part-clause-reads
+returns-in_err-own_part-clause-reads g n c =
+    read_then c.args.tables.now c.own_few.new.tables c.own_part.new.tables (g.S.Store.disk c.args.store.now) c.own_few.ensures.reads
+    (subst (HasRead c.own_few.new.tables c.own_part.new.tables) c.in_ok-own_few.ensures.stays c.own_part.ensures.reads)
+
+pub returns-clause-reads : goal.returns-clause-reads
+returns-clause-reads g n c =
+    read_then c.args.tables.now c.own_few.new.tables c.own_part.new.tables (g.S.Store.disk c.args.store.now) c.own_few.ensures.reads
+    (subst (HasRead c.own_few.new.tables c.own_part.new.tables) c.in_ok-own_few.ensures.stays c.own_part.ensures.reads)
+
+pub returns-clause-owned : goal.returns-clause-owned
+returns-clause-owned g n c t told =
+    let old = c.args.tables.now in
+    let new = c.own_few.new.tables in
+    let disk = g.S.Store.disk c.args.store.now in
+    let len = c.min-len.result in
+    let few : len ≤ c.args.count = omega arith in
+    owned_rest _ old.parts.sector c.args.first len c.args.count c.args.at c.args.mask.now c.own_few.new.mask c.own_part.new.mask c.args.out.now c.split_at_mut-piece.result.0.now c.own_few.new.out
+    c.split_at_mut-piece.result.1.now c.own_part.new.out few c.split_at_mut-piece.ensures.value (c.split_at_mut-piece.ensures.front_len ∙ ap (λ s. s * len) c.from.ensures) c.requires.mask (c.in_ok-own_few.ensures.owned t told)
+    (owned_again old new disk c.own_few.ensures.reads t (c.args.first + len) (c.args.count - len) (c.args.at + len) c.own_few.new.mask c.own_part.new.mask c.split_at_mut-piece.result.1.now c.own_part.new.out
+    (c.in_ok-own_part.ensures.owned t (ap (λ d. d.told) c.in_ok-own_few.ensures.stays ∙ told)))

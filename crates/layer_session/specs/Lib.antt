@@ -1,0 +1,9 @@
+pub mod Blocks
+pub mod TablesRead
+pub mod Planning
+pub mod Keeping
+pub mod Calls
+pub mod Begins
+pub mod Reading
+pub mod Steps
+pub mod Laws

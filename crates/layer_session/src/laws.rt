@@ -1,0 +1,30 @@
+//! What is known of a file that a layer serves. The functions do nothing; each carries a law.
+
+ghost use Rattle.layer_session.specs.Laws.{CommitsAreServed, LayersAreKept, LayersStand, PlacesAreTaken, TakenIsServed, WritesAreServed};
+
+/// Whatever a crash leaves of a file that a layer serves is opened to the layer outside the loose sectors.
+pub fn layers_are_kept()
+    ensures { LayersAreKept }
+{}
+
+/// What a layer serves hangs on its own file and on the files' names alone, and more of it may be taken as loose.
+pub fn layers_stand()
+    ensures { LayersStand }
+{}
+
+/// A write of sectors to their places in a block that the file has, as held, is served: at each moment images show the file
+/// with no more loose than before but those sectors.
+pub fn writes_are_served()
+    ensures { WritesAreServed }
+{}
+
+/// While pages are committed an image shows the file as before.
+pub fn commits_are_served()
+    ensures { CommitsAreServed }
+{}
+
+/// While a place is taken for a block, each image shows the file as before, and no more of it loose.
+pub fn places_are_taken()
+    ensures images { PlacesAreTaken }
+    ensures behind { TakenIsServed }
+{}

@@ -1,0 +1,283 @@
+//! Sectors are read by the tables of their file. No table is changed.
+
+ghost use Rattle.std.specs.Prelude.{◌≡◌, ◌+◌, ◌*◌, ◌%◌, ◌^◌, ◌<◌, ◌≤◌, ◌⊎◌, min, length, true, OnOk, IfErr, ◌-◌};
+ghost use Rattle.store_model.specs.Disk.{ReadFailed, WhereTold};
+ghost use Rattle.store_model.specs.File.{seen};
+ghost use Rattle.store_model.specs.Trace.{file_of};
+ghost use Rattle.vx_base.specs.Fields.{zeros};
+ghost use Rattle.vhdx_format.specs.Layers.{entry_of, place_at, state_at};
+ghost use Rattle.table_pages.specs.Held.{held_file, shape_of};
+ghost use Rattle.layer_session.specs.Calls.{HasOwned};
+ghost use Rattle.layer_session.specs.Keeping.{IsPartAt};
+ghost use Rattle.layer_session.specs.Reading.{AreStored, layer_by, marked_layer, run_layer};
+ghost use Rattle.layer_session.specs.TablesRead.{AreBitsThere, AreReadable, HasRead};
+
+use crate::geometry::{entry_index, offset_in_block, place_in, run_in_block};
+use sector_bits::{first_run, set_range};
+use store_model::{Store, StoreFault};
+use table_pages::{TableParts, Tables};
+
+/// How many sectors' bits are read at once.
+const PIECE: u64 = 2_048;
+
+/// Bytes of that many bits.
+const PIECE_BYTES: usize = 256;
+
+// Fills a run of sectors of which the file has zeros.
+#[tactic(auto, unfolding(vx_base::specs::Fields::zeros))]
+fn clear(out: &mut [u8])
+    ensures { out.new ≡ zeros (length out.old) }
+{
+    out.fill(0);
+}
+
+// Takes sectors that stand one after the other from byte `place` of the file on, where the file has them; else marks that it
+// doesn't.
+#[tactic(auto, using(crate::proofs::Owned::run_left, crate::proofs::Owned::run_taken))]
+fn take_run<S: Store>(
+    store: &mut S,
+    parts: &TableParts,
+    place: u64,
+    has: bool,
+    count: usize,
+    out: &mut [u8],
+    mask: &mut [u8],
+    at: usize,
+) -> Result<(), StoreFault>
+    requires there { parts.now.file < (S.disk store.old).files }
+    requires out { length out.old ≡ parts.now.sector * count }
+    requires mask { at + count ≤ 8 * length mask.old }
+    requires ends { at + count < 2 ^ 64 }
+    requires inside { has ≡ true → WhereTold (S.disk store.old).told (λ trace. place + parts.now.sector * count ≤ length (seen (file_of trace parts.now.file))) }
+    ensures owned { OnOk result (WhereTold (S.disk store.old).told (λ trace. HasOwned (run_layer has (seen (file_of trace parts.now.file)) place parts.now.sector) parts.now.sector 0 count at mask.old mask.new out.old out.new)) }
+    ensures stays { OnOk result (S.disk store.new ≡ S.disk store.old) }
+    ensures err { IfErr result (ReadFailed parts.now.file (S.disk store.old) (S.disk store.new)) }
+{
+    if !has {
+        set_range(mask, at, count, false);
+        return Ok(());
+    }
+    store.read_at(parts.file, place, out)?;
+    set_range(mask, at, count, true);
+    Ok(())
+}
+
+// Takes the sectors that are marked: the bits from `skip` on are those of the sectors from byte `place` of the file on.
+fn own_marked<S: Store>(
+    store: &mut S,
+    parts: &TableParts,
+    place: u64,
+    bits: &[u8],
+    skip: usize,
+    count: usize,
+    out: &mut [u8],
+    mask: &mut [u8],
+    at: usize,
+) -> Result<(), StoreFault>
+    requires there { parts.now.file < (S.disk store.old).files }
+    requires bits { skip + count ≤ 8 * length bits.now }
+    requires fits { skip + count < 2 ^ 64 }
+    requires out { length out.old ≡ parts.now.sector * count }
+    requires mask { at + count ≤ 8 * length mask.old }
+    requires ends { at + count < 2 ^ 64 }
+    requires inside { WhereTold (S.disk store.old).told (λ trace. place + parts.now.sector * count ≤ length (seen (file_of trace parts.now.file))) }
+    requires small { WhereTold (S.disk store.old).told (λ trace. length (seen (file_of trace parts.now.file)) < 2 ^ 64) }
+    ensures owned { OnOk result (WhereTold (S.disk store.old).told (λ trace. HasOwned (marked_layer bits.now skip (seen (file_of trace parts.now.file)) place parts.now.sector) parts.now.sector 0 count at mask.old mask.new out.old out.new)) }
+    ensures stays { OnOk result (S.disk store.new ≡ S.disk store.old) }
+    ensures err { IfErr result (ReadFailed parts.now.file (S.disk store.old) (S.disk store.new)) }
+{
+    if count == 0 {
+        return Ok(());
+    }
+    let run = first_run(bits, skip, count);
+    let bytes = parts.sector as usize * run.count;
+    let (piece, rest) = out.split_at_mut(bytes);
+    take_run(store, parts, place, run.set, run.count, piece, mask, at)?;
+    own_marked(
+        store,
+        parts,
+        place.saturating_add(bytes as u64),
+        bits,
+        skip + run.count,
+        count - run.count,
+        rest,
+        mask,
+        at + run.count,
+    )?;
+    Ok(())
+}
+
+/// Which of the sectors from `first` on the file has, as bits of the mask from `at` on, and the bytes of those. The bytes of the
+/// others stay.
+pub fn own_all<S: Store>(
+    tables: &mut Tables,
+    store: &mut S,
+    first: u64,
+    count: u64,
+    out: &mut [u8],
+    mask: &mut [u8],
+    at: usize,
+) -> Result<(), StoreFault>
+    requires readable { AreReadable tables.old (S.disk store.old) }
+    requires stored { WhereTold (S.disk store.old).told (λ trace. AreStored (shape_of tables.old.parts) (seen (file_of trace tables.old.parts.file)) (held_file tables.old trace)) }
+    requires on_disk { first + count ≤ tables.old.parts.sectors }
+    requires out { length out.old ≡ tables.old.parts.sector * count }
+    requires mask { at + count ≤ 8 * length mask.old }
+    requires ends { at + count < 2 ^ 64 }
+    ensures owned { OnOk result (WhereTold (S.disk store.old).told (λ trace. HasOwned (layer_by tables.old trace) tables.old.parts.sector first count at mask.old mask.new out.old out.new)) }
+    ensures reads { HasRead tables.old tables.new (S.disk store.old) }
+    ensures stays { OnOk result (S.disk store.new ≡ S.disk store.old) }
+    ensures err { IfErr result (ReadFailed tables.old.parts.file (S.disk store.old) (S.disk store.new)) }
+{
+    if count == 0 {
+        return Ok(());
+    }
+    let len = run_in_block(&tables.parts, first, count);
+    let (run, rest) = out.split_at_mut((u64::from(tables.parts.sector) * len) as usize);
+    own_run(tables, store, first, len, run, mask, at)?;
+    own_all(
+        tables,
+        store,
+        first + len,
+        count - len,
+        rest,
+        mask,
+        at + len as usize,
+    )?;
+    Ok(())
+}
+
+// The same of sectors that lie in one block.
+fn own_run<S: Store>(
+    tables: &mut Tables,
+    store: &mut S,
+    first: u64,
+    count: u64,
+    out: &mut [u8],
+    mask: &mut [u8],
+    at: usize,
+) -> Result<(), StoreFault>
+    requires readable { AreReadable tables.old (S.disk store.old) }
+    requires stored { WhereTold (S.disk store.old).told (λ trace. AreStored (shape_of tables.old.parts) (seen (file_of trace tables.old.parts.file)) (held_file tables.old trace)) }
+    requires some { 0 < count }
+    requires on_disk { first + count ≤ tables.old.parts.sectors }
+    requires run { first * tables.old.parts.sector % tables.old.parts.block + count * tables.old.parts.sector ≤ tables.old.parts.block }
+    requires out { length out.old ≡ tables.old.parts.sector * count }
+    requires mask { at + count ≤ 8 * length mask.old }
+    requires ends { at + count < 2 ^ 64 }
+    ensures owned { OnOk result (WhereTold (S.disk store.old).told (λ trace. HasOwned (layer_by tables.old trace) tables.old.parts.sector first count at mask.old mask.new out.old out.new)) }
+    ensures reads { HasRead tables.old tables.new (S.disk store.old) }
+    ensures stays { OnOk result (S.disk store.new ≡ S.disk store.old) }
+    ensures err { IfErr result (ReadFailed tables.old.parts.file (S.disk store.old) (S.disk store.new)) }
+{
+    let parts = tables.parts;
+    let word = tables.entry(store, entry_index(&parts, first))?;
+    let place = place_in(word >> 20, offset_in_block(&parts, first));
+    let state = word % 8;
+    if state == 6 {
+        return take_run(store, &parts, place, true, count as usize, out, mask, at);
+    }
+    if state == 7 && parts.parent {
+        return own_part(tables, store, place, first, count, out, mask, at);
+    }
+    if state == 0 && parts.parent {
+        return take_run(store, &parts, place, false, count as usize, out, mask, at);
+    }
+    clear(out);
+    set_range(mask, at, count as usize, true);
+    Ok(())
+}
+
+// The same of sectors of a partially present block, which stand from byte `place` of the file on.
+fn own_part<S: Store>(
+    tables: &mut Tables,
+    store: &mut S,
+    place: u64,
+    first: u64,
+    count: u64,
+    out: &mut [u8],
+    mask: &mut [u8],
+    at: usize,
+) -> Result<(), StoreFault>
+    requires readable { AreReadable tables.old (S.disk store.old) }
+    requires stored { WhereTold (S.disk store.old).told (λ trace. AreStored (shape_of tables.old.parts) (seen (file_of trace tables.old.parts.file)) (held_file tables.old trace)) }
+    requires on_disk { first + count ≤ tables.old.parts.sectors }
+    requires out { length out.old ≡ tables.old.parts.sector * count }
+    requires mask { at + count ≤ 8 * length mask.old }
+    requires ends { at + count < 2 ^ 64 }
+    requires parent { tables.old.parts.parent ≡ true }
+    requires chunk { first % 2 ^ 23 + count ≤ 2 ^ 23 }
+    requires bitmap { 0 < count → AreBitsThere first tables.old (S.disk store.old) }
+    requires part { 0 < count → WhereTold (S.disk store.old).told (λ trace. IsPartAt (shape_of tables.old.parts) (held_file tables.old trace) first count place) }
+    ensures owned { OnOk result (WhereTold (S.disk store.old).told (λ trace. HasOwned (layer_by tables.old trace) tables.old.parts.sector first count at mask.old mask.new out.old out.new)) }
+    ensures reads { HasRead tables.old tables.new (S.disk store.old) }
+    ensures stays { OnOk result (S.disk store.new ≡ S.disk store.old) }
+    ensures err { IfErr result (ReadFailed tables.old.parts.file (S.disk store.old) (S.disk store.new)) }
+{
+    if count == 0 {
+        return Ok(());
+    }
+    let len = count.min(PIECE - first % 8);
+    let bytes = u64::from(tables.parts.sector) * len;
+    let (piece, rest) = out.split_at_mut(bytes as usize);
+    own_few(tables, store, place, first, len, piece, mask, at)?;
+    own_part(
+        tables,
+        store,
+        place.saturating_add(bytes),
+        first + len,
+        count - len,
+        rest,
+        mask,
+        at + len as usize,
+    )?;
+    Ok(())
+}
+
+// The same of so many that their bits are read at once.
+fn own_few<S: Store>(
+    tables: &mut Tables,
+    store: &mut S,
+    place: u64,
+    first: u64,
+    count: u64,
+    out: &mut [u8],
+    mask: &mut [u8],
+    at: usize,
+) -> Result<(), StoreFault>
+    requires readable { AreReadable tables.old (S.disk store.old) }
+    requires stored { WhereTold (S.disk store.old).told (λ trace. AreStored (shape_of tables.old.parts) (seen (file_of trace tables.old.parts.file)) (held_file tables.old trace)) }
+    requires some { 0 < count }
+    requires few { first % 8 + count ≤ 2048 }
+    requires on_disk { first + count ≤ tables.old.parts.sectors }
+    requires out { length out.old ≡ tables.old.parts.sector * count }
+    requires mask { at + count ≤ 8 * length mask.old }
+    requires ends { at + count < 2 ^ 64 }
+    requires parent { tables.old.parts.parent ≡ true }
+    requires chunk { first % 2 ^ 23 + count ≤ 2 ^ 23 }
+    requires bitmap { AreBitsThere first tables.old (S.disk store.old) }
+    requires part { WhereTold (S.disk store.old).told (λ trace. IsPartAt (shape_of tables.old.parts) (held_file tables.old trace) first count place) }
+    ensures owned { OnOk result (WhereTold (S.disk store.old).told (λ trace. HasOwned (layer_by tables.old trace) tables.old.parts.sector first count at mask.old mask.new out.old out.new)) }
+    ensures reads { HasRead tables.old tables.new (S.disk store.old) }
+    ensures stays { OnOk result (S.disk store.new ≡ S.disk store.old) }
+    ensures err { IfErr result (ReadFailed tables.old.parts.file (S.disk store.old) (S.disk store.new)) }
+{
+    let parts = tables.parts;
+    let skip = first % 8;
+    let mut bits = [0; PIECE_BYTES];
+    let bytes = (skip + count).div_ceil(8) as usize;
+    let piece = &mut bits[..bytes];
+    tables.bits(store, first - skip, piece)?;
+    own_marked(
+        store,
+        &parts,
+        place,
+        piece,
+        skip as usize,
+        count as usize,
+        out,
+        mask,
+        at,
+    )?;
+    Ok(())
+}
