@@ -17,3 +17,5 @@ mod places;
 mod stores;
 #[cfg(test)]
 mod tables;
+#[cfg(test)]
+mod updates;

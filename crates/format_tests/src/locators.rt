@@ -33,8 +33,8 @@ fn written(alloc: Global, pairs: &[(&str, &str)]) -> Result<Bytes, Fail> {
     Ok(build(alloc, &locator).map_err(|_| "no memory")?)
 }
 
-// The locator of a child of `b.vhdx`.
-fn child_of_b(alloc: Global) -> Result<Bytes, Fail> {
+/// The locator of a child of `b.vhdx`.
+pub fn child_of_b(alloc: Global) -> Result<Bytes, Fail> {
     let id = Guid::parse(ID).ok_or("no identifier")?;
     let name = Name::new(alloc, "b.vhdx").map_err(|_| "no name")?;
     let locator = child_locator(alloc, &id, &name).map_err(|_| "no memory")?;

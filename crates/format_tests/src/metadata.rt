@@ -42,8 +42,8 @@ fn refusal_of(alloc: Global, bytes: Vec<u8>) -> Option<MetadataRefusal> {
     parse(alloc, &mut Repeated { bytes }, 0, &REGIONS).err()
 }
 
-// The place, the length and the flags of an item, by its entry.
-fn item(bytes: &[u8], entry: usize) -> (u32, u32, u32) {
+/// The place, the length and the flags of an item, by its entry.
+pub fn item(bytes: &[u8], entry: usize) -> (u32, u32, u32) {
     let at = 32 + 32 * (entry % 100);
     if bytes.len() < at + 32 {
         return (0, 0, 0);

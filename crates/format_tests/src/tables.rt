@@ -11,9 +11,9 @@ use std::test::Fail;
 use table_pages::{TableParts, Tables};
 use vx_base::{Bytes, Geometry, Guid, Header, Parts, put_u64};
 
-// A file with a parent, of three blocks of 256 MB, so that the 17th entry is their bitmap's.
+/// A file with a parent, of three blocks of 256 MB, so that the 17th entry is their bitmap's.
 #[tactic(auto, unfolding(vhdx_format::specs::AllocationTables::table_entries))]
-fn child(alloc: Global) -> Parts
+pub fn child(alloc: Global) -> Parts
     ensures { HasNumbers result }
 {
     Parts {

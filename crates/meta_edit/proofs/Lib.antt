@@ -1,0 +1,16 @@
+pub mod ByteLaws
+pub mod PageLaws
+pub mod TableLaws
+pub mod Refused
+pub mod Sound
+pub mod Slots
+pub mod MoreSlots
+pub mod Listing
+pub mod ItemLists
+pub mod Edited
+pub mod MoreItems
+pub mod Written
+pub mod Added
+pub mod ItemRead
+pub mod ReadAfter
+pub mod NamesRead
