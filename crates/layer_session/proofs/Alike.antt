@@ -1,23 +1,21 @@
 -- A file that has the tables of a shorter one, and what else it has of it.
-use Rattle.std.proofs.Common.{◌≡◌, ◌≢◌, ℕ, ◌+◌, ◌-◌, ◌*◌, ◌/◌, ◌%◌, ◌^◌, ◌<◌, ◌≤◌, ◌⊎◌, ◌==◌, ◌&&◌, Bool, true, false, List, ◌∷◌, length, drop, get_or, slice_index, Option, Some, None, refl, sym, ap, subst, ◌∙◌, arith, inl, inr, if◌then◌else◌}
-use Rattle.std.specs.Prelude.{Ok, IsTrue, nat_lt}
-use Rattle.std.specs.List.{Any}
+use Rattle.std.proofs.Common.{◌≡◌, ◌≢◌, ℕ, ◌+◌, ◌*◌, ◌/◌, ◌%◌, ◌^◌, ◌<◌, ◌≤◌, ◌⊎◌, ◌==◌, Bool, true, false, List, length, drop, get_or, Some, refl, sym, ap, subst, ◌∙◌, arith, inl, inr}
+use Rattle.std.specs.Prelude.{Ok, nat_lt}
 use Rattle.std.specs.Int.{bit_at}
 use Rattle.std.proofs.lemmas.Bool.{cases_lt, cases_eq, cases_Bool, lt-ltb, ne_eqb}
 use Rattle.std.proofs.lemmas.List.{get_or-drop}
-use Rattle.vx_base.specs.Fields.{u64_at, bytes_at, zeros}
+use Rattle.vx_base.specs.Fields.{u64_at, bytes_at}
 use Rattle.vx_base.specs.declared.parts.Parts.{Parts}
-use Rattle.vhdx_format.specs.AllocationTables.{IsSectorSize, IsBlockSize, table_entries, payload_index_of, bitmap_index_of, state_of, unit_of}
-use Rattle.vhdx_format.specs.Crashes.{IsOutside}
+use Rattle.vhdx_format.specs.AllocationTables.{IsSectorSize, IsBlockSize, table_entries, bitmap_index_of, state_of, unit_of}
 use Rattle.vhdx_format.specs.Fields.{megabyte, overlaps}
 use Rattle.vhdx_format.specs.FileParts.{shape_of, taken_areas, read_parts}
-use Rattle.vhdx_format.specs.HeldBlocks.{Area, HasBadState, HasBadPlace, BlocksOverlap, LacksBitmap, HoldsBlock, IsBitmapEntry, IsPayloadEntry, IsSoundTable, Overlap, bitmap, payload}
-use Rattle.vhdx_format.specs.Layers.{HasSizes, Shape, bitmap_entry_of, block_count, block_of, chunk_count, chunk_ratio_of, entry_of, layer_sector, place_at, sector_bit, sector_by_state, state_at, stored_sector, table_entry}
+use Rattle.vhdx_format.specs.HeldBlocks.{Area, HasBadState, HasBadPlace, LacksBitmap, HoldsBlock, IsBitmapEntry, IsPayloadEntry, IsSoundTable, bitmap, payload}
+use Rattle.vhdx_format.specs.Layers.{HasSizes, Shape, bitmap_entry_of, block_count, block_of, chunk_ratio_of, entry_of, layer_sector, place_at, sector_bit, sector_by_state, state_at, stored_sector, table_entry}
 use Rattle.vhdx_format.specs.SectorBitmaps.{bit_of}
 use Rattle.vhdx_format.proofs.LayerLemmas.{div-div_ceil, entries_apart, entries_within, same_chunk, sector_entries, by_state-full}
 use Rattle.vhdx_format.proofs.SizeLemmas.{ratio_in_range}
 use Rattle.log_write.specs.Sessions.{IsKept}
-use Rattle.layer_session.specs.Keeping.{Covers, IsTablePlace, StandsAt, bitmap as bitmap_place, entries, metadata, regions}
+use Rattle.layer_session.specs.Keeping.{IsTablePlace, StandsAt, bitmap as bitmap_place, entries, metadata, regions}
 use Rattle.layer_session.proofs.Numbers.{are_numbers, part_alike, same_numbers}
 use Rattle.layer_file.proofs.Sectors.{in_block, read_back}
 
@@ -200,26 +198,29 @@ module _ (parts : Parts) (old new : List ℕ) (longer : length old ≤ length ne
         ap (λ w. bytes_at new (unit_of w * megabyte + s * p.sector % p.block) p.sector) (state_alike s below)
         ∙ part_alike old new (place_at p old (entry_of p s) + s * p.sector % p.block) p.sector (omega (arith, end, fits)) longer (λ i a c. same_bytes i (record { there = there; from = a; to = c }))
 
-    pub bit_alike : (s : ℕ) → s < p.sectors → state_at p old (entry_of p s) ≡ 7 → sector_bit p new s ≡ sector_bit p old s
+    -- where the sector bitmap block is there
+    pub bit_there : (s : ℕ) → s < p.sectors → p.parent ≡ true → state_at p old (bitmap_entry_of p s) ≡ 6 → sector_bit p new s ≡ sector_bit p old s
     unfolding sector_bit
+    bit_there s below parent six =
+        let be : IsBitmapEntry p (bitmap_entry_of p s) = (sector_entries p (record { sector = sizes.sector; block = sizes.block })).bitmap s parent below in
+        let at = place_at p old (bitmap_entry_of p s) in
+        let k = s % 2 ^ 23 / 8 in
+        let low : k < megabyte = omega arith in
+        let b : IsInFile (record { at = at; len = megabyte }) = block_in_file (bitmap_entry_of p s) (record { at = at; len = megabyte }) (bitmap be six) in
+        let end : at + megabyte ≤ length old = b.within in
+        let byte : get_or new (at + k) 0 ≡ get_or old (at + k) 0 = same (at + k) (bitmap_place (bitmap_entry_of p s) be six (omega arith) (omega (arith, low))) (omega (arith, end, low)) in
+        ap (λ w. bit_of (drop (unit_of w * megabyte) new) (s % 2 ^ 23)) (bitmap_alike (bitmap_entry_of p s) be)
+        ∙ ap (λ n. bit_at n (s % 2 ^ 23 % 8)) (get_or-drop at new k 0 ∙ byte ∙ sym (get_or-drop at old k 0))
+
+    pub bit_alike : (s : ℕ) → s < p.sectors → state_at p old (entry_of p s) ≡ 7 → sector_bit p new s ≡ sector_bit p old s
     bit_alike s below seven = by_parent (cases_Bool p.parent)
       where
         e : IsPayloadEntry p (entry_of p s)
         e = (sector_entries p (record { sector = sizes.sector; block = sizes.block })).payload s below
 
-        by_parent : (p.parent ≡ true) ⊎ (p.parent ≡ false) → bit_of (drop (place_at p new (bitmap_entry_of p s)) new) (s % 2 ^ 23) ≡ bit_of (drop (place_at p old (bitmap_entry_of p s)) old) (s % 2 ^ 23)
+        by_parent : (p.parent ≡ true) ⊎ (p.parent ≡ false) → sector_bit p new s ≡ sector_bit p old s
         by_parent (inr alone) = absurd (sound.states (entry_of p s) (inl (e, inr (inr (seven, alone)))))
-        by_parent (inl parent) =
-            let be : IsBitmapEntry p (bitmap_entry_of p s) = (sector_entries p (record { sector = sizes.sector; block = sizes.block })).bitmap s parent below in
-            let six : state_at p old (bitmap_entry_of p s) ≡ 6 = bitmap_there s below parent seven in
-            let at = place_at p old (bitmap_entry_of p s) in
-            let k = s % 2 ^ 23 / 8 in
-            let low : k < megabyte = omega arith in
-            let b : IsInFile (record { at = at; len = megabyte }) = block_in_file (bitmap_entry_of p s) (record { at = at; len = megabyte }) (bitmap be six) in
-            let end : at + megabyte ≤ length old = b.within in
-            let byte : get_or new (at + k) 0 ≡ get_or old (at + k) 0 = same (at + k) (bitmap_place (bitmap_entry_of p s) be six (omega arith) (omega (arith, low))) (omega (arith, end, low)) in
-            ap (λ w. bit_of (drop (unit_of w * megabyte) new) (s % 2 ^ 23)) (bitmap_alike (bitmap_entry_of p s) be)
-            ∙ ap (λ n. bit_at n (s % 2 ^ 23 % 8)) (get_or-drop at new k 0 ∙ byte ∙ sym (get_or-drop at old k 0))
+        by_parent (inl parent) = bit_there s below parent (bitmap_there s below parent seven)
 
     pub layer_alike : (s : ℕ) → s < p.sectors → ((i : ℕ) → StandsAt p old s i → get_or new i 0 ≡ get_or old i 0) → layer_sector p new s ≡ layer_sector p old s
     layer_alike s below same_bytes = ap (λ w. sector_by_state p (state_of w) (sector_bit p new s) (stored_sector p new s)) (state_alike s below) ∙ by_state (cases_eq (state_at p old (entry_of p s)) 6) (cases_eq (state_at p old (entry_of p s)) 7)

@@ -1,11 +1,11 @@
 -- A place that is taken for a block: the file grows, or a freed place is made zeros.
-use Rattle.std.proofs.Common.{◌≡◌, ℕ, ◌+◌, ◌<◌, ◌≤◌, ◌⊎◌, ◌||◌, Bool, true, false, List, length, get_or, refl, sym, ap, subst, ◌∙◌, arith, inl, inr}
+use Rattle.std.proofs.Common.{◌≡◌, ℕ, ◌+◌, ◌<◌, ◌≤◌, ◌⊎◌, ◌||◌, Bool, true, false, List, length, get_or, refl, sym, subst, ◌∙◌, arith, inl, inr}
 use Rattle.std.proofs.lemmas.Bool.{cases_lt, cases_Bool, or_from}
 use Rattle.vx_base.specs.Fields.{extended, written_over}
 use Rattle.vx_base.specs.declared.parts.Header.{Header}
 use Rattle.vhdx_format.specs.Fields.{megabyte}
 use Rattle.vhdx_format.specs.FileParts.{shape_of}
-use Rattle.vhdx_format.specs.HeldBlocks.{Area, HoldsBlock, IsPayloadEntry, payload, bitmap}
+use Rattle.vhdx_format.specs.HeldBlocks.{IsPayloadEntry, payload, bitmap}
 use Rattle.vhdx_format.specs.Layers.{Shape, entry_of, place_at}
 use Rattle.vhdx_format.proofs.LayerLemmas.{sector_entries}
 use Rattle.vhdx_format.proofs.SettledBytes.{get_or-extended, length-extended}
@@ -15,7 +15,7 @@ use Rattle.store_model.proofs.Spans.{file_of-with_change}
 use Rattle.table_pages.specs.Held.{held}
 use Rattle.table_pages.proofs.Laying.{length_over, over_out}
 use Rattle.log_write.specs.Laws.{MayWrite}
-use Rattle.log_write.specs.Sessions.{IsKept, IsRunning, LogState, SettlesNear}
+use Rattle.log_write.specs.Sessions.{IsKept, SettlesNear}
 use Rattle.log_write.proofs.Commits.{running_stands}
 use Rattle.log_write.proofs.Running.{file_grown, payload_written}
 use Rattle.chain_model.specs.Images.{Placed, Shows}
@@ -25,7 +25,6 @@ use Rattle.layer_session.specs.declared.file.Layer.{Layer}
 use Rattle.layer_session.specs.Calls.{is_among}
 use Rattle.layer_session.specs.Keeping.{IsNobodys, IsPlaced, IsTablePlace, Serves, StandsAt, bitmap as bitmap_place, entries, metadata, regions}
 use Rattle.layer_session.proofs.Alike.{not_true}
-use Rattle.layer_session.proofs.Apart.{beside_self}
 use Rattle.layer_session.proofs.Beside.{among}
 use Rattle.layer_session.proofs.Crashes.{IsSafe, safe_of, shown}
 use Rattle.layer_session.proofs.Payload.{within}

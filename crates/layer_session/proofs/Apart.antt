@@ -1,10 +1,10 @@
 -- The blocks of one sound table.
-use Rattle.std.proofs.Common.{◌≡◌, ℕ, ◌+◌, ◌*◌, ◌<◌, ◌≤◌, ◌⊎◌, true, false, List, length, refl, sym, ap, subst, ◌∙◌, arith, inl, inr}
+use Rattle.std.proofs.Common.{◌≡◌, ℕ, ◌+◌, ◌<◌, ◌≤◌, ◌⊎◌, true, false, List, refl, sym, subst, ◌∙◌, arith, inl, inr}
 use Rattle.std.proofs.lemmas.Bool.{cases_lt, cases_eq, cases_Bool}
 use Rattle.vx_base.specs.declared.parts.Parts.{Parts}
-use Rattle.vhdx_format.specs.Fields.{megabyte, overlaps}
+use Rattle.vhdx_format.specs.Fields.{overlaps}
 use Rattle.vhdx_format.specs.FileParts.{shape_of, taken_areas}
-use Rattle.vhdx_format.specs.HeldBlocks.{Area, HoldsBlock, IsBitmapEntry, IsPayloadEntry, IsSoundTable, bitmap, payload}
+use Rattle.vhdx_format.specs.HeldBlocks.{Area, HoldsBlock, IsSoundTable, bitmap, payload}
 use Rattle.vhdx_format.specs.Layers.{Shape, chunk_ratio_of}
 use Rattle.vhdx_format.proofs.LayerLemmas.{entries_apart}
 use Rattle.vhdx_format.proofs.SizeLemmas.{block_least, ratio_in_range}

@@ -1,11 +1,10 @@
 -- What a layer holds, in the words of chains.
-use Rattle.std.proofs.Common.{◌≡◌, ℕ, ◌+◌, ◌<◌, ◌≤◌, ◌⊎◌, true, List, length, map, get_or, refl, sym, ap, subst, ◌∙◌, arith, inl, inr}
-use Rattle.std.specs.Prelude.{Ok}
+use Rattle.std.proofs.Common.{◌≡◌, ℕ, ◌<◌, ◌≤◌, ◌⊎◌, List, length, map, get_or, refl, sym, ap, subst, ◌∙◌, arith, inl, inr}
 use Rattle.std.proofs.lemmas.Bool.{cases_lt}
 use Rattle.vx_base.specs.declared.parts.Header.{Header}
 use Rattle.vhdx_format.specs.FileParts.{shape_of}
 use Rattle.vhdx_format.specs.Layers.{Shape}
-use Rattle.vhdx_format.specs.SettledFiles.{byte_after, length_after, with_updates}
+use Rattle.vhdx_format.specs.SettledFiles.{byte_after, length_after}
 use Rattle.vhdx_format.specs.WrittenEntries.{page_update}
 use Rattle.vhdx_format.proofs.SettledBytes.{get_or-with_updates, length-with_updates}
 use Rattle.store_model.specs.File.{seen}

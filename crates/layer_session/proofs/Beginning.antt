@@ -21,7 +21,7 @@ use Rattle.std.specs.Prelude.{Ok}
 use Rattle.vx_base.specs.declared.parts.Header.{Header}
 use Rattle.vx_base.specs.declared.parts.Parts.{Parts}
 use Rattle.vhdx_format.specs.AllocationTables.{IsBlockSize, IsSectorSize, table_entries}
-use Rattle.vhdx_format.specs.Fields.{megabyte, overlaps}
+use Rattle.vhdx_format.specs.Fields.{megabyte}
 use Rattle.vhdx_format.specs.FileParts.{HasNumbers, read_parts, shape_of, taken_areas}
 use Rattle.vhdx_format.specs.HeldBlocks.{IsSoundTable, bitmap}
 use Rattle.vhdx_format.specs.Layers.{Shape, layer_sector, place_at}
@@ -37,7 +37,6 @@ use Rattle.log_write.specs.Writing.{BeginsAlike, BeginsAtEachMoment, CanCommit, 
 use Rattle.log_write.specs.declared.ids.SessionIds.{SessionIds}
 use Rattle.chain_model.specs.Files.{layer_in}
 use Rattle.chain_model.specs.Images.{Shows}
-use Rattle.chain_model.specs.Layers as chain
 use Rattle.chain_model.specs.Members.{ties_of}
 use Rattle.chain_model.specs.Moments.{HasWholeImages}
 use Rattle.chain_model.specs.Sessions.{ShowsFile}
@@ -166,6 +165,7 @@ pub record IsMadeOf (parts : Parts) (ids : SessionIds) (file : ℕ) (tables_of :
   pub region : tables_of.bat_len ≡ parts.bat_len
   pub log : l.log ≡ begun file parts.header ids l.log.len
   pub next : l.log.len ≤ l.space.next * megabyte
+  pub most : l.space.next ≤ 2 ^ 44
   pub tight : l.space.next * megabyte < l.log.len + megabyte
   pub none_freed : l.space.freed ≡ []
 
@@ -306,7 +306,7 @@ module _ (parts : Parts) (ids : SessionIds) (file : ℕ) (tables_of : TableParts
   begin_ready there counts clear plans =
       let number : l.tables.parts.file ≡ file = ap (λ (p : TableParts). p.file) made.new.parts_are ∙ made.number in
       ready_from l new (subst (λ n. n < new.files) (sym number) (subst (λ n. file < n) (sym (ap (λ (d : Disk). d.files) counts)) there)) (subst HasTables (sym made.new.parts_are) (have_sizes parts tables_of numbers made.shape made.region))
-      (ap (λ (s : LogState). s.file) made.log ∙ sym number) made.next clear plans (one_served old.told new.told begin_served)
+      (ap (λ (s : LogState). s.file) made.log ∙ sym number) made.next made.most clear plans (one_served old.told new.told begin_served)
 
 -- whole units hold a length, and no more than one too many
 pub units_hold : (n : ℕ) → (n ≤ div_ceil n 1048576 * megabyte) × (div_ceil n 1048576 * megabyte < n + megabyte)
@@ -314,8 +314,8 @@ units_hold n = (omega arith, omega arith)
 
 -- what was made by its parts
 pub is_made : (parts : Parts) (ids : SessionIds) (file len : ℕ) (tables_of : TableParts) (l : Layer) → IsNew tables_of l.tables → tables_of.file ≡ file → tables.shape_of tables_of ≡ shape_of parts → tables_of.bat_len ≡ parts.bat_len
-    → l.log ≡ begun file parts.header ids l.log.len → len ≡ l.log.len → l.space ≡ (let s : Space = record { next = div_ceil len 1048576; freed = [] } in s) → IsMadeOf parts ids file tables_of l
-is_made parts ids file len tables_of l new number shape region log len_is space =
+    → l.log ≡ begun file parts.header ids l.log.len → len ≡ l.log.len → l.space ≡ (let s : Space = record { next = div_ceil len 1048576; freed = [] } in s) → len < 2 ^ 64 → IsMadeOf parts ids file tables_of l
+is_made parts ids file len tables_of l new number shape region log len_is space small =
     let next : l.space.next ≡ div_ceil l.log.len 1048576 = ap (λ (s : Space). s.next) space ∙ ap (λ n. div_ceil n 1048576) len_is in
     let w = units_hold l.log.len in
     record {
@@ -325,6 +325,7 @@ is_made parts ids file len tables_of l new number shape region log len_is space 
       region = region;
       log = log;
       next = subst (λ n. l.log.len ≤ n * megabyte) (sym next) w.0;
+      most = let e : l.space.next ≡ div_ceil len 1048576 = ap (λ (s : Space). s.next) space in omega (arith, e, small);
       tight = subst (λ n. n * megabyte < l.log.len + megabyte) (sym next) w.1;
       none_freed = ap (λ (s : Space). s.freed) space;
     }

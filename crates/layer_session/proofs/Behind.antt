@@ -1,5 +1,5 @@
 -- The place behind the file's end, once the file has grown to it: it is nobody's.
-use Rattle.std.proofs.Common.{◌≡◌, ℕ, ◌+◌, ◌*◌, ◌^◌, ◌<◌, ◌≤◌, ◌⊎◌, All, List, length, get_or, refl, sym, ap, subst, ◌∙◌, arith, inl, inr}
+use Rattle.std.proofs.Common.{◌≡◌, ℕ, ◌+◌, ◌*◌, ◌^◌, ◌≤◌, ◌⊎◌, All, List, length, sym, ap, subst, ◌∙◌, arith, inl, inr}
 use Rattle.vx_base.specs.Fields.{extended}
 use Rattle.std.proofs.lemmas.Bool.{and_parts, leb-true}
 use Rattle.table_pages.proofs.Words.{held_long}
@@ -9,7 +9,7 @@ use Rattle.vhdx_format.specs.Fields.{megabyte}
 use Rattle.vhdx_format.specs.FileParts.{shape_of}
 use Rattle.vhdx_format.specs.HeldBlocks.{Area, HoldsBlock}
 use Rattle.vhdx_format.proofs.SettledBytes.{length-extended}
-use Rattle.store_model.specs.File.{Grow, File, seen, with_op}
+use Rattle.store_model.specs.File.{Grow, seen}
 use Rattle.store_model.specs.Trace.{Trace, file_of, with_change}
 use Rattle.store_model.proofs.Spans.{file_of-with_change}
 use Rattle.table_pages.specs.Held.{held}
@@ -22,7 +22,7 @@ use Rattle.layer_session.proofs.Alike.{block_in_file, holds_alike}
 use Rattle.layer_session.proofs.Entered.{held_as_long, long, sizes}
 use Rattle.layer_session.proofs.Grown.{grown_byte, grown_bytes, grown_pages, grown_parts, grown_serves, layer_with}
 use Rattle.layer_session.proofs.Numbers.{AreNumbers, are_numbers}
-use Rattle.layer_session.proofs.Placing.{IsUnused}
+use Rattle.layer_session.specs.Taking.{IsUnused}
 
 module _ (l : Layer) (trace : Trace) (file : Placed) (serves : Serves l trace file) (len : ℕ) (longer : l.log.len ≤ len) (most : len ≤ 2 ^ 63) (space : Space) (freed : space.freed ≡ l.space.freed) (next : space.next * megabyte ≡ len)
     (range : Area) (from : l.space.next * megabyte ≤ range.at) (to : range.at + range.len ≤ len) where

@@ -1,19 +1,19 @@
 -- What a run of sectors touches.
-use Rattle.std.proofs.Common.{◌≡◌, ◌≢◌, ℕ, ◌+◌, ◌-◌, ◌*◌, ◌/◌, ◌%◌, ◌<◌, ◌≤◌, ◌⊎◌, ◌&&◌, Bool, true, false, List, length, refl, sym, ap, subst, ◌∙◌, arith, inl, inr}
-use Rattle.std.specs.Prelude.{Ok, nat_le, nat_lt, IsTrue}
-use Rattle.std.proofs.lemmas.Bool.{cases_lt, cases_eq, cases_Bool, le-leb, lt-ltb}
+use Rattle.std.proofs.Common.{◌≡◌, ℕ, ◌+◌, ◌-◌, ◌*◌, ◌/◌, ◌%◌, ◌<◌, ◌≤◌, ◌⊎◌, true, false, List, length, refl, ap, ◌∙◌, arith, inl, inr}
+use Rattle.std.specs.Prelude.{Ok}
+use Rattle.std.proofs.lemmas.Bool.{cases_lt, cases_Bool, le-leb, lt-ltb}
 use Rattle.std.proofs.lemmas.Nat.{div_below, div-add-mod', mod_below}
 use Rattle.vx_base.specs.declared.parts.Parts.{Parts}
 use Rattle.vhdx_format.specs.Fields.{megabyte, overlaps}
 use Rattle.vhdx_format.specs.FileParts.{shape_of, taken_areas, read_parts}
-use Rattle.vhdx_format.specs.HeldBlocks.{Area, HoldsBlock, IsBitmapEntry, IsPayloadEntry, IsSoundTable, Overlap, bitmap, payload}
-use Rattle.vhdx_format.specs.Layers.{Shape, block_of, chunk_ratio_of, entry_of, place_at, state_at}
+use Rattle.vhdx_format.specs.HeldBlocks.{Area, HoldsBlock, IsBitmapEntry, IsPayloadEntry, IsSoundTable, bitmap, payload}
+use Rattle.vhdx_format.specs.Layers.{Shape, block_of, chunk_ratio_of, entry_of, place_at}
 use Rattle.vhdx_format.proofs.LayerLemmas.{entries_apart, sector_entries}
 use Rattle.vhdx_format.proofs.SizeLemmas.{ratio_in_range, sector_least}
 use Rattle.log_write.specs.Sessions.{IsKept}
 use Rattle.layer_session.specs.Calls.{is_among}
 use Rattle.layer_session.specs.Keeping.{AreBeside, IsRunAt, IsTablePlace, StandsAt, bitmap as bitmap_place, entries, metadata, regions}
-use Rattle.layer_session.proofs.Alike.{AreSizes, IsInFile, block_in_file, block_kept, not_true, off_range}
+use Rattle.layer_session.proofs.Alike.{AreSizes, IsInFile, block_in_file, block_kept, off_range}
 use Rattle.layer_session.proofs.Places.{in_run, same_sector}
 use Rattle.layer_file.proofs.Sectors.{in_block}
 

@@ -1,7 +1,7 @@
 -- The runs of sectors that lie in one block, block by block.
-use Rattle.std.proofs.Common.{◌≡◌, ◌≢◌, ℕ, zero, suc, ◌+◌, ◌-◌, ◌*◌, ◌/◌, ◌%◌, ◌^◌, ◌<◌, ◌≤◌, ◌⊎◌, ◌==◌, ◌&&◌, ◌||◌, Bool, true, false, List, ◌∷◌, refl, sym, ap, subst, ◌∙◌, arith, inl, inr, if◌then◌else◌}
-use Rattle.std.specs.Prelude.{min, max, count_by}
-use Rattle.std.specs.List.{list_any, range_with_len}
+use Rattle.std.proofs.Common.{◌≡◌, ◌≢◌, ℕ, zero, suc, ◌+◌, ◌-◌, ◌*◌, ◌/◌, ◌%◌, ◌^◌, ◌<◌, ◌≤◌, ◌⊎◌, ◌==◌, false, List, ◌∷◌, refl, sym, ap, subst, ◌∙◌, arith, inl, inr}
+use Rattle.std.specs.Prelude.{min}
+use Rattle.std.specs.List.{range_with_len}
 use Rattle.std.proofs.Math.Nat.{add-mul, mul-div-mul_right, mul-div_cancel, mul_assoc}
 use Rattle.std.proofs.lemmas.Bool.{cases_eq, cases_lt, ne_eqb}
 use Rattle.std.proofs.lemmas.Nat.{div-add-mod', div-mul-add, mod_below, mod-mul-add, pow-add}
@@ -90,7 +90,7 @@ module _ (p : Shape) (h : HasSizes p) (first count : ℕ) (some : 0 < count) whe
   abbrev run : ℕ
   run = run_in_block p first count
 
-  run_is : run ≡ min count (per - first % per)
+  pub run_is : run ≡ min count (per - first % per)
   run_is = ap (λ n. min count n) (room_of p.sector p.block per w first)
 
   at : (s : ℕ) → block_of p s ≡ s / per
@@ -143,7 +143,7 @@ module _ (p : Shape) (h : HasSizes p) (first count : ℕ) (some : 0 < count) whe
   no_blocks s n z = rw z refl
 
   -- the rest begins with the next block
-  next : 0 < left → (first + run ≡ b0 * per + per) × (block_of p (first + run) ≡ b0 + 1)
+  pub next : 0 < left → (first + run ≡ b0 * per + per) × (block_of p (first + run) ≡ b0 + 1)
   next l =
       let e : first + run ≡ b0 * per + per = omega (arith, run_is, here, less first, l) in
       (e, at (first + run) ∙ in_row (b0 + 1) (first + run) (omega (arith, e, next_row b0)) (omega (arith, e, next_row b0, w.any)))

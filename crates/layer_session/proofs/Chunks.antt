@@ -1,30 +1,30 @@
 -- A sector bitmap block is made, behind what was committed.
 use Rattle.std.proofs.Common.{◌≡◌, ◌≢◌, ℕ, ◌+◌, ◌*◌, ◌^◌, ◌<◌, ◌≤◌, ◌⊎◌, ◌&&◌, ◌||◌, Bool, true, false, All, List, length, get_or, refl, sym, ap, subst, ◌∙◌, arith, inl, inr}
 use Rattle.std.specs.Prelude.{nat_lt}
-use Rattle.std.proofs.lemmas.Bool.{and_parts, cases_Bool, cases_eq, cases_lt, lt-ltb, ltb-true, or_cases}
+use Rattle.std.proofs.lemmas.Bool.{and_parts, cases_eq, lt-ltb, ltb-true, or_cases}
 use Rattle.vhdx_format.specs.AllocationTables.{state_of, unit_of}
 use Rattle.vhdx_format.specs.Fields.{megabyte}
 use Rattle.vhdx_format.specs.FileParts.{shape_of}
-use Rattle.vhdx_format.specs.HeldBlocks.{Area, HasBadState, HoldsBlock, IsBitmapEntry, IsPayloadEntry, LacksBitmap, bitmap, payload}
-use Rattle.vhdx_format.specs.Layers.{Shape, chunk_ratio_of, entry_of, layer_sector, place_at, state_at}
+use Rattle.vhdx_format.specs.HeldBlocks.{Area, HasBadState, HoldsBlock, IsBitmapEntry, IsPayloadEntry, bitmap, payload}
+use Rattle.vhdx_format.specs.Layers.{Shape, chunk_ratio_of, state_at}
 use Rattle.vhdx_format.proofs.LayerLemmas.{entries_apart, sector_entries}
 use Rattle.vhdx_format.proofs.SizeLemmas.{ratio_in_range}
-use Rattle.store_model.specs.File.{IsFileImage, seen}
+use Rattle.store_model.specs.File.{seen}
 use Rattle.store_model.specs.Trace.{Trace, file_of}
 use Rattle.table_pages.specs.Held.{held}
 use Rattle.table_pages.specs.declared.tables.Tables.{Tables}
-use Rattle.log_write.specs.Sessions.{IsLogged, IsRunning}
+use Rattle.log_write.specs.Sessions.{IsRunning}
 use Rattle.block_alloc.specs.declared.freed.Freed.{Freed}
 use Rattle.chain_model.specs.Images.{Placed}
 use Rattle.layer_session.specs.declared.file.Layer.{Layer}
-use Rattle.layer_session.specs.Calls.{is_among, placed_with}
+use Rattle.layer_session.specs.Calls.{is_among}
 use Rattle.layer_session.specs.Keeping.{HasSpace, IsCommitted, IsNobodys, IsPlaced, Serves, area_of}
 use Rattle.layer_session.proofs.Alike.{not_true}
 use Rattle.layer_session.proofs.Beside.{among}
 use Rattle.layer_session.proofs.Entered.{EntersInto, Enters, entered_held, entered_serves, held_as_long, layer_by, long, sizes}
 use Rattle.layer_session.proofs.Entries.{IsGoodEntry, entry_here, holds_beside, layer_beside, set_file}
 use Rattle.layer_session.proofs.Payload.{within}
-use Rattle.layer_session.proofs.Placing.{IsUnused}
+use Rattle.layer_session.specs.Taking.{IsUnused}
 
 module _ (l : Layer) (trace : Trace) (file : Placed) (serves : Serves l trace file) (t : Tables) (index word : ℕ) (inside : 8 * index + 8 ≤ serves.parts.bat_len) (small : word < 2 ^ 64)
     (into : EntersInto l trace file t index word) (entry : IsBitmapEntry (shape_of serves.parts) index) (six : state_of word ≡ 6)

@@ -1,5 +1,5 @@
 -- A part of a place that is nobody's is written: the place is nobody's still.
-use Rattle.std.proofs.Common.{◌≡◌, ℕ, ◌+◌, ◌-◌, ◌*◌, ◌<◌, ◌≤◌, ◌⊎◌, All, List, length, get_or, refl, sym, ap, subst, ◌∙◌, arith, inl, inr}
+use Rattle.std.proofs.Common.{◌≡◌, ℕ, ◌+◌, ◌-◌, ◌<◌, ◌≤◌, ◌⊎◌, List, length, get_or, sym, ap, subst, ◌∙◌, arith, inl, inr}
 use Rattle.vx_base.specs.Fields.{written_over}
 use Rattle.vx_base.specs.declared.parts.Parts.{Parts}
 use Rattle.vhdx_format.specs.FileParts.{shape_of}
@@ -9,14 +9,13 @@ use Rattle.store_model.specs.Trace.{Trace, file_of, with_change}
 use Rattle.store_model.proofs.Spans.{file_of-with_change}
 use Rattle.table_pages.specs.Held.{held}
 use Rattle.table_pages.proofs.Laying.{length_over, over_in, over_out}
-use Rattle.block_alloc.specs.declared.freed.Freed.{Freed}
 use Rattle.chain_model.specs.Images.{Placed}
 use Rattle.layer_session.specs.declared.file.Layer.{Layer}
-use Rattle.layer_session.specs.Keeping.{IsNobodys, IsPlaced, Serves, area_of}
+use Rattle.layer_session.specs.Keeping.{IsNobodys, IsPlaced, Serves}
 use Rattle.layer_session.proofs.Alike.{holds_alike}
 use Rattle.layer_session.proofs.Entered.{held_as_long, long, sizes}
 use Rattle.layer_session.proofs.Grown.{clear, taken_byte, taken_bytes, taken_held, taken_parts, taken_serves}
-use Rattle.layer_session.proofs.Placing.{IsUnused}
+use Rattle.layer_session.specs.Taking.{IsUnused}
 
 -- a part of a range stands beside what the range stands beside
 part_beside : (from len at n b m : ℕ) → at ≤ from → from + len ≤ at + n → (at + n ≤ b) ⊎ (b + m ≤ at) → (from + len ≤ b) ⊎ (b + m ≤ from)
@@ -57,7 +56,7 @@ module _ (l : Layer) (trace : Trace) (file : Placed) (serves : Serves l trace fi
   pub cleared_serves : Serves l new file
   cleared_serves = taken_serves l trace file serves place bytes some part_placed part_committed part_held
 
-  file_new : seen (file_of new file.number) ≡ written_over F place bytes
+  pub file_new : seen (file_of new file.number) ≡ written_over F place bytes
   file_new = ap seen (file_of-with_change file.number (Write place bytes) trace)
 
   parts_are : cleared_serves.parts ≡ serves.parts
@@ -74,7 +73,7 @@ module _ (l : Layer) (trace : Trace) (file : Placed) (serves : Serves l trace fi
   held_new : held l.tables.pending (written_over F place bytes) ≡ written_over H place bytes
   held_new = taken_held l trace file serves place bytes some part_placed part_committed part_held
 
-  held_len : length (held l.tables.pending (written_over F place bytes)) ≡ length H
+  pub held_len : length (held l.tables.pending (written_over F place bytes)) ≡ length H
   held_len = ap length held_new ∙ length_over H bytes place (let a = part_placed.within in omega (arith, a, held_as_long l trace file serves))
 
   back : (j : ℕ) (block : Area) → HoldsBlock (shape_of serves.parts) (held l.tables.pending (written_over F place bytes)) j block → HoldsBlock (shape_of serves.parts) H j block

@@ -1,31 +1,29 @@
 -- What a layer serves after a commit.
-use Rattle.std.proofs.Common.{◌≡◌, ℕ, ◌+◌, ◌*◌, ◌<◌, ◌≤◌, ◌⊎◌, Bool, true, false, All, List, [], ◌∷◌, length, map, get_or, refl, sym, ap, subst, ◌∙◌, arith, inl, inr}
+use Rattle.std.proofs.Common.{◌≡◌, ℕ, ◌+◌, ◌<◌, ◌≤◌, true, All, List, [], ◌∷◌, length, map, get_or, refl, sym, subst, ◌∙◌, arith, inr}
 use Rattle.std.specs.Prelude.{Ok}
 use Rattle.std.proofs.lemmas.List.Elements.{All-map}
 use Rattle.vx_base.specs.declared.parts.Header.{Header}
-use Rattle.vx_base.specs.declared.parts.Parts.{Parts}
 use Rattle.vhdx_format.specs.declared.log_entry.Page.{Page}
 use Rattle.vhdx_format.specs.Crashes.{IsOutside}
 use Rattle.vhdx_format.specs.FileParts.{read_parts, shape_of, taken_areas}
 use Rattle.vhdx_format.specs.HeldBlocks.{Area, HoldsBlock, IsSoundTable}
 use Rattle.vhdx_format.specs.Layers.{Shape, layer_sector}
 use Rattle.vhdx_format.specs.SettledFiles.{with_updates}
-use Rattle.store_model.specs.File.{File, seen}
+use Rattle.store_model.specs.File.{seen}
 use Rattle.store_model.specs.Trace.{Trace, file_of}
 use Rattle.table_pages.specs.Held.{AreTables, held}
 use Rattle.table_pages.proofs.Changing.{stand_after_commit, stand_beside_writes}
 use Rattle.table_pages.proofs.Laying.{part_same}
 use Rattle.table_pages.proofs.Words.{held_long}
 use Rattle.log_write.specs.Sessions.{IsRunning, LogState, nowhere}
-use Rattle.log_write.specs.Writing.{committed, with_pages}
+use Rattle.log_write.specs.Writing.{committed}
 use Rattle.log_write.specs.Writing.{HasCommitted as HasCommittedPages}
 use Rattle.block_alloc.specs.declared.freed.Freed.{Freed}
 use Rattle.block_alloc.specs.Spaces as spaces
 use Rattle.chain_model.specs.Images.{Placed, name_of}
-use Rattle.chain_model.specs.PhaseLaws.{loosened}
 use Rattle.layer_session.specs.declared.file.Layer.{Layer}
 use Rattle.layer_session.specs.Calls.{settled}
-use Rattle.layer_session.specs.Keeping.{AreBeside, Covers, HasSpace, IsCommitted, IsHeld, IsLayerOf, IsNobodys, IsPlaced, IsTablePlace, Serves, StandsAt, area_of}
+use Rattle.layer_session.specs.Keeping.{AreBeside, Covers, HasSpace, IsLayerOf, IsNobodys, IsPlaced, IsTablePlace, Serves, area_of}
 use Rattle.layer_session.proofs.Alike.{holds_alike, layer_alike, numbers_alike, places_alike, places_stay, sector_kept, sound_alike}
 use Rattle.layer_session.proofs.Apart.{beside_self}
 use Rattle.layer_session.proofs.Crashes.{IsSafe, safe_of}

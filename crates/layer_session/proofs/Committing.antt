@@ -1,5 +1,5 @@
 -- A commit.
-use Rattle.std.proofs.Common.{◌≡◌, ℕ, ◌+◌, ◌-◌, ◌^◌, ◌≤◌, ◌⊎◌, Bool, true, false, All, Option, Some, None, [], ◌∷◌, ◌*◌, ◌<◌, List, length, get_or, refl, sym, ap, subst, ◌∙◌, arith, inl, inr}
+use Rattle.std.proofs.Common.{◌≡◌, ℕ, ◌-◌, ◌^◌, ◌≤◌, ◌⊎◌, Bool, false, All, Option, Some, None, [], ◌∷◌, ◌*◌, ◌<◌, List, length, refl, sym, ap, subst, ◌∙◌, arith, inl, inr}
 use Rattle.vx_base.specs.declared.parts.Header.{Header}
 use Rattle.vx_base.specs.Fields.{zeros}
 use Rattle.vx_base.specs.declared.parts.Parts.{Parts}
@@ -7,7 +7,7 @@ use Rattle.table_pages.specs.Held.{HasTables}
 use Rattle.chain_model.specs.Layers as chain
 use Rattle.vhdx_format.specs.Fields.{megabyte}
 use Rattle.vhdx_format.specs.declared.log_entry.Page.{Page}
-use Rattle.store_model.specs.File.{File, IsFileImage, seen}
+use Rattle.store_model.specs.File.{seen}
 use Rattle.store_model.specs.Trace.{Trace, at_moment, file_of}
 use Rattle.table_pages.specs.Held.{held}
 use Rattle.table_pages.proofs.Words.{held_long}
@@ -146,12 +146,13 @@ read_of : (l : Layer) (u : Trace) → ((file : Placed) × Serves l u file) → (
 read_of l u (file, s) = (s.parts, (file.member.layer, subst (λ k. IsHeld l s.parts file.member.layer (seen (file_of u k))) s.number s.as_held))
 
 -- and, with what holds for every store, written
-pub ready_from : (l : Layer) (disk : Disk) → l.tables.parts.file < disk.files → HasTables l.tables.parts → l.log.file ≡ l.tables.parts.file → l.log.len ≤ l.space.next * megabyte → l.zeros.items ≡ zeros megabyte
+pub ready_from : (l : Layer) (disk : Disk) → l.tables.parts.file < disk.files → HasTables l.tables.parts → l.log.file ≡ l.tables.parts.file → l.log.len ≤ l.space.next * megabyte → l.space.next ≤ 2 ^ 44 → l.zeros.items ≡ zeros megabyte
     → length l.plans.items ≡ 257 → WhereTold disk.told (λ trace. (file : Placed) × Serves l trace file) → IsReady l disk
-ready_from l disk there sizes one_file next clear plans told = record {
+ready_from l disk there sizes one_file next most clear plans told = record {
   readable = record { there = there; sizes = sizes; told = λ u e. read_of l u (told u e) };
   one_file = one_file;
   next = next;
+  most = most;
   clear = clear;
   plans = plans;
   told = told;
@@ -182,7 +183,7 @@ pub commit_ready : (l : Layer) (old new : Disk) → IsReady l old → new ≡ re
     → IsReady (layer_behind l (committed l.log l.tables.pending)) new
 commit_ready l old new ready counts has =
     ready_from (layer_behind l (committed l.log l.tables.pending)) new (subst (λ n. l.tables.parts.file < n) (sym (ap (λ (d : Disk). d.files) counts)) ready.readable.there) ready.readable.sizes
-    (same_file l.log l.tables.pending ∙ ready.one_file) (subst (λ n. n ≤ l.space.next * megabyte) (sym (same_len l.log l.tables.pending)) ready.next) ready.clear ready.plans
+    (same_file l.log l.tables.pending ∙ ready.one_file) (subst (λ n. n ≤ l.space.next * megabyte) (sym (same_len l.log l.tables.pending)) ready.next) ready.most ready.clear ready.plans
     (served_on l (layer_behind l (committed l.log l.tables.pending)) old new ready.told has)
 
 -- where a store tells its content a commit is never left out
@@ -191,6 +192,7 @@ left_out l disk ready no_way = record {
   readable = record { there = ready.readable.there; sizes = ready.readable.sizes; told = λ t e. absurd (untold t e) };
   one_file = ready.one_file;
   next = ready.next;
+  most = ready.most;
   clear = ready.clear;
   plans = ready.plans;
   told = λ t e. absurd (untold t e);

@@ -1,17 +1,14 @@
 -- What a crash leaves of a file that a layer serves.
-use Rattle.std.proofs.Common.{◌≡◌, ℕ, ◌+◌, ◌*◌, ◌<◌, ◌≤◌, ◌⊎◌, Bool, true, false, List, [], length, get_or, Option, None, refl, sym, ap, subst, ◌∙◌, arith, inl, inr}
-use Rattle.std.specs.Prelude.{Ok}
+use Rattle.std.proofs.Common.{◌≡◌, ℕ, ◌*◌, ◌<◌, ◌≤◌, ◌⊎◌, Bool, true, false, List, [], length, get_or, None, refl, sym, subst, ◌∙◌, arith, inl, inr}
 use Rattle.vhdx_format.specs.SettledFiles.{with_updates}
-use Rattle.table_pages.specs.Held as tables
 use Rattle.table_pages.proofs.Laying.{min_len}
 use Rattle.std.proofs.lemmas.Bool.{cases_lt}
 use Rattle.std.proofs.lemmas.List.{get_or_past}
 use Rattle.vx_base.specs.declared.parts.Parts.{Parts}
-use Rattle.vhdx_format.specs.FileParts.{read_parts, shape_of, taken_areas}
-use Rattle.vhdx_format.specs.HeldBlocks.{IsSoundTable}
+use Rattle.vhdx_format.specs.FileParts.{shape_of}
 use Rattle.vhdx_format.specs.Layers.{Shape, layer_of, layer_sector}
 use Rattle.vhdx_format.proofs.LayerLemmas.{layer_by_sector}
-use Rattle.store_model.specs.File.{IsFileImage, seen}
+use Rattle.store_model.specs.File.{seen}
 use Rattle.store_model.specs.Trace.{Trace, file_of}
 use Rattle.chain_model.specs.Files.{layer_in, with_pages}
 use Rattle.chain_model.specs.Images.{Placed, Shows}
@@ -19,11 +16,10 @@ use Rattle.chain_model.specs.Layers as chain
 use Rattle.chain_model.specs.Members.{Ties, ties_of}
 use Rattle.vx_base.specs.declared.parts.Header.{Header}
 use Rattle.vhdx_format.specs.AllocationTables.{IsSectorSize, IsBlockSize, table_entries}
-use Rattle.chain_model.specs.Sessions.{IsKept as IsKeptFile}
-use Rattle.log_write.specs.Sessions.{IsKept, IsRunning, SettlesNear}
+use Rattle.log_write.specs.Sessions.{IsKept, SettlesNear}
 use Rattle.log_write.proofs.Commits.{running_stands}
 use Rattle.layer_session.specs.declared.file.Layer.{Layer}
-use Rattle.layer_session.specs.Keeping.{Covers, IsClean, IsCommitted, IsTablePlace, Serves, StandsAt}
+use Rattle.layer_session.specs.Keeping.{Covers, IsClean, IsCommitted, IsTablePlace, Serves}
 use Rattle.layer_session.specs.Laws.{LayersAreKept}
 use Rattle.layer_session.proofs.Alike.{AreSizes, layer_alike, numbers_alike, sector_kept, sound_alike}
 

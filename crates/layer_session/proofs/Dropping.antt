@@ -1,12 +1,11 @@
 -- A block of which a call names all sectors is dropped.
-use Rattle.std.proofs.Common.{◌≡◌, ◌≢◌, ℕ, zero, suc, ◌+◌, ◌-◌, ◌*◌, ◌/◌, ◌%◌, ◌^◌, ◌<◌, ◌≤◌, ◌⊎◌, ◌==◌, ◌&&◌, ◌||◌, Bool, true, false, All, List, [], ◌∷◌, ◌++◌, length, get_or, Some, refl, sym, ap, subst, ◌∙◌, arith, inl, inr, if◌then◌else◌}
+use Rattle.std.proofs.Common.{◌≡◌, ◌≢◌, ℕ, zero, suc, ◌+◌, ◌-◌, ◌*◌, ◌/◌, ◌%◌, ◌^◌, ◌<◌, ◌≤◌, ◌⊎◌, ◌==◌, Bool, true, false, All, List, [], ◌∷◌, ◌++◌, length, Some, refl, sym, ap, subst, ◌∙◌, arith, inl, inr, if◌then◌else◌}
 use Rattle.std.specs.Prelude.{nat_lt}
-use Rattle.std.proofs.lemmas.Bool.{and_parts, cases_Bool, cases_eq, cases_lt, eqb-true, leb-true, ltb-true, or_cases}
+use Rattle.std.proofs.lemmas.Bool.{and_parts, cases_Bool, cases_eq, cases_lt, eqb-true, leb-true, or_cases}
 use Rattle.std.proofs.Math.Nat.{add-mul, mul-div_cancel}
 use Rattle.std.proofs.lemmas.List.Elements.{All-append}
 use Rattle.vx_base.specs.Fields.{u64_bytes, written_over}
 use Rattle.std.proofs.lemmas.Nat.{div-add-mod', mod_below, pow-add}
-use Rattle.vx_base.specs.declared.parts.Parts.{Parts}
 use Rattle.vhdx_format.specs.AllocationTables.{IsBlockSize, state_of, unit_of}
 use Rattle.vhdx_format.specs.Fields.{megabyte}
 use Rattle.vhdx_format.specs.FileParts.{shape_of}
@@ -42,7 +41,7 @@ use Rattle.layer_session.proofs.Numbers.{are_numbers}
 use Rattle.layer_session.proofs.Payload.{within}
 
 -- a block has whole units
-whole_units : (block : ℕ) → IsBlockSize block → block / megabyte * megabyte ≡ block
+pub whole_units : (block : ℕ) → IsBlockSize block → block / megabyte * megabyte ≡ block
 whole_units block h =
     let b = block_power block h in
     let split : block ≡ 2 ^ b.power * megabyte = b.is ∙ ap (λ n. 2 ^ n) (let e : 20 + b.power ≡ b.power + 20 = omega arith in e) ∙ pow-add 2 b.power 20 in
@@ -180,6 +179,7 @@ ready_then l t space disk ready parts next serves = record {
   };
   one_file = ready.one_file ∙ ap (λ (p : TableParts). p.file) (sym parts);
   next = subst (λ n. l.log.len ≤ n * megabyte) (sym next) ready.next;
+  most = subst (λ n. n ≤ 2 ^ 44) (sym next) ready.most;
   clear = ready.clear;
   plans = ready.plans;
   told = λ trace told. let one = ready.told trace told in serves trace told one.0 one.1;
@@ -188,7 +188,7 @@ ready_then l t space disk ready parts next serves = record {
 -- ---- dropping
 
 module _ (l : Layer) (t : Tables) (disk : Disk) (first count index : ℕ) (some : 0 < count) (on_disk : first + count ≤ l.tables.parts.sectors)
-    (run : first * l.tables.parts.sector % l.tables.parts.block + count * l.tables.parts.sector ≤ l.tables.parts.block) (whole : is_whole (table_words.shape_of l.tables.parts) first count ≡ true)
+    (run : first * l.tables.parts.sector % l.tables.parts.block + count * l.tables.parts.sector ≤ l.tables.parts.block) (whole : WhereTold disk.told (λ trace. is_whole (table_words.shape_of l.tables.parts) first count ≡ true))
     (index_is : index ≡ entry_of (table_words.shape_of l.tables.parts) first) (inside : 8 * index + 8 ≤ l.tables.parts.bat_len) (parts_are : t.parts ≡ l.tables.parts)
     (set : IsSet index 2 l.tables t disk) (tables : AreTablesIn t disk) (keeps : KeepsWithin l.tables.parts.bat_at (l.tables.parts.bat_at + l.tables.parts.bat_len) l.tables t) where
   -- what is asked of the block's sectors, by another name of the same numbers
@@ -203,7 +203,7 @@ module _ (l : Layer) (t : Tables) (disk : Disk) (first count index : ℕ) (some 
     q = shape_of serves.parts
 
     named : IsNamed q
-    named = subst IsNamed serves.as_held.shape (record { below = on_disk; in_one = run; all = whole; at = index_is })
+    named = subst IsNamed serves.as_held.shape (record { below = on_disk; in_one = run; all = whole trace told; at = index_is })
 
     sized : HasSizes q
     sized = record { sector = (sizes l trace file serves).sector; block = (sizes l trace file serves).block }

@@ -1,21 +1,22 @@
 -- The end of a session.
-use Rattle.std.proofs.Common.{◌≡◌, ◌≢◌, ℕ, ◌+◌, ◌*◌, ◌<◌, ◌≤◌, ◌⊎◌, Bool, true, false, List, [], ◌∷◌, length, Option, Some, None, refl, sym, ap, subst, ◌∙◌, arith, inl, inr}
+use Rattle.std.proofs.Common.{◌≡◌, ℕ, ◌<◌, Bool, true, false, List, [], ◌∷◌, length, Option, Some, None, refl, sym, ap, subst, ◌∙◌, arith, inl, inr}
 use Rattle.std.specs.Prelude.{Err, Ok, OnOk, Result}
 use Rattle.vx_base.specs.declared.parts.Header.{Header}
 use Rattle.vx_base.specs.declared.parts.Parts.{Parts}
 use Rattle.vhdx_format.specs.Crashes.{IsOutside}
 use Rattle.vhdx_format.specs.FileParts.{shape_of, taken_areas}
 use Rattle.vhdx_format.specs.HeldBlocks.{Area, IsSoundTable}
-use Rattle.store_model.specs.Disk.{Disk, WhereBothTold, WhereTold}
+use Rattle.store_model.specs.Disk.{Disk, WhereBothTold}
 use Rattle.store_model.specs.File.{seen, is_synced}
 use Rattle.store_model.specs.declared.fault.StoreFault.{StoreFault}
 use Rattle.store_model.specs.Plans.{OnlyChanges}
-use Rattle.store_model.specs.Trace.{EachMoment, Trace, at_moment, file_of, moment}
+use Rattle.store_model.specs.Trace.{Trace, file_of, moment}
 use Rattle.store_model.proofs.Spans.{EachMoment-join, EachMoment-weaken, at_moment-now}
 use Rattle.table_pages.specs.Held.{held}
 use Rattle.torn_match.specs.TornMatches.{ChangesUntorn, EachUntorn}
 use Rattle.log_write.specs.Sessions.{IsKept as IsPlaceKept}
-use Rattle.log_write.specs.Sessions.{IsRunning, LogState, SettlesNear, nowhere}
+use Rattle.log_write.specs.Sessions.{IsRunning, SettlesNear, nowhere}
+use Rattle.log_write.specs.Running.{EndsBehind}
 use Rattle.log_write.specs.Writing.{EndsAlike, EndsAtEachMoment, ended_header}
 use Rattle.log_write.specs.Writing.{HasEnded as HasEndedLog}
 use Rattle.chain_model.specs.Images.{Placed, Shows, name_of}
@@ -144,11 +145,6 @@ module _ (l : Layer) (t : Trace) (file : Placed) (serves : Serves l t file) (emp
 
 -- ---- of stores
 
--- what the end of a log promises
-abbrev pub EndsLog : LogState → Disk → Disk → Type 0
-EndsLog log old new =
-    (tables : ℕ → Bool) (least : ℕ) (written : ℕ → Bool) → WhereBothTold (λ before after. IsRunning log tables least written (file_of before log.file) → HasEndedLog log.header (seen (file_of before log.file)) (file_of after log.file)) old.told new.told
-
 -- a commit, and then the end of the log
 module _ (l m : Layer) (old mid new : Disk) (quiet : WhereBothTold (KeepsOver l) old.told mid.told) (committed : WhereBothTold (HasCommitted l m) old.told mid.told)
     (one_file : m.log.file ≡ m.tables.parts.file) (empty : m.tables.pending ≡ []) (moments : EndsAtEachMoment m.log mid.told new.told) (only : WhereBothTold (OnlyChanges m.log.file) mid.told new.told) where
@@ -171,12 +167,11 @@ module _ (l m : Layer) (old mid new : Disk) (quiet : WhereBothTold (KeepsOver l)
       by_told (Some t) (Some u) None q k e o = absurd o
       by_told (Some t) (Some u) (Some v) q k e o = one_over t u v q k e o
 
-  pub both_ended : EndsLog m.log mid new → WhereBothTold (HasEnded l) old.told new.told
+  pub both_ended : EndsBehind m.log mid.told new.told → WhereBothTold (HasEnded l) old.told new.told
   both_ended ended = by_told old.told mid.told new.told committed moments only ended
     where
       by_told : (a b c : Option Trace) → WhereBothTold (HasCommitted l m) a b → EndsAtEachMoment m.log b c → WhereBothTold (OnlyChanges m.log.file) b c
-          → ((tables : ℕ → Bool) (least : ℕ) (written : ℕ → Bool) → WhereBothTold (λ before after. IsRunning m.log tables least written (file_of before m.log.file) → HasEndedLog m.log.header (seen (file_of before m.log.file)) (file_of after m.log.file)) b c)
-          → WhereBothTold (HasEnded l) a c
+          → EndsBehind m.log b c → WhereBothTold (HasEnded l) a c
       by_told None None None k e o x = tt
       by_told None None (Some v) k e o x = absurd o
       by_told None (Some u) c k e o x = absurd k
@@ -187,8 +182,6 @@ module _ (l m : Layer) (old mid new : Disk) (quiet : WhereBothTold (KeepsOver l)
         kept = λ file s. end_kept m u (settled file) (k.serves file s) empty v one_file e o;
       }
 
-  pub ended_by : (result : Result (Unit {0}) StoreFault)
-      → ((tables : ℕ → Bool) (least : ℕ) (written : ℕ → Bool) → OnOk result (WhereBothTold (λ before after. IsRunning m.log tables least written (file_of before m.log.file) → HasEndedLog m.log.header (seen (file_of before m.log.file)) (file_of after m.log.file)) mid.told new.told))
-      → OnOk result (WhereBothTold (HasEnded l) old.told new.told)
+  pub ended_by : (result : Result (Unit {0}) StoreFault) → OnOk result (EndsBehind m.log mid.told new.told) → OnOk result (WhereBothTold (HasEnded l) old.told new.told)
   ended_by (Ok x) ended = both_ended ended
   ended_by (Err fault) ended = tt

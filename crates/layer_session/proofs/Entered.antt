@@ -1,16 +1,14 @@
 -- What a layer serves with one entry of its table set.
-use Rattle.std.proofs.Common.{◌≡◌, ◌≢◌, ℕ, ◌+◌, ◌-◌, ◌*◌, ◌/◌, ◌%◌, ◌^◌, ◌<◌, ◌≤◌, ◌⊎◌, Bool, true, false, All, List, [], length, get_or, refl, sym, ap, subst, ◌∙◌, arith, inl, inr}
+use Rattle.std.proofs.Common.{◌≡◌, ◌≢◌, ℕ, ◌+◌, ◌*◌, ◌%◌, ◌^◌, ◌<◌, ◌≤◌, ◌⊎◌, Bool, true, false, List, [], length, sym, ap, subst, ◌∙◌, arith, inl, inr}
 use Rattle.std.specs.Prelude.{Ok}
 use Rattle.std.proofs.lemmas.Bool.{cases_eq}
 use Rattle.vx_base.specs.Fields.{u64_bytes, written_over}
-use Rattle.vx_base.specs.declared.parts.Parts.{Parts}
-use Rattle.vhdx_format.specs.declared.log_entry.Page.{Page}
 use Rattle.vhdx_format.specs.AllocationTables.{state_of, unit_of}
 use Rattle.vhdx_format.specs.Fields.{megabyte}
 use Rattle.vhdx_format.specs.FileParts.{read_parts, shape_of, taken_areas}
 use Rattle.vhdx_format.specs.HeldBlocks.{Area, HoldsBlock, IsBitmapEntry, IsSoundTable, bitmap}
-use Rattle.vhdx_format.specs.Layers.{Shape, layer_sector, place_at}
-use Rattle.store_model.specs.File.{File, seen}
+use Rattle.vhdx_format.specs.Layers.{Shape, place_at}
+use Rattle.store_model.specs.File.{seen}
 use Rattle.store_model.specs.Trace.{Trace, file_of}
 use Rattle.table_pages.specs.Held.{Adds, AreTables, KeepsWithin, entry_place, held}
 use Rattle.table_pages.specs.Held as table_words
@@ -23,16 +21,16 @@ use Rattle.vx_base.specs.declared.parts.Header.{Header}
 use Rattle.vhdx_format.specs.SettledFiles.{ring_of}
 use Rattle.log_format.specs.PendingPages.{has_place}
 use Rattle.log_write.specs.Sessions.{IsKept, IsRunning}
-use Rattle.log_write.specs.Writing.{CanCommit, IsOfTables}
+use Rattle.log_write.specs.Writing.{CanCommit}
 use Rattle.block_alloc.specs.Spaces.{Space}
 use Rattle.chain_model.specs.Images.{Placed}
 use Rattle.chain_model.specs.Layers as chain
 use Rattle.layer_session.specs.declared.file.Layer.{Layer}
 use Rattle.layer_session.specs.Calls.{placed_with}
-use Rattle.layer_session.specs.Keeping.{AreBeside, AreOfTables, Covers, HasSpace, IsClean, IsCommitted, IsHeld, IsLayerOf, IsTablePlace, Serves, bitmap as bitmap_place, entries, metadata, regions}
+use Rattle.layer_session.specs.Keeping.{AreBeside, AreOfTables, Covers, HasSpace, IsCommitted, IsHeld, IsLayerOf, IsTablePlace, Serves, bitmap as bitmap_place, entries, metadata, regions}
 use Rattle.layer_session.proofs.Alike.{AreSizes, block_kept}
 use Rattle.layer_session.proofs.Crashes.{IsSafe, safe_of}
-use Rattle.layer_session.proofs.Entries.{IsGoodEntry, apart_of, as_long, entry_here, table_low, holds_beside, places_before, places_still, set_file, set_numbers, set_sound}
+use Rattle.layer_session.proofs.Entries.{IsGoodEntry, apart_of, entry_here, table_low, holds_beside, places_before, places_still, set_file, set_numbers, set_sound}
 use Rattle.layer_session.proofs.Numbers.{AreNumbers, are_numbers}
 use Rattle.layer_session.proofs.Pages.{all_places, of_places}
 

@@ -1,6 +1,6 @@
 -- A file with one entry of its table set.
-use Rattle.std.proofs.Common.{◌≡◌, ◌≢◌, ℕ, ◌+◌, ◌-◌, ◌*◌, ◌/◌, ◌%◌, ◌^◌, ◌<◌, ◌≤◌, ◌⊎◌, ◌==◌, ◌&&◌, zero, suc, Bool, true, false, List, [], length, drop, get_or, Option, Some, None, refl, sym, ap, subst, ◌∙◌, arith, inl, inr}
-use Rattle.std.specs.Prelude.{Ok, IsTrue, nat_le, nat_lt}
+use Rattle.std.proofs.Common.{◌≡◌, ◌≢◌, ℕ, ◌+◌, ◌-◌, ◌*◌, ◌/◌, ◌%◌, ◌^◌, ◌<◌, ◌≤◌, ◌⊎◌, ◌&&◌, zero, suc, true, false, List, [], length, drop, get_or, Some, refl, sym, ap, subst, ◌∙◌, arith, inl, inr}
+use Rattle.std.specs.Prelude.{Ok, IsTrue, nat_lt}
 use Rattle.std.specs.List.{Any}
 use Rattle.std.specs.Int.{bit_at}
 use Rattle.std.proofs.lemmas.Bool.{and_parts, lt-ltb, ltb-true, cases_Bool, cases_eq, cases_lt, leb-true}
@@ -8,17 +8,17 @@ use Rattle.std.proofs.lemmas.List.{ext_get_or, get_or-drop}
 use Rattle.byteorder.specs.Numbers.{length-bytes_low_first, little_number-reads_back}
 use Rattle.vx_base.specs.Fields.{bytes_at, number_at, u64_at, u64_bytes, written_over}
 use Rattle.vx_base.specs.declared.parts.Parts.{Parts}
-use Rattle.vhdx_format.specs.AllocationTables.{bitmap_index_of, payload_index_of, state_of, table_entries, unit_of}
-use Rattle.vhdx_format.specs.Fields.{is_whole_megabytes, megabyte, overlaps}
+use Rattle.vhdx_format.specs.AllocationTables.{bitmap_index_of, state_of, table_entries, unit_of}
+use Rattle.vhdx_format.specs.Fields.{megabyte, overlaps}
 use Rattle.vhdx_format.specs.FileParts.{read_parts, shape_of, taken_areas}
 use Rattle.vhdx_format.specs.HeldBlocks.{Area, BlocksOverlap, HasBadPlace, HasBadState, HoldsBlock, IsBitmapEntry, IsPayloadEntry, IsSoundTable, LacksBitmap, Overlap, bitmap, payload}
 use Rattle.vhdx_format.specs.Layers.{Shape, bitmap_entry_of, block_count, chunk_ratio_of, entry_of, layer_sector, place_at, sector_bit, sector_by_state, state_at, stored_sector, table_entry}
 use Rattle.vhdx_format.specs.SectorBitmaps.{bit_of}
-use Rattle.vhdx_format.proofs.LayerLemmas.{by_state-full, div-div_ceil, entries_apart, entries_within, sector_entries}
-use Rattle.vhdx_format.proofs.SizeLemmas.{block_least, ratio_in_range}
+use Rattle.vhdx_format.proofs.LayerLemmas.{by_state-full, div-div_ceil, entries_within, sector_entries}
+use Rattle.vhdx_format.proofs.SizeLemmas.{ratio_in_range}
 use Rattle.table_pages.proofs.Laying.{length_over, over_in, over_out, part_byte, part_len}
-use Rattle.layer_session.specs.Keeping.{IsPlaced, IsTablePlace, StandsAt, bitmap as bitmap_place, entries, metadata, regions}
-use Rattle.layer_session.proofs.Alike.{AreSizes, IsInFile, bitmap_there, block_in_file, by_state_other, not_true, off_range}
+use Rattle.layer_session.specs.Keeping.{IsPlaced, IsTablePlace, bitmap as bitmap_place, entries, metadata, regions}
+use Rattle.layer_session.proofs.Alike.{AreSizes, bitmap_there, block_in_file, by_state_other, off_range}
 use Rattle.layer_session.proofs.Numbers.{are_numbers, part_alike, same_numbers}
 use Rattle.layer_file.proofs.Sectors.{in_block, read_back}
 

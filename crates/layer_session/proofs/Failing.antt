@@ -1,6 +1,5 @@
 -- What a layer holds after a commit that failed.
-use Rattle.std.proofs.Common.{◌≡◌, ℕ, zero, suc, ◌+◌, ◌-◌, ◌^◌, ◌%◌, ◌<◌, ◌≤◌, ◌⊎◌, Bool, true, false, All, List, [], ◌∷◌, length, map, get_or, Option, Some, None, refl, sym, ap, subst, ◌∙◌, arith, inl, inr}
-use Rattle.std.specs.Prelude.{Ok, Err, OnErr, Result}
+use Rattle.std.proofs.Common.{◌≡◌, ℕ, zero, suc, ◌+◌, ◌%◌, ◌<◌, ◌≤◌, ◌⊎◌, true, All, List, [], ◌∷◌, length, map, get_or, Option, Some, None, refl, sym, ap, subst, ◌∙◌, arith, inl, inr}
 use Rattle.std.proofs.lemmas.Bool.{cases_lt}
 use Rattle.vx_base.specs.Fields.{bytes_at}
 use Rattle.vx_base.specs.declared.parts.Header.{Header}
@@ -8,7 +7,7 @@ use Rattle.vx_base.specs.declared.parts.Parts.{Parts}
 use Rattle.vhdx_format.specs.Crashes.{IsOutside}
 use Rattle.vhdx_format.specs.FileParts.{shape_of}
 use Rattle.vhdx_format.specs.Layers.{Shape}
-use Rattle.vhdx_format.specs.SettledFiles.{AnyNames, with_updates}
+use Rattle.vhdx_format.specs.SettledFiles.{AnyNames}
 use Rattle.vhdx_format.specs.WrittenEntries.{page_update}
 use Rattle.vhdx_format.specs.declared.log_entry.Page.{Page}
 use Rattle.vhdx_format.proofs.SettledBytes.{updated_same}
@@ -21,12 +20,12 @@ use Rattle.table_pages.specs.Held.{IsPageIn, held}
 use Rattle.table_pages.specs.Pages.{is_kept}
 use Rattle.table_pages.proofs.Changing.{stand_beside_writes}
 use Rattle.table_pages.proofs.Laying.{held_len, held_unchanged_any, part_same}
-use Rattle.log_write.specs.Sessions.{IsKept, LogState}
+use Rattle.log_write.specs.Sessions.{LogState}
 use Rattle.log_write.specs.Writing.{KeepsBeside}
 use Rattle.chain_model.specs.Images.{Placed}
 use Rattle.chain_model.specs.Layers as chain
 use Rattle.layer_session.specs.declared.file.Layer.{Layer}
-use Rattle.layer_session.specs.Calls.{HoldsRest, is_among}
+use Rattle.layer_session.specs.Calls.{HoldsRest}
 use Rattle.layer_session.specs.Keeping.{IsHeld, IsReadable, IsReady, IsTablePlace, Serves, StandsAt}
 use Rattle.layer_session.proofs.Alike.{layer_alike, numbers_alike, places_stay, sector_kept, sound_alike}
 use Rattle.layer_session.proofs.Crashes.{IsSafe, safe_of}

@@ -1,14 +1,11 @@
 -- What a layer serves after a change of the file that no sector sees: the file grew, or a place that is nobody's was written.
 use Rattle.std.proofs.Common.{◌≡◌, ℕ, ◌+◌, ◌*◌, ◌^◌, ◌<◌, ◌≤◌, ◌⊎◌, Bool, true, false, All, List, length, map, get_or, refl, sym, ap, subst, ◌∙◌, arith, inl, inr}
-use Rattle.std.specs.Prelude.{Ok}
-use Rattle.vx_base.specs.Fields.{bytes_at, extended, written_over}
-use Rattle.vx_base.specs.declared.parts.Parts.{Parts}
-use Rattle.vhdx_format.specs.declared.log_entry.Page.{Page}
+use Rattle.vx_base.specs.Fields.{extended, written_over}
 use Rattle.vhdx_format.specs.Fields.{megabyte}
-use Rattle.vhdx_format.specs.FileParts.{read_parts, shape_of, taken_areas}
-use Rattle.vhdx_format.specs.HeldBlocks.{Area, HoldsBlock, IsSoundTable, bitmap}
-use Rattle.vhdx_format.specs.Layers.{Shape, layer_sector, place_at}
-use Rattle.vhdx_format.specs.SettledFiles.{byte_after, with_updates}
+use Rattle.vhdx_format.specs.FileParts.{shape_of}
+use Rattle.vhdx_format.specs.HeldBlocks.{Area, HoldsBlock, bitmap}
+use Rattle.vhdx_format.specs.Layers.{Shape, place_at}
+use Rattle.vhdx_format.specs.SettledFiles.{byte_after}
 use Rattle.vhdx_format.specs.WrittenEntries.{page_update}
 use Rattle.vhdx_format.proofs.SettledBytes.{get_or-extended, get_or-with_updates, length-extended}
 use Rattle.std.proofs.lemmas.Bool.{cases_lt}
@@ -19,7 +16,6 @@ use Rattle.store_model.specs.File.{File, Grow, Write, seen, with_op}
 use Rattle.store_model.specs.Trace.{Trace, file_of, with_change}
 use Rattle.store_model.proofs.Spans.{file_of-with_change}
 use Rattle.table_pages.specs.Held.{AreTables, held}
-use Rattle.table_pages.specs.Pages.{is_kept}
 use Rattle.table_pages.proofs.Changing.{held_beside_writes, stand_beside_writes}
 use Rattle.table_pages.proofs.Laying.{length_over, over_out, part_same}
 use Rattle.table_pages.proofs.Words.{held_long}
@@ -30,7 +26,7 @@ use Rattle.block_alloc.specs.declared.freed.Freed.{Freed}
 use Rattle.block_alloc.specs.Spaces.{Space}
 use Rattle.chain_model.specs.Images.{Placed, name_of}
 use Rattle.layer_session.specs.declared.file.Layer.{Layer}
-use Rattle.layer_session.specs.Keeping.{AreBeside, Covers, HasSpace, IsClean, IsCommitted, IsHeld, IsLayerOf, IsNobodys, IsPlaced, IsTablePlace, Serves, StandsAt, area_of, bitmap as bitmap_place, entries, metadata, regions}
+use Rattle.layer_session.specs.Keeping.{Covers, HasSpace, IsClean, IsCommitted, IsNobodys, IsPlaced, IsTablePlace, Serves, StandsAt, area_of, bitmap as bitmap_place, entries, metadata, regions}
 use Rattle.layer_session.proofs.Alike.{block_in_file, holds_alike, layer_alike, numbers_alike, places_alike, places_stay, sound_alike}
 use Rattle.layer_session.proofs.Allocating.{may_take, more, off_tables, safe_grown, safe_taken}
 use Rattle.layer_file.proofs.Sectors.{in_block}
@@ -147,7 +143,7 @@ module _ (l : Layer) (trace : Trace) (file : Placed) (serves : Serves l trace fi
   abbrev old : List ℕ
   old = seen (file_of trace file.number)
 
-  table_within : (i : ℕ) → IsTablePlace serves.parts (held l.tables.pending old) i → i < length old
+  pub table_within : (i : ℕ) → IsTablePlace serves.parts (held l.tables.pending old) i → i < length old
   table_within i t = by_kind t
     where
       sf : IsSafe serves.parts serves.tables serves.written file.is_loose file.member.layer serves.bytes old

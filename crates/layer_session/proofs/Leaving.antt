@@ -1,5 +1,5 @@
 -- A block leaves its place and becomes zeros.
-use Rattle.std.proofs.Common.{◌≡◌, ◌≢◌, ℕ, ◌+◌, ◌*◌, ◌^◌, ◌<◌, ◌≤◌, ◌⊎◌, ◌||◌, Bool, true, false, All, List, length, get_or, Some, None, refl, sym, ap, subst, ◌∙◌, arith, inl, inr}
+use Rattle.std.proofs.Common.{◌≡◌, ◌≢◌, ℕ, ◌+◌, ◌*◌, ◌^◌, ◌<◌, ◌≤◌, ◌⊎◌, ◌||◌, Bool, true, false, List, get_or, Some, None, refl, sym, ap, subst, ◌∙◌, arith, inl, inr}
 use Rattle.std.proofs.lemmas.Bool.{cases_Bool, cases_eq}
 use Rattle.vx_base.specs.Fields.{zeros}
 use Rattle.vhdx_format.specs.AllocationTables.{state_of}
@@ -12,13 +12,12 @@ use Rattle.store_model.specs.File.{seen}
 use Rattle.store_model.specs.Trace.{Trace, file_of}
 use Rattle.table_pages.specs.Held.{held}
 use Rattle.table_pages.specs.declared.tables.Tables.{Tables}
-use Rattle.block_alloc.specs.declared.freed.Freed.{Freed}
 use Rattle.block_alloc.specs.Spaces.{Space}
 use Rattle.chain_model.specs.Images.{Placed}
 use Rattle.chain_model.specs.Layers as chain
 use Rattle.layer_session.specs.declared.file.Layer.{Layer}
 use Rattle.layer_session.specs.Calls.{is_among, loose_or_named, placed_with, with_zeros}
-use Rattle.layer_session.specs.Keeping.{HasSpace, IsNobodys, IsPlaced, Serves, area_of}
+use Rattle.layer_session.specs.Keeping.{HasSpace, IsNobodys, Serves, area_of}
 use Rattle.layer_session.proofs.Entered.{EntersInto, Enters, entered_held, entered_serves, layer_by, long, sizes}
 use Rattle.layer_session.proofs.Entries.{IsGoodEntry, entry_here, holds_beside, layer_beside, set_file}
 

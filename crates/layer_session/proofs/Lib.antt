@@ -31,11 +31,43 @@ pub mod Marking
 mod Marked
 pub mod Dropping
 mod Rooms
+mod Dropped
 mod Behind
 mod Reused
 mod Cleared
+mod SameEntries
+mod Told
+mod Going
+mod Taken
+mod Setting
+mod Resting
+mod Made
+mod Marks
+mod Parting
+mod Readying
+mod Joining
+mod WriteEnds
+mod Running
+mod Zeroing
+mod Frames
+mod Calling
+mod Clearing
 pub mod Owned
 pub mod Parted
 pub mod Readable
 pub mod Tests
+pub mod ReadOnly
 pub mod Beginning
+pub mod BitRuns
+pub mod Brought
+pub mod BroughtServed
+pub mod Leading
+pub mod Says
+pub mod Fitted
+pub mod Making
+pub mod Tally
+pub mod Wanting
+pub mod Finished
+pub mod AtHand
+pub mod CallPrepared
+pub mod BothChunks

@@ -1,8 +1,8 @@
 -- What the blocks of a call want together: one block before the rest.
-use Rattle.std.proofs.Common.{◌≡◌, ◌≢◌, ℕ, ◌+◌, ◌-◌, ◌*◌, ◌/◌, ◌%◌, ◌^◌, ◌<◌, ◌≤◌, ◌⊎◌, ◌==◌, ◌&&◌, ◌||◌, Bool, true, false, cond, List, ◌∷◌, refl, sym, ap, subst, ◌∙◌, arith, inl, inr, eq-eqb, if◌then◌else◌}
+use Rattle.std.proofs.Common.{◌≡◌, ◌≢◌, ℕ, ◌+◌, ◌-◌, ◌*◌, ◌/◌, ◌%◌, ◌^◌, ◌<◌, ◌≤◌, ◌⊎◌, ◌==◌, ◌&&◌, ◌||◌, Bool, true, false, cond, List, refl, sym, ap, subst, ◌∙◌, arith, inl, inr, eq-eqb, if◌then◌else◌}
 use Rattle.std.specs.Prelude.{Some, None, Option, count_by, not, max, min, slice_get}
 use Rattle.std.specs.List.{list_any, range_with_len}
-use Rattle.std.proofs.lemmas.Bool.{cases_Bool, cases_eq, cases_lt, eqb-true, ne_eqb}
+use Rattle.std.proofs.lemmas.Bool.{cases_Bool, cases_eq, cases_lt, ne_eqb}
 use Rattle.std.proofs.lemmas.Nat.{div-add-mod', mod_below}
 use Rattle.std.proofs.Math.Nat.{add-mul, mul-le-mul_right}
 use Rattle.vhdx_format.specs.AllocationTables.{bitmap_index_of, state_of}
@@ -10,7 +10,7 @@ use Rattle.vhdx_format.specs.Layers.{HasSizes, Shape, bitmap_entry_of, block_cou
 use Rattle.vhdx_format.proofs.LayerLemmas.{div-div_ceil, same_chunk}
 use Rattle.vhdx_format.proofs.SizeLemmas.{block_least, ratio_in_range, sector_least}
 use Rattle.layer_session.specs.Blocks.{blocks_of, run_in_block}
-use Rattle.layer_session.specs.Planning.{AreCounted, EachRun, IsFirst, IsLooked, IsPlanned, blocks_with, changes_tables, is_changing, is_chunk, is_chunk_wanted, is_making, is_marking, is_part, before as counted, more, none, step_at, step_of, wanted_bitmaps, wanted_blocks, wants_bitmap, with_plan}
+use Rattle.layer_session.specs.Planning.{AreCounted, IsFirst, IsLooked, IsPlanned, blocks_with, changes_tables, is_changing, is_chunk, is_chunk_wanted, is_making, is_marking, is_part, before as counted, more, none, step_at, step_of, wanted_bitmaps, wanted_blocks, wants_bitmap, with_plan}
 use Rattle.layer_session.specs.declared.planning.Plan.{Plan}
 use Rattle.layer_session.specs.declared.planning.Wanted.{Wanted}
 use Rattle.layer_session.specs.declared.planning.Step.{Step}

@@ -1,14 +1,10 @@
 -- What a layer serves with bits of a sector bitmap block set or cleared.
-use Rattle.std.proofs.Common.{◌≡◌, ◌≢◌, ℕ, ◌+◌, ◌-◌, ◌*◌, ◌/◌, ◌%◌, ◌^◌, ◌<◌, ◌≤◌, ◌⊎◌, Bool, true, false, All, List, [], length, get_or, Some, None, refl, sym, ap, subst, ◌∙◌, arith, inl, inr}
-use Rattle.std.specs.Prelude.{Ok}
-use Rattle.std.proofs.lemmas.Bool.{cases_Bool, cases_eq}
+use Rattle.std.proofs.Common.{◌≡◌, ℕ, ◌+◌, ◌*◌, ◌%◌, ◌^◌, ◌<◌, ◌≤◌, ◌⊎◌, Bool, true, false, List, [], length, sym, ap, subst, ◌∙◌, arith, inl, inr}
 use Rattle.vx_base.specs.declared.parts.Header.{Header}
-use Rattle.vhdx_format.specs.declared.log_entry.Page.{Page}
-use Rattle.vhdx_format.specs.AllocationTables.{state_of, unit_of}
 use Rattle.vhdx_format.specs.Fields.{megabyte}
-use Rattle.vhdx_format.specs.FileParts.{read_parts, shape_of, taken_areas}
-use Rattle.vhdx_format.specs.HeldBlocks.{Area, HoldsBlock, IsBitmapEntry, IsSoundTable, bitmap}
-use Rattle.vhdx_format.specs.Layers.{Shape, entry_of, layer_sector, place_at, sector_bit, state_at, table_entry}
+use Rattle.vhdx_format.specs.FileParts.{shape_of}
+use Rattle.vhdx_format.specs.HeldBlocks.{Area, HoldsBlock, IsBitmapEntry, bitmap}
+use Rattle.vhdx_format.specs.Layers.{Shape, place_at, state_at, table_entry}
 use Rattle.store_model.specs.File.{seen}
 use Rattle.store_model.specs.Trace.{Trace, file_of}
 use Rattle.table_pages.specs.Held.{AreTables, KeepsWithin, PutsWithin, SetsBits, held}
@@ -17,13 +13,12 @@ use Rattle.table_pages.specs.Pages.{is_kept}
 use Rattle.table_pages.specs.declared.tables.TableParts.{TableParts}
 use Rattle.table_pages.specs.declared.tables.Tables.{Tables}
 use Rattle.log_format.specs.PendingPages.{has_place}
-use Rattle.log_write.specs.Writing.{CanCommit, IsOfTables}
-use Rattle.block_alloc.specs.declared.freed.Freed.{Freed}
+use Rattle.log_write.specs.Writing.{CanCommit}
 use Rattle.chain_model.specs.Images.{Placed}
 use Rattle.chain_model.specs.Layers as chain
 use Rattle.layer_session.specs.declared.file.Layer.{Layer}
 use Rattle.layer_session.specs.Calls.{placed_with}
-use Rattle.layer_session.specs.Keeping.{AreBeside, AreOfTables, Covers, HasSpace, IsHeld, IsLayerOf, IsNobodys, IsTablePlace, Serves, area_of, bitmap as bitmap_place}
+use Rattle.layer_session.specs.Keeping.{HasSpace, IsHeld, IsLayerOf, IsTablePlace, Serves, bitmap as bitmap_place}
 use Rattle.layer_session.proofs.Alike.{IsInFile, block_in_file}
 use Rattle.layer_session.proofs.Entered.{held_as_long, layer_by, long, short_ring, sizes}
 use Rattle.layer_session.proofs.Entries.{apart_of}

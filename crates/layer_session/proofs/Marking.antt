@@ -1,11 +1,10 @@
 -- Bits of a sector bitmap block are set or cleared.
-use Rattle.std.proofs.Common.{◌≡◌, ◌≢◌, ℕ, ◌+◌, ◌-◌, ◌*◌, ◌/◌, ◌%◌, ◌^◌, ◌<◌, ◌≤◌, ◌⊎◌, ◌==◌, Bool, true, false, All, List, [], drop, length, get_or, Option, Some, None, refl, sym, ap, subst, ◌∙◌, arith, inl, inr, if◌then◌else◌}
+use Rattle.std.proofs.Common.{◌≡◌, ◌≢◌, ℕ, ◌+◌, ◌*◌, ◌/◌, ◌%◌, ◌^◌, ◌<◌, ◌≤◌, ◌⊎◌, Bool, true, false, List, drop, length, get_or, Some, sym, ap, ◌∙◌, arith, inl, inr, if◌then◌else◌}
 use Rattle.std.specs.Prelude.{Ok}
 use Rattle.std.specs.Int.{bit_at}
-use Rattle.std.proofs.lemmas.Bool.{cases_Bool, cases_eq, cases_lt}
+use Rattle.std.proofs.lemmas.Bool.{cases_eq, cases_lt}
 use Rattle.std.proofs.lemmas.List.{get_or-drop}
 use Rattle.vx_base.specs.Fields.{bytes_at, u64_at}
-use Rattle.vx_base.specs.declared.parts.Header.{Header}
 use Rattle.vx_base.specs.declared.parts.Parts.{Parts}
 use Rattle.vhdx_format.specs.AllocationTables.{state_of, unit_of}
 use Rattle.vhdx_format.specs.Fields.{megabyte, overlaps}
@@ -16,12 +15,10 @@ use Rattle.vhdx_format.specs.SectorBitmaps.{bit_of, bit_value, is_within}
 use Rattle.vhdx_format.proofs.LayerLemmas.{by_state-full, entries_apart, sector_entries}
 use Rattle.vhdx_format.proofs.SizeLemmas.{ratio_in_range}
 use Rattle.table_pages.specs.Held.{SetsBits}
-use Rattle.table_pages.proofs.Laying.{part_byte, part_len}
-use Rattle.layer_session.specs.Keeping.{IsTablePlace, StandsAt, bitmap as bitmap_place, entries, metadata, regions}
-use Rattle.layer_session.proofs.Alike.{AreSizes, IsInFile, bitmap_there, block_in_file, by_state_other, off_range}
+use Rattle.layer_session.proofs.Alike.{AreSizes, IsInFile, block_in_file, by_state_other, off_range}
 use Rattle.layer_session.proofs.Apart.{beside_self}
 use Rattle.layer_session.proofs.Numbers.{are_numbers, part_alike, same_numbers}
-use Rattle.layer_session.proofs.SameTables.{bitmap_same, payload_same, sound_same}
+use Rattle.layer_session.proofs.SameTables.{bitmap_same, payload_same}
 use Rattle.layer_file.proofs.Sectors.{in_block, read_back}
 
 module _ (parts : Parts) (sizes : AreSizes parts) (old new : List ℕ) (numbers : read_parts parts.header old ≡ Ok parts) (sound : IsSoundTable (shape_of parts) (taken_areas parts) old) (long : 327680 ≤ length old)

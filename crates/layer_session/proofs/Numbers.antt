@@ -1,6 +1,6 @@
 -- The numbers of a file, read from a longer one that has the same tables.
-use Rattle.std.proofs.Common.{◌≡◌, ℕ, ◌+◌, ◌<◌, ◌≤◌, ◌⊎◌, ◌&&◌, ◌||◌, Bool, true, false, not, List, length, get_or, Option, Some, None, refl, sym, ap, subst, ◌∙◌, arith, inl, inr, if◌then◌else◌}
-use Rattle.std.specs.Prelude.{Result, Ok, Err, nat_lt, nat_le}
+use Rattle.std.proofs.Common.{◌≡◌, ℕ, ◌+◌, ◌<◌, ◌≤◌, ◌&&◌, ◌||◌, Bool, true, false, not, List, length, get_or, Option, Some, None, refl, sym, ap, subst, ◌∙◌, arith, if◌then◌else◌}
+use Rattle.std.specs.Prelude.{Result, Ok, Err, nat_lt}
 use Rattle.std.specs.List.{find}
 use Rattle.std.specs.Option.{ok_or}
 use Rattle.std.proofs.lemmas.Bool.{or_from, le-leb, leb-true, not_from_true}
@@ -9,9 +9,8 @@ use Rattle.vx_base.specs.Fields.{bytes_at}
 use Rattle.vx_base.specs.declared.parts.Header.{Header}
 use Rattle.vx_base.specs.declared.parts.Parts.{Parts}
 use Rattle.vhdx_format.specs.declared.regions.Regions.{Regions}
-use Rattle.vhdx_format.specs.declared.regions.Region.{Region}
 use Rattle.vhdx_format.specs.declared.regions.Region.TheVariants.{Bat, Metadata}
-use Rattle.vhdx_format.specs.Fields.{is_whole_megabytes, is_within, overlaps, megabyte}
+use Rattle.vhdx_format.specs.Fields.{is_whole_megabytes, overlaps}
 use Rattle.vhdx_format.specs.FileParts.{read_parts, parts_of}
 use Rattle.vhdx_format.specs.MetadataTables.{metadata_region, read_metadata, served_sectors}
 use Rattle.vhdx_format.specs.RegionTables.{is_of, is_misplaced, is_unknown_required, misplaced_region, regions_in, read_regions, region_entries, region_table}

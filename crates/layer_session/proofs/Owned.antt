@@ -1,16 +1,18 @@
 -- Which sectors a layer owns, found run by run.
-use Rattle.std.proofs.Common.{◌≡◌, ◌≢◌, ℕ, ◌+◌, ◌-◌, ◌*◌, ◌^◌, ◌<◌, ◌≤◌, ◌⊎◌, ◌++◌, ◌==◌, Bool, true, false, if◌then◌else◌, List, [], length, Option, Some, None, refl, sym, ap, subst, ◌∙◌, arith, inl, inr}
-use Rattle.std.specs.Prelude.{min}
+use Rattle.std.proofs.Common.{◌≡◌, ℕ, ◌+◌, ◌-◌, ◌*◌, ◌^◌, ◌<◌, ◌≤◌, ◌⊎◌, ◌++◌, ◌==◌, Bool, true, false, if◌then◌else◌, List, length, Option, Some, None, refl, sym, ap, subst, ◌∙◌, arith, inl, inr}
+use Rattle.std.specs.Option.{option_or}
+use Rattle.std.specs.Prelude.{min, unwrap_or}
 use Rattle.std.proofs.lemmas.Bool.{cases_lt}
 use Rattle.std.proofs.lemmas.List.{length-append}
 use Rattle.std.proofs.Math.Nat.{mul-add}
 use Rattle.vx_base.specs.Fields.{bytes_at}
-use Rattle.vhdx_format.specs.SectorBitmaps.{HasRunSet, bit_of, bit_value, is_within}
+use Rattle.vhdx_format.specs.SectorBitmaps.{HasRunSet, bit_of, bit_value}
 use Rattle.vhdx_format.proofs.Placed.{bytes_past, bytes_within}
 use Rattle.sector_bits.proofs.BitLemmas.{is_within-above, is_within-below, is_within-true}
 use Rattle.layer_file.proofs.Runs.{bytes_in, length_at}
 use Rattle.chain_model.specs.Layers as chain
 use Rattle.layer_session.specs.Calls.{AddsOwned, HasOwned}
+use Rattle.layer_session.specs.Laws.{LayersAreAdded, NoneFound, told_sector}
 use Rattle.layer_session.specs.Reading.{marked_layer, run_layer}
 
 -- a sector of a run ends in it
@@ -230,6 +232,17 @@ adds_owned l z first count at m n a b none h = record {
   len = h.len;
 }
 
+-- of a layer that is the same there
+pub adds_alike : (l k : chain.Layer) (z first count at : ℕ) (m n a b : List ℕ) → ((i : ℕ) → i < count → l (first + i) ≡ k (first + i)) → AddsOwned k z first count at m n a b → AddsOwned l z first count at m n a b
+adds_alike l k z first count at m n a b same h = record {
+  found = h.found;
+  owned = λ i bytes below e o. h.owned i bytes below e (sym (same i below) ∙ o);
+  others = λ i below e o. h.others i below e (sym (same i below) ∙ o);
+  rest = h.rest;
+  mask_len = h.mask_len;
+  len = h.len;
+}
+
 pub adds_none : (l : chain.Layer) (z first at : ℕ) (m a : List ℕ) → AddsOwned l z first 0 at m m a a
 adds_none l z first at m a = adds_found l z first 0 at m a (λ i h k. absurd (omega (arith, h, k)))
 
@@ -294,3 +307,61 @@ adds_rest l z first n count at m0 m1 m2 out a a' b b' few out_is long inside one
     let all : n + (count - n) ≡ count = omega (arith, few) in
     subst (λ (x : List ℕ). AddsOwned l z first count at m0 m2 x (a' ++ b')) (sym out_is)
     (subst (λ c. AddsOwned l z first c at m0 m2 (a ++ b) (a' ++ b')) all (adds_joined l z first n (count - n) at m0 m1 m2 a a' b b' long (omega (arith, inside, few)) one two))
+
+-- ---- one layer on top of another
+
+-- what the upper layer added to what was found, and then the lower one
+module _ (upper lower : chain.Layer) (z first count at : ℕ) (m0 m1 m2 a b c : List ℕ) (one : AddsOwned upper z first count at m0 m1 a b) (two : AddsOwned lower z first count at m1 m2 b c) where
+  of_upper : (i : ℕ) (bytes : List ℕ) → upper (first + i) ≡ Some bytes → chain.over upper lower (first + i) ≡ Some bytes
+  of_upper i bytes e = ap (λ o. option_or o (lower (first + i))) e
+
+  of_lower : (i : ℕ) → upper (first + i) ≡ None → chain.over upper lower (first + i) ≡ lower (first + i)
+  of_lower i e = ap (λ o. option_or o (lower (first + i))) e
+
+  owned_over : (i : ℕ) (bytes : List ℕ) → i < count → bit_of m0 (at + i) ≡ 0 → chain.over upper lower (first + i) ≡ Some bytes → (o : Option (List ℕ)) → upper (first + i) ≡ o → (bit_of m2 (at + i) ≡ 1) × (bytes_at c (z * i) z ≡ bytes)
+  owned_over i bytes below e s (Some x) u =
+      let h = one.owned i x below e u in
+      let k = two.found i below h.0 in
+      (k.0, k.1 ∙ h.1 ∙ some_same x bytes (sym (of_upper i x u) ∙ s))
+  owned_over i bytes below e s None u = two.owned i bytes below (one.others i below e u).0 (sym (of_lower i u) ∙ s)
+
+  others_over : (i : ℕ) → i < count → bit_of m0 (at + i) ≡ 0 → chain.over upper lower (first + i) ≡ None → (o : Option (List ℕ)) → upper (first + i) ≡ o → (bit_of m2 (at + i) ≡ 0) × (bytes_at c (z * i) z ≡ bytes_at a (z * i) z)
+  others_over i below e s (Some x) u = absurd (let f = sym (of_upper i x u) ∙ s in cc)
+  others_over i below e s None u =
+      let h = one.others i below e u in
+      let k = two.others i below h.0 (sym (of_lower i u) ∙ s) in
+      (k.0, k.1 ∙ h.1)
+
+  pub adds_over : AddsOwned (chain.over upper lower) z first count at m0 m2 a c
+  adds_over = record {
+    found = λ i below e. let h = one.found i below e in let k = two.found i below h.0 in (k.0, k.1 ∙ h.1);
+    owned = λ i bytes below e s. owned_over i bytes below e s (upper (first + i)) refl;
+    others = λ i below e s. others_over i below e s (upper (first + i)) refl;
+    rest = λ k d o. two.rest k (let e = one.mask_len in omega (arith, d, e)) o ∙ one.rest k d o;
+    mask_len = two.mask_len ∙ one.mask_len;
+    len = two.len ∙ one.len;
+  }
+
+-- ---- where none of the sectors was found
+
+module _ (l : chain.Layer) (z first count at : ℕ) (m n a b : List ℕ) (none : NoneFound count at m) (h : AddsOwned l z first count at m n a b) (i : ℕ) (below : i < count) where
+  told_by : (o : Option (List ℕ)) → l (first + i) ≡ o → o ≡ told_sector z at n b i
+  told_by (Some x) e = let k = h.owned i x below (none i below) e in sym (ap (λ v. if v == 1 then Some (bytes_at b (z * i) z) else None) k.0 ∙ ap Some k.1)
+  told_by None e = let k = h.others i below (none i below) e in sym (ap (λ v. if v == 1 then Some (bytes_at b (z * i) z) else None) k.0)
+
+  pub adds_tell : l (first + i) ≡ told_sector z at n b i
+  adds_tell = told_by (l (first + i)) refl
+
+  bytes_by : (o : Option (List ℕ)) → l (first + i) ≡ o → bytes_at b (z * i) z ≡ unwrap_or o (bytes_at a (z * i) z)
+  bytes_by (Some x) e = (h.owned i x below (none i below) e).1
+  bytes_by None e = (h.others i below (none i below) e).1
+
+  pub adds_bytes : bytes_at b (z * i) z ≡ unwrap_or (l (first + i)) (bytes_at a (z * i) z)
+  adds_bytes = bytes_by (l (first + i)) refl
+
+pub layers_are_added : LayersAreAdded
+layers_are_added = record {
+  over = λ upper lower z first count at m0 m1 m2 a b c one two. adds_over upper lower z first count at m0 m1 m2 a b c one two;
+  tells = λ l z first count at m n a b none h i below. adds_tell l z first count at m n a b none h i below;
+  bytes = λ l z first count at m n a b none h i below. adds_bytes l z first count at m n a b none h i below;
+}

@@ -1,13 +1,12 @@
 -- Sectors of one block, by the tables that were read.
-use Rattle.std.proofs.Common.{◌≡◌, ◌≢◌, ℕ, ◌+◌, ◌-◌, ◌*◌, ◌/◌, ◌%◌, ◌^◌, ◌<◌, ◌≤◌, ◌⊎◌, ◌==◌, Bool, true, false, if◌then◌else◌, List, length, Option, Some, None, refl, sym, ap, subst, ◌∙◌, arith, inl, inr}
+use Rattle.std.proofs.Common.{◌≡◌, ◌≢◌, ℕ, ◌+◌, ◌-◌, ◌*◌, ◌%◌, ◌^◌, ◌<◌, ◌≤◌, ◌⊎◌, ◌==◌, true, false, if◌then◌else◌, List, ◌++◌, length, Some, None, sym, ap, subst, ◌∙◌, arith, inl, inr}
 use Rattle.std.specs.Prelude.{min, Result, Ok, Err, OnOk}
 use Rattle.std.proofs.Math.Nat.{add-mul, mul_comm}
-use Rattle.std.proofs.lemmas.Bool.{cases_Bool, cases_eq}
+use Rattle.std.proofs.lemmas.Bool.{cases_eq}
 use Rattle.vx_base.specs.Fields.{bytes_at, zeros}
 use Rattle.vhdx_format.specs.AllocationTables.{payload_index_of}
-use Rattle.vhdx_format.specs.Fields.{megabyte}
 use Rattle.vhdx_format.specs.HeldBlocks.{HasGoodStates, IsPayloadEntry}
-use Rattle.vhdx_format.specs.Layers.{Shape, bitmap_entry_of, chunk_ratio_of, entry_of, layer_sector, place_at, sector_bit, sector_by_state, state_at, stored_sector, table_entry}
+use Rattle.vhdx_format.specs.Layers.{Shape, chunk_ratio_of, entry_of, layer_sector, place_at, sector_bit, sector_by_state, state_at, stored_sector}
 use Rattle.vhdx_format.specs.SectorBitmaps.{HasRunSet, bit_of}
 use Rattle.vhdx_format.proofs.LayerLemmas.{by_state-absent, by_state-base, by_state-full, by_state-zeros, sector_entries}
 use Rattle.vhdx_format.proofs.MadeOpen.{zeros_within}
@@ -21,12 +20,14 @@ use Rattle.table_pages.specs.declared.tables.TableParts.{TableParts}
 use Rattle.table_pages.specs.declared.tables.Tables.{Tables}
 use Rattle.table_pages.specs.Held.{AreBits, HasTables, held, held_file, shape_of}
 use Rattle.chain_model.specs.Layers as chain
-use Rattle.layer_session.specs.Calls.{HasOwned}
+use Rattle.layer_session.specs.Calls.{AddsOwned, HasOwned}
 use Rattle.layer_session.specs.Keeping.{IsPartAt}
 use Rattle.layer_session.specs.Reading.{AreStored, layer_by, marked_layer, run_layer}
-use Rattle.layer_session.specs.TablesRead.{HasRead}
-use Rattle.layer_session.proofs.Owned.{from_zero, next_place, owned_alike, owned_joined, owned_set, room, rows}
+use Rattle.layer_session.specs.TablesRead.{AreReadable, HasRead}
+use Rattle.layer_session.proofs.Owned.{from_zero, next_place, owned_alike, owned_set, rest_long, room, rows}
 use Rattle.layer_session.proofs.Places.{in_run}
+use Rattle.layer_session.proofs.Planned.{read_again}
+use Rattle.std.proofs.lemmas.List.{length-append}
 
 -- what follows of an answer that is Ok
 pub ok_then : {A B : Type 0} (result : Result (Unit {0}) StoreFault) → (A → B) → OnOk result A → OnOk result B
@@ -200,3 +201,29 @@ module _ (old new : Tables) (disk : Disk) (reads : HasRead old new disk) where
   owned_again trace first count at m n a b h =
       subst (λ (t : TableParts). HasOwned (λ s. layer_sector (shape_of t) (held old.pending (seen (file_of trace t.file))) s) t.sector first count at m n a b) reads.as_held.parts_are
       (subst (λ (x : List Page). HasOwned (λ s. layer_sector (shape_of new.parts) (held x (seen (file_of trace new.parts.file))) s) new.parts.sector first count at m n a b) reads.as_held.unchanged h)
+
+  pub adds_again : (trace : Trace) (first count at : ℕ) (m n a b : List ℕ) → AddsOwned (layer_by new trace) new.parts.sector first count at m n a b → AddsOwned (layer_by old trace) old.parts.sector first count at m n a b
+  adds_again trace first count at m n a b h =
+      subst (λ (t : TableParts). AddsOwned (λ s. layer_sector (shape_of t) (held old.pending (seen (file_of trace t.file))) s) t.sector first count at m n a b) reads.as_held.parts_are
+      (subst (λ (x : List Page). AddsOwned (λ s. layer_sector (shape_of new.parts) (held x (seen (file_of trace new.parts.file))) s) new.parts.sector first count at m n a b) reads.as_held.unchanged h)
+
+-- what is asked of tables for the sectors behind a run that was read
+pub record ReadsRest (t : Tables) (disk : Disk) (first count : ℕ) (rest : List ℕ) : Type 0 where
+  pub readable : AreReadable t disk
+  pub stored : WhereTold disk.told (λ trace. AreStored (shape_of t.parts) (seen (file_of trace t.parts.file)) (held_file t trace))
+  pub on_disk : first + count ≤ t.parts.sectors
+  pub long : length rest ≡ t.parts.sector * count
+
+pub reads_rest : (old new : Tables) (disk after : Disk) → HasRead old new disk → after ≡ disk → AreReadable old disk → WhereTold disk.told (λ trace. AreStored (shape_of old.parts) (seen (file_of trace old.parts.file)) (held_file old trace))
+    → (first n count : ℕ) (out piece rest : List ℕ) → n ≤ count → first + count ≤ old.parts.sectors → length out ≡ old.parts.sector * count → out ≡ piece ++ rest → length piece ≡ old.parts.sector * n → ReadsRest new after (first + n) (count - n) rest
+reads_rest old new disk after reads stays readable stored first n count out piece rest few on_disk whole parted front =
+    let e : old.parts ≡ new.parts = sym reads.as_held.parts_are in
+    let long : length out ≡ length piece + length rest = ap length parted ∙ length-append piece rest in
+    let back : length rest ≡ old.parts.sector * (count - n) = rest_long old.parts.sector n count (length out) (length rest) few whole (omega (arith, long, front)) in
+    subst (λ (d : Disk). ReadsRest new d (first + n) (count - n) rest) (sym stays)
+    (record {
+      readable = read_again old new disk readable reads;
+      stored = stored_again old new disk reads stored;
+      on_disk = subst (λ (p : TableParts). first + n + (count - n) ≤ p.sectors) e (omega (arith, few, on_disk));
+      long = subst (λ (p : TableParts). length rest ≡ p.sector * (count - n)) e back;
+    })

@@ -1,12 +1,11 @@
 -- Sectors are written to their places.
-use Rattle.std.proofs.Common.{◌≡◌, ℕ, suc, ◌+◌, ◌-◌, ◌*◌, ◌&&◌, ◌<◌, ◌≤◌, ◌⊎◌, ◌||◌, Bool, true, false, List, length, get_or, refl, sym, ap, subst, ◌∙◌, arith, inl, inr, mul_comm}
-use Rattle.std.specs.Prelude.{Ok, nat_le, nat_lt}
+use Rattle.std.proofs.Common.{◌≡◌, ℕ, suc, ◌+◌, ◌-◌, ◌*◌, ◌&&◌, ◌<◌, ◌≤◌, ◌⊎◌, ◌||◌, Bool, true, false, List, length, get_or, refl, sym, ap, subst, ◌∙◌, arith, inl, inr}
+use Rattle.std.specs.Prelude.{nat_le, nat_lt}
 use Rattle.std.proofs.lemmas.Bool.{cases_lt, cases_Bool, leb-true, or_from}
 use Rattle.std.proofs.Math.Nat.{add-mul}
 use Rattle.vx_base.specs.Fields.{written_over}
 use Rattle.vx_base.specs.declared.parts.Header.{Header}
-use Rattle.vhdx_format.specs.declared.log_entry.Page.{Page}
-use Rattle.vhdx_format.specs.Fields.{megabyte, overlaps}
+use Rattle.vhdx_format.specs.Fields.{overlaps}
 use Rattle.vhdx_format.specs.FileParts.{shape_of}
 use Rattle.vhdx_format.specs.Layers.{Shape, entry_of, place_at}
 use Rattle.store_model.specs.File.{File, IsFileImage, Write, seen, with_op}
@@ -25,13 +24,12 @@ use Rattle.chain_model.specs.Members.{Ties}
 use Rattle.chain_model.specs.PhaseLaws.{loosened}
 use Rattle.chain_model.specs.Sessions.{ShowsFile}
 use Rattle.layer_session.specs.declared.file.Layer.{Layer}
-use Rattle.layer_session.specs.Calls.{is_among, loose_or_named, placed_with, with_bytes}
-use Rattle.layer_session.specs.Keeping.{IsRunAt, Serves, StandsAt}
-use Rattle.layer_session.specs.Laws.{WritesAreServed}
+use Rattle.layer_session.specs.Calls.{is_among, loose_or_named}
+use Rattle.layer_session.specs.Keeping.{IsRunAt, Serves}
 use Rattle.layer_session.specs.Steps.{StandFrom}
 use Rattle.vhdx_format.proofs.SizeLemmas.{sector_least}
 use Rattle.layer_session.proofs.Alike.{IsInFile, not_true, off_range}
-use Rattle.layer_session.proofs.Beside.{among, in_area, in_file, named_only, off_tables, run_kept}
+use Rattle.layer_session.proofs.Beside.{among, in_file, named_only, off_tables}
 use Rattle.layer_session.proofs.Crashes.{IsSafe, safe_of, shown}
 
 -- a part of a range that doesn't overlap another lies on one side of it

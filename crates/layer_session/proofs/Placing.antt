@@ -1,9 +1,9 @@
 -- A block gets a place that is nobody's, or leaves its place.
-use Rattle.std.proofs.Common.{◌≡◌, ◌≢◌, ℕ, ◌+◌, ◌-◌, ◌*◌, ◌/◌, ◌%◌, ◌^◌, ◌<◌, ◌≤◌, ◌⊎◌, ◌==◌, Bool, true, false, All, List, length, get_or, Option, Some, None, refl, sym, ap, subst, ◌∙◌, arith, inl, inr, if◌then◌else◌}
-use Rattle.std.proofs.lemmas.Bool.{cases_Bool, cases_eq}
+use Rattle.std.proofs.Common.{◌≡◌, ◌≢◌, ℕ, ◌+◌, ◌*◌, ◌/◌, ◌%◌, ◌^◌, ◌<◌, ◌≤◌, ◌⊎◌, true, false, All, List, length, get_or, Some, refl, sym, ap, subst, ◌∙◌, arith, inl, inr}
+use Rattle.std.proofs.lemmas.Bool.{cases_eq}
 use Rattle.std.proofs.lemmas.List.{ext_get_or}
 use Rattle.vx_base.specs.Fields.{bytes_at, zeros}
-use Rattle.vhdx_format.specs.AllocationTables.{bitmap_index_of, packed, state_of, unit_of}
+use Rattle.vhdx_format.specs.AllocationTables.{bitmap_index_of, state_of, unit_of}
 use Rattle.vhdx_format.specs.Fields.{megabyte}
 use Rattle.vhdx_format.specs.FileParts.{shape_of}
 use Rattle.vhdx_format.specs.HeldBlocks.{Area, HasBadState, HoldsBlock, IsBitmapEntry, IsPayloadEntry, LacksBitmap, bitmap, payload}
@@ -16,21 +16,20 @@ use Rattle.table_pages.specs.Held.{held}
 use Rattle.table_pages.specs.declared.tables.Tables.{Tables}
 use Rattle.block_alloc.specs.declared.freed.Freed.{Freed}
 use Rattle.chain_model.specs.Images.{Placed}
-use Rattle.chain_model.specs.Layers as chain
 use Rattle.layer_session.specs.declared.file.Layer.{Layer}
-use Rattle.layer_session.specs.Calls.{placed_with}
 use Rattle.layer_session.specs.Keeping.{HasSpace, IsNobodys, IsPlaced, Serves, area_of}
+use Rattle.layer_session.specs.Taking.{IsUnused}
 use Rattle.layer_session.proofs.Entered.{EntersInto, Enters, entered_held, entered_serves, held_as_long, layer_by, long, sizes}
 use Rattle.layer_file.proofs.Sectors.{in_block}
 use Rattle.table_pages.proofs.Laying.{part_byte, part_len}
 use Rattle.std.proofs.lemmas.List.{get_or-replicate, length-replicate}
 use Rattle.layer_session.proofs.Entries.{IsGoodEntry, as_long, off_table, bit_beside, bitmap_beside, entry_here, holds_beside, layer_beside, set_file}
 
-zeros_len : (n : ℕ) → length (zeros n) ≡ n
+pub zeros_len : (n : ℕ) → length (zeros n) ≡ n
 unfolding zeros
 zeros_len n = length-replicate n 0
 
-zero_at : (n i : ℕ) → i < n → get_or (zeros n) i 0 ≡ 0
+pub zero_at : (n i : ℕ) → i < n → get_or (zeros n) i 0 ≡ 0
 unfolding zeros
 zero_at n i l = get_or-replicate n i 0 0 l
 
@@ -43,14 +42,6 @@ module _ (l : Layer) (trace : Trace) (file : Placed) (serves : Serves l trace fi
 
   abbrev H : List ℕ
   H = held l.tables.pending F
-
-  -- A range that a block may have: it lies where one may, it is nobody's, as held and as committed, and none of the freed places that
-  -- are kept has a byte of it.
-  pub record IsUnused (range : Area) : Type 0 where
-    pub placed : IsPlaced serves.parts (length F) range
-    pub held : IsNobodys serves.parts H range
-    pub committed : IsNobodys serves.parts serves.bytes range
-    pub spare : All (λ (f : Freed). ((area_of f).at + (area_of f).len ≤ range.at) ⊎ (range.at + range.len ≤ (area_of f).at)) l.space.freed
 
   kinds : (i : ℕ) → IsPayloadEntry q i → IsBitmapEntry q i → ⊥
   kinds i e f = (entries_apart (chunk_ratio_of q) (ratio_in_range q.sector q.block (sizes l trace file serves).sector (sizes l trace file serves).block).0).kinds e.block f.chunk (sym e.at_index ∙ f.at_index)
@@ -67,7 +58,7 @@ module _ (l : Layer) (trace : Trace) (file : Placed) (serves : Serves l trace fi
 
     -- ---- a place
 
-    module _ (unused : IsUnused (record { at = unit_of word * megabyte; len = q.block })) (there : (state_of word ≡ 6) ⊎ ((state_of word ≡ 7) × (q.parent ≡ true)))
+    module _ (unused : IsUnused l trace file serves (record { at = unit_of word * megabyte; len = q.block })) (there : (state_of word ≡ 6) ⊎ ((state_of word ≡ 7) × (q.parent ≡ true)))
         (marks : state_of word ≡ 7 → state_at q H (bitmap_index_of (entry.block / chunk_ratio_of q) (chunk_ratio_of q)) ≡ 6)
         (chunk : state_of word ≡ 7 → IsBitmapEntry q (bitmap_index_of (entry.block / chunk_ratio_of q) (chunk_ratio_of q))) where
       abbrev range : Area

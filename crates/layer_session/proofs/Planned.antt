@@ -13,14 +13,13 @@ use Rattle.vhdx_format.proofs.LayerLemmas.{sector_entries}
 use Rattle.store_model.specs.Disk.{Disk, WhereTold}
 use Rattle.store_model.specs.File.{seen}
 use Rattle.store_model.specs.Trace.{Trace, file_of}
-use Rattle.table_pages.specs.Held.{AreBits, AreTables, AreTablesIn, HasBitmap, HasTables, IsAsHeld, KeepsWithin, KeepsWithinTables, bitmap_place, held, held_file, shape_of}
+use Rattle.table_pages.specs.Held.{AreBits, HasBitmap, HasTables, IsAsHeld, KeepsWithin, KeepsWithinTables, bitmap_place, held, held_file, shape_of}
 use Rattle.table_pages.specs.Pages.{is_kept}
 use Rattle.table_pages.specs.declared.tables.TableParts.{TableParts}
 use Rattle.table_pages.specs.declared.tables.Tables.{Tables}
-use Rattle.layer_session.specs.declared.planning.Step.{Step}
 use Rattle.layer_session.specs.declared.planning.Step.TheVariants.{Write}
 use Rattle.layer_session.specs.Planning.{AreMarked, IsPlanned, are_marked, is_whole, step_of}
-use Rattle.layer_session.specs.TablesRead.{AreBitsThere, AreReadable, HasBitmaps, HasRead, IsTablePage, KeepsTables, bitmap, entries}
+use Rattle.layer_session.specs.TablesRead.{AreBitsThere, AreReadable, HasBitmaps, HasRead, IsTablePage, bitmap, entries}
 
 -- ---- reads, one after another
 

@@ -1,6 +1,5 @@
--- A layer's tables can be read; and what reading them leaves of the layer.
-use Rattle.std.proofs.Common.{◌≡◌, ◌≢◌, ℕ, ◌+◌, ◌*◌, ◌%◌, ◌^◌, ◌<◌, ◌≤◌, ◌⊎◌, Bool, true, false, All, List, length, get_or, Option, Some, None, refl, sym, ap, subst, ◌∙◌, arith, inl, inr}
-use Rattle.std.specs.Prelude.{Ok}
+-- Tables that hold a layer can be read; and what reading them leaves of the layer.
+use Rattle.std.proofs.Common.{◌≡◌, ℕ, ◌+◌, ◌*◌, ◌%◌, ◌<◌, ◌≤◌, ◌⊎◌, true, false, List, length, get_or, Some, refl, sym, ap, subst, ◌∙◌, arith, inl, inr}
 use Rattle.std.proofs.lemmas.Bool.{cases_lt}
 use Rattle.vx_base.specs.Fields.{bytes_at}
 use Rattle.vx_base.specs.declared.parts.Parts.{Parts}
@@ -15,7 +14,7 @@ use Rattle.vhdx_format.proofs.SizeLemmas.{ratio_in_range, sector_cases}
 use Rattle.store_model.specs.Disk.{Disk, WhereTold}
 use Rattle.store_model.specs.File.{seen}
 use Rattle.store_model.specs.Trace.{Trace, file_of}
-use Rattle.table_pages.specs.Held.{AreTables, held}
+use Rattle.table_pages.specs.Held.{AreTables, HasTables, held}
 use Rattle.table_pages.specs.Held as tables
 use Rattle.table_pages.specs.Changes.{HeldBeside}
 use Rattle.table_pages.specs.Pages.{is_kept}
@@ -28,16 +27,16 @@ use Rattle.layer_file.proofs.Sectors.{in_block}
 use Rattle.chain_model.specs.Images.{Placed}
 use Rattle.chain_model.specs.Layers as chain
 use Rattle.layer_session.specs.declared.file.Layer.{Layer}
-use Rattle.layer_session.specs.Calls.{IsSame, own_bytes, own_file}
-use Rattle.layer_session.specs.Keeping.{IsHeld, IsReadable, IsReady, IsTablePlace, Serves, StandsAt, bitmap as bitmap_place, entries, metadata, regions}
+use Rattle.layer_session.specs.Calls.{IsSame, own_bytes}
+use Rattle.layer_session.specs.Keeping.{HoldsLayer, IsHeld, IsReadable, IsTablePlace, Serves, bitmap as bitmap_place, entries, metadata, regions}
 use Rattle.layer_session.specs.Reading.{AreStored}
-use Rattle.layer_session.specs.TablesRead.{AreReadable, HasBitmaps, HasRead, IsTablePage, KeepsTables, bitmap as bitmap_page, entries as entries_page}
+use Rattle.layer_session.specs.TablesRead.{AreReadable, HasBitmaps, HasRead, IsTablePage, bitmap as bitmap_page, entries as entries_page}
 use Rattle.layer_session.proofs.Alike.{AreSizes, IsInFile, bitmap_there, block_in_file, off_range}
 use Rattle.layer_session.proofs.Apart.{meet}
 
-module _ (l : Layer) (parts : Parts) (layer : chain.Layer) (F : List ℕ) (is_held : IsHeld l parts layer F) where
+module _ (t : Tables) (parts : Parts) (layer : chain.Layer) (F : List ℕ) (is_held : HoldsLayer t parts layer F) where
   abbrev H : List ℕ
-  H = held l.tables.pending F
+  H = held t.pending F
 
   abbrev q : Shape
   q = shape_of parts
@@ -47,11 +46,11 @@ module _ (l : Layer) (parts : Parts) (layer : chain.Layer) (F : List ℕ) (is_he
     sector = subst (λ (p : Shape). IsSectorSize p.sector) is_held.shape is_held.sizes.sector;
     block = subst (λ (p : Shape). IsBlockSize p.block) is_held.shape is_held.sizes.block;
     entries = subst (λ n. 8 * table_entries (parts.geometry.sectors * parts.geometry.sector) parts.geometry.sector parts.block parts.parent ≤ n) is_held.region
-        (subst (λ (p : Shape). 8 * table_entries (p.sectors * p.sector) p.sector p.block p.parent ≤ l.tables.parts.bat_len) is_held.shape is_held.sizes.entries);
+        (subst (λ (p : Shape). 8 * table_entries (p.sectors * p.sector) p.sector p.block p.parent ≤ t.parts.bat_len) is_held.shape is_held.sizes.entries);
   }
 
   long : length H ≡ length F
-  long = held_len (length F) l.tables.pending F is_held.pages.changed refl
+  long = held_len (length F) t.pending F is_held.pages.changed refl
 
   payload_of : (s : ℕ) → s < q.sectors → IsPayloadEntry q (entry_of q s)
   payload_of s below = (sector_entries q (record { sector = sizes.sector; block = sizes.block })).payload s below
@@ -118,11 +117,11 @@ module _ (l : Layer) (parts : Parts) (layer : chain.Layer) (F : List ℕ) (is_he
           by_order (inl x) (inl y) (inl o) = absurd (sector_off s below there page.at (omega (arith, o)) (let f = fits in omega (arith, x, f)) (of_tables page.at (omega arith) (omega arith)))
           by_order (inl x) (inl y) (inr o) = absurd (sector_off s below there at (omega arith) (let f = fits in let n = some in omega (arith, f, n)) (of_tables at o y))
 
-      read : HeldBeside F l.tables.pending at (bytes_at F at q.sector)
-      read = held_beside_writes l.tables.parts F l.tables.pending l.tables.cache at (bytes_at F at q.sector) is_held.pages (omega (arith, inside, whole))
-          (λ k d b. subst (λ n. (at + n ≤ (get_or l.tables.pending k d).at) ⊎ ((get_or l.tables.pending k d).at + 4096 ≤ at)) (sym whole) (off_page (get_or l.tables.pending k d) (is_held.of_tables k d b)))
+      read : HeldBeside F t.pending at (bytes_at F at q.sector)
+      read = held_beside_writes t.parts F t.pending t.cache at (bytes_at F at q.sector) is_held.pages (omega (arith, inside, whole))
+          (λ k d b. subst (λ n. (at + n ≤ (get_or t.pending k d).at) ⊎ ((get_or t.pending k d).at + 4096 ≤ at)) (sym whole) (off_page (get_or t.pending k d) (is_held.of_tables k d b)))
 
-  pub are_stored : AreStored (tables.shape_of l.tables.parts) F H
+  pub are_stored : AreStored (tables.shape_of t.parts) F H
   are_stored =
       subst (λ (p : Shape). AreStored p F H) (sym is_held.shape)
       (record {
@@ -131,7 +130,7 @@ module _ (l : Layer) (parts : Parts) (layer : chain.Layer) (F : List ℕ) (is_he
         stored = stored_here;
       })
 
-  pub good_states : HasGoodStates (tables.shape_of l.tables.parts) H
+  pub good_states : HasGoodStates (tables.shape_of t.parts) H
   good_states = subst (λ (p : Shape). HasGoodStates p H) (sym is_held.shape) is_held.sound.states
 
   -- the sector bitmap blocks that are needed are there
@@ -140,7 +139,7 @@ module _ (l : Layer) (parts : Parts) (layer : chain.Layer) (F : List ℕ) (is_he
       ((s : ℕ) → s < p.sectors → p.parent ≡ true → state_at p H (entry_of p s) ≡ 7 → state_at p H (bitmap_entry_of p s) ≡ 6)
       × ((s : ℕ) → s < p.sectors → p.parent ≡ true → state_at p H (bitmap_entry_of p s) ≡ 6 → place_at p H (bitmap_entry_of p s) + megabyte ≤ length F)
 
-  blocks : HasBlocks (tables.shape_of l.tables.parts)
+  blocks : HasBlocks (tables.shape_of t.parts)
   blocks =
       subst HasBlocks (sym is_held.shape) (
         λ s below parent seven. bitmap_there parts H H (omega arith) sizes is_held.numbers is_held.sound s below parent seven,
@@ -150,45 +149,67 @@ module _ (l : Layer) (parts : Parts) (layer : chain.Layer) (F : List ℕ) (is_he
             omega (arith, b, long),
       )
 
-  pub has_bitmaps : HasBitmaps l.tables.parts H (length F)
+  pub has_bitmaps : HasBitmaps t.parts H (length F)
   has_bitmaps = record { there = λ s below parent seven. blocks.0 s below parent seven; within = λ s below parent six. blocks.1 s below parent six }
 
 -- its layer is what its tables say
-pub layer_is : (l : Layer) (parts : Parts) (layer : chain.Layer) (F : List ℕ) → IsHeld l parts layer F → (s : ℕ) → s < l.tables.parts.sectors → layer s ≡ layer_sector (tables.shape_of l.tables.parts) (held l.tables.pending F) s
-layer_is l parts layer F h s below =
-    h.has.on_disk s (let e : l.tables.parts.sectors ≡ parts.geometry.sectors = ap (λ (p : Shape). p.sectors) h.shape in omega (arith, below, e)) ∙ ap (λ (p : Shape). layer_sector p (held l.tables.pending F) s) (sym h.shape)
+pub layer_is : (t : Tables) (parts : Parts) (layer : chain.Layer) (F : List ℕ) → HoldsLayer t parts layer F → (s : ℕ) → s < t.parts.sectors → layer s ≡ layer_sector (tables.shape_of t.parts) (held t.pending F) s
+layer_is t parts layer F h s below =
+    h.has.on_disk s (let e : t.parts.sectors ≡ parts.geometry.sectors = ap (λ (p : Shape). p.sectors) h.shape in omega (arith, below, e)) ∙ ap (λ (p : Shape). layer_sector p (held t.pending F) s) (sym h.shape)
+
+-- the file of these tables has a layer
+abbrev pub HoldsOne : Tables → Trace → Type 0
+HoldsOne t trace = (parts : Parts) × ((layer : chain.Layer) × HoldsLayer t parts layer (seen (file_of trace t.parts.file)))
+
+module _ (t : Tables) (disk : Disk) (there : t.parts.file < disk.files) (sizes_are : HasTables t.parts) (holds : WhereTold disk.told (HoldsOne t)) where
+  pub held_readable : AreReadable t disk
+  held_readable = record {
+    there = there;
+    sizes = sizes_are;
+    tables = λ trace told. let h = holds trace told in h.1.1.pages;
+    states = λ trace told. let h = holds trace told in good_states t h.0 h.1.0 (seen (file_of trace t.parts.file)) h.1.1;
+    bitmaps = λ trace told. let h = holds trace told in has_bitmaps t h.0 h.1.0 (seen (file_of trace t.parts.file)) h.1.1;
+  }
+
+  pub held_stored : WhereTold disk.told (λ trace. AreStored (tables.shape_of t.parts) (seen (file_of trace t.parts.file)) (tables.held_file t trace))
+  held_stored trace told = let h = holds trace told in are_stored t h.0 h.1.0 (seen (file_of trace t.parts.file)) h.1.1
 
 pub tables_readable : (l : Layer) (disk : Disk) → IsReadable l disk → AreReadable l.tables disk
-tables_readable l disk r = record {
-  there = r.there;
-  sizes = r.sizes;
-  tables = λ t told. let h = r.told t told in h.1.1.pages;
-  states = λ t told. let h = r.told t told in good_states l h.0 h.1.0 (own_bytes l t) h.1.1;
-  bitmaps = λ t told. let h = r.told t told in has_bitmaps l h.0 h.1.0 (own_bytes l t) h.1.1;
-}
+tables_readable l disk r = held_readable l.tables disk r.there r.sizes r.told
 
 pub tables_stored : (l : Layer) (disk : Disk) → IsReadable l disk → WhereTold disk.told (λ trace. AreStored (tables.shape_of l.tables.parts) (seen (file_of trace l.tables.parts.file)) (tables.held_file l.tables trace))
-tables_stored l disk r t told = let h = r.told t told in are_stored l h.0 h.1.0 (own_bytes l t) h.1.1
+tables_stored l disk r = held_stored l.tables disk r.there r.sizes r.told
 
 -- ---- what reading leaves
+
+module _ (old new : Tables) (disk : Disk) (reads : HasRead old new disk) where
+  abbrev pub kept_tables : Tables
+  kept_tables = record { parts = old.parts; pending = old.pending; cache = new.cache }
+
+  pub same_tables : kept_tables ≡ new
+  same_tables = λ i. record { parts = sym reads.as_held.parts_are i; pending = sym reads.as_held.unchanged i; cache = new.cache }
+
+  told_tables : (t : Trace) → disk.told ≡ Some t → AreTables old.parts (seen (file_of t old.parts.file)) old.pending new.cache
+  told_tables t told = subst (λ (x : Tables). AreTables x.parts (seen (file_of t x.parts.file)) x.pending x.cache) (sym same_tables) (reads.as_held.tables t told)
+
+  pub holds_kept : (t : Trace) (parts : Parts) (layer : chain.Layer) → disk.told ≡ Some t → HoldsLayer old parts layer (seen (file_of t old.parts.file)) → HoldsLayer kept_tables parts layer (seen (file_of t old.parts.file))
+  holds_kept t parts layer told h = record { sizes = h.sizes; shape = h.shape; region = h.region; most = h.most; pages = told_tables t told; numbers = h.numbers; sound = h.sound; of_tables = h.of_tables; has = h.has }
+
+  -- the tables hold what they held
+  pub holds_again : (t : Trace) (parts : Parts) (layer : chain.Layer) → disk.told ≡ Some t → HoldsLayer old parts layer (seen (file_of t old.parts.file)) → HoldsLayer new parts layer (seen (file_of t old.parts.file))
+  holds_again t parts layer told h = subst (λ (x : Tables). HoldsLayer x parts layer (seen (file_of t old.parts.file))) same_tables (holds_kept t parts layer told h)
 
 abbrev pub with_tables : Layer → Tables → Layer
 with_tables l new = record l { tables = new }
 
 module _ (l : Layer) (new : Tables) (disk : Disk) (reads : HasRead l.tables new disk) where
-  abbrev kept_tables : Tables
-  kept_tables = record { parts = l.tables.parts; pending = l.tables.pending; cache = new.cache }
+  abbrev mine : Tables
+  mine = kept_tables l.tables new disk reads
 
-  same_tables : kept_tables ≡ new
-  same_tables = λ i. record { parts = sym reads.as_held.parts_are i; pending = sym reads.as_held.unchanged i; cache = new.cache }
+  holds_on : (t : Trace) (parts : Parts) (layer : chain.Layer) → disk.told ≡ Some t → IsHeld l parts layer (own_bytes l t) → IsHeld (with_tables l mine) parts layer (own_bytes l t)
+  holds_on t parts layer told h = holds_kept l.tables new disk reads t parts layer told h
 
-  told_tables : (t : Trace) → disk.told ≡ Some t → AreTables l.tables.parts (own_bytes l t) l.tables.pending new.cache
-  told_tables t told = subst (λ (x : Tables). AreTables x.parts (seen (file_of t x.parts.file)) x.pending x.cache) (sym same_tables) (reads.as_held.tables t told)
-
-  holds_on : (t : Trace) (parts : Parts) (layer : chain.Layer) → disk.told ≡ Some t → IsHeld l parts layer (own_bytes l t) → IsHeld (with_tables l kept_tables) parts layer (own_bytes l t)
-  holds_on t parts layer told h = record { sizes = h.sizes; shape = h.shape; region = h.region; most = h.most; pages = told_tables t told; numbers = h.numbers; sound = h.sound; of_tables = h.of_tables; has = h.has }
-
-  serves_on : (t : Trace) (file : Placed) → disk.told ≡ Some t → Serves l t file → Serves (with_tables l kept_tables) t file
+  serves_on : (t : Trace) (file : Placed) → disk.told ≡ Some t → Serves l t file → Serves (with_tables l mine) t file
   serves_on t file told s = record {
     within = s.within;
     number = s.number;
@@ -196,7 +217,7 @@ module _ (l : Layer) (new : Tables) (disk : Disk) (reads : HasRead l.tables new 
     parts = s.parts;
     header = s.header;
     ties = s.ties;
-    as_held = subst (λ n. IsHeld (with_tables l kept_tables) s.parts file.member.layer (seen (file_of t n))) (sym s.number) (holds_on t s.parts file.member.layer told (subst (λ n. IsHeld l s.parts file.member.layer (seen (file_of t n))) s.number s.as_held));
+    as_held = subst (λ n. IsHeld (with_tables l mine) s.parts file.member.layer (seen (file_of t n))) (sym s.number) (holds_on t s.parts file.member.layer told (subst (λ n. IsHeld l s.parts file.member.layer (seen (file_of t n))) s.number s.as_held));
     bytes = s.bytes;
     tables = s.tables;
     written = s.written;
@@ -226,7 +247,7 @@ module _ (l : Layer) (new : Tables) (disk : Disk) (reads : HasRead l.tables new 
               let moved = subst (λ (p : Shape). IsBitmapEntry p index × (state_at p (tables.held_file l.tables t) index ≡ 6) × (place_at p (tables.held_file l.tables t) index ≤ at) × (at + 4096 ≤ place_at p (tables.held_file l.tables t) index + megabyte)) s.as_held.shape (be, six, x, y) in
               bitmap_place index moved.0 moved.1 (omega (arith, moved.2, a)) (omega (arith, moved.3, b))
 
-  same_kept : IsReadable l disk → IsSame l (with_tables l kept_tables) disk
+  same_kept : IsReadable l disk → IsSame l (with_tables l mine) disk
   same_kept r = record {
     parts = refl;
     number = refl;
@@ -235,6 +256,7 @@ module _ (l : Layer) (new : Tables) (disk : Disk) (reads : HasRead l.tables new 
       readable = record { there = r.there; sizes = r.sizes; told = λ t told. let h = r.told t told in (h.0, (h.1.0, holds_on t h.0 h.1.0 told h.1.1)) };
       one_file = w.one_file;
       next = w.next;
+      most = w.most;
       clear = w.clear;
       plans = w.plans;
       told = λ t told. let s = w.told t told in (s.0, serves_on t s.0 told s.1);
@@ -244,7 +266,7 @@ module _ (l : Layer) (new : Tables) (disk : Disk) (reads : HasRead l.tables new 
   }
 
   pub read_is_same : IsReadable l disk → IsSame l (with_tables l new) disk
-  read_is_same r = subst (λ (x : Tables). IsSame l (with_tables l x) disk) same_tables (same_kept r)
+  read_is_same r = subst (λ (x : Tables). IsSame l (with_tables l x) disk) (same_tables l.tables new disk reads) (same_kept r)
 
 -- one reading behind another
 pub same_then : (a b c : Layer) (disk : Disk) → IsSame a b disk → IsSame b c disk → IsSame a c disk

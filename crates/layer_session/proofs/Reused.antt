@@ -1,7 +1,6 @@
 -- A place that was left, and whose leaving was committed, is taken again: it is nobody's.
-use Rattle.std.proofs.Common.{◌≡◌, ℕ, zero, suc, ◌+◌, ◌*◌, ◌<◌, ◌≤◌, ◌⊎◌, true, All, List, [], ◌∷◌, ◌++◌, length, get_or, refl, sym, ap, subst, ◌∙◌, arith, inl, inr}
+use Rattle.std.proofs.Common.{◌≡◌, ℕ, zero, suc, ◌+◌, ◌*◌, ◌<◌, ◌≤◌, ◌⊎◌, true, All, List, [], ◌∷◌, ◌++◌, length, get_or, refl, sym, subst, arith, inl, inr}
 use Rattle.std.proofs.Math.Nat.{add-mul, mul-le-mul_right}
-use Rattle.vx_base.specs.declared.parts.Parts.{Parts}
 use Rattle.vhdx_format.specs.Fields.{megabyte}
 use Rattle.vhdx_format.specs.HeldBlocks.{Area}
 use Rattle.store_model.specs.File.{seen}
@@ -12,7 +11,7 @@ use Rattle.block_alloc.specs.Spaces.{IsApart, IsApartFrom, Space}
 use Rattle.chain_model.specs.Images.{Placed}
 use Rattle.layer_session.specs.declared.file.Layer.{Layer}
 use Rattle.layer_session.specs.Keeping.{HasSpace, IsNobodys, IsPlaced, Serves, area_of}
-use Rattle.layer_session.proofs.Placing.{IsUnused}
+use Rattle.layer_session.specs.Taking.{IsUnused}
 
 -- the layer with another space
 abbrev pub with_space : Layer → Space → Layer

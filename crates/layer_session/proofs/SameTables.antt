@@ -6,7 +6,7 @@ use Rattle.vhdx_format.specs.AllocationTables.{bitmap_index_of, state_of, table_
 use Rattle.vhdx_format.specs.Fields.{megabyte}
 use Rattle.vhdx_format.specs.FileParts.{shape_of, taken_areas}
 use Rattle.vhdx_format.specs.HeldBlocks.{Area, HasBadPlace, HasBadState, HoldsBlock, IsBitmapEntry, IsPayloadEntry, IsSoundTable, LacksBitmap, bitmap, payload}
-use Rattle.vhdx_format.specs.Layers.{Shape, block_count, chunk_ratio_of, state_at, table_entry}
+use Rattle.vhdx_format.specs.Layers.{Shape, block_count, chunk_ratio_of, table_entry}
 use Rattle.vhdx_format.proofs.LayerLemmas.{div-div_ceil, entries_within}
 use Rattle.vhdx_format.proofs.SizeLemmas.{ratio_in_range}
 use Rattle.layer_session.specs.Keeping.{IsTablePlace, bitmap as bitmap_place, entries, metadata, regions}

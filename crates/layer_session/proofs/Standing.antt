@@ -77,28 +77,25 @@ moved l old new file s long names e = record {
   space = subst (λ (z : File). HasSpace l s.parts s.bytes (seen z)) e s.space;
 }
 
-same_length : (a b : List NamedBytes) → map (λ f. f.name) a ≡ map (λ f. f.name) b → length a ≡ length b
+pub same_length : (a b : List NamedBytes) → map (λ f. f.name) a ≡ map (λ f. f.name) b → length a ≡ length b
 same_length a b e = sym (length-map a (λ (f : NamedBytes). f.name)) ∙ ap length e ∙ length-map b (λ (f : NamedBytes). f.name)
 
 pub beside : (l : Layer) (old new : Trace) (file : Placed) → Serves l old file → IsBeside file.number old new → Serves l new file
 beside l old new file s k = moved l old new file s (same_length new.attached old.attached k.names) (ap (λ z. slice_index_or z file.number []) k.names) (sym k.same)
 
--- what is told of the one store and of the other
+-- what is told of the one store and of the other, where only other files were changed
+pub told_beside : (file : ℕ) (P : Trace → Type 0) → ((t u : Trace) → IsBeside file t u → P t → P u) → (a b : Option Trace) → WhereBothTold (IsBeside file) a b → WhereTold a P → WhereTold b P
+told_beside file P on None None stays holds u e = cc
+told_beside file P on None (Some v) stays holds u e = absurd stays
+told_beside file P on (Some t) None stays holds u e = cc
+told_beside file P on (Some t) (Some v) stays holds u e = (let same : v ≡ u = cc in subst P same (on t v stays (holds t refl)))
+
 module _ (l : Layer) (old new : Disk) (files : new.files ≡ old.files) (stays : WhereBothTold (IsBeside (own_file l)) old.told new.told) where
   abbrev ReadsOn : Trace → Type 0
   ReadsOn trace = (parts : Parts) × ((layer : chain.Layer) × IsHeld l parts layer (own_bytes l trace))
 
   abbrev ServesOne : Trace → Type 0
   ServesOne trace = (file : Placed) × Serves l trace file
-
-  each : (P : Trace → Type 0) → ((t u : Trace) → IsBeside (own_file l) t u → P t → P u) → WhereTold old.told P → WhereTold new.told P
-  each P on told u e = by_told old.told new.told stays told e
-    where
-      by_told : (a b : Option Trace) → WhereBothTold (IsBeside (own_file l)) a b → WhereTold a P → b ≡ Some u → P u
-      by_told None None k h f = cc
-      by_told None (Some v) k h f = absurd k
-      by_told (Some t) None k h f = cc
-      by_told (Some t) (Some v) k h f = (let same : v ≡ u = cc in subst P same (on t v k (h t refl)))
 
   read_on : (t u : Trace) → IsBeside (own_file l) t u → ReadsOn t → ReadsOn u
   read_on t u k (parts, (layer, h)) = (parts, (layer, subst (λ (z : File). IsHeld l parts layer (seen z)) (sym k.same) h))
@@ -107,10 +104,10 @@ module _ (l : Layer) (old new : Disk) (files : new.files ≡ old.files) (stays :
   serve_on t u k (file, s) = (file, beside l t u file s (subst (λ n. IsBeside n t u) (sym s.number) k))
 
   pub readable_on : IsReadable l old → IsReadable l new
-  readable_on r = record { there = subst (λ n. own_file l < n) (sym files) r.there; sizes = r.sizes; told = each ReadsOn read_on r.told }
+  readable_on r = record { there = subst (λ n. own_file l < n) (sym files) r.there; sizes = r.sizes; told = told_beside (own_file l) ReadsOn read_on old.told new.told stays r.told }
 
   pub ready_on : IsReady l old → IsReady l new
-  ready_on r = record { readable = readable_on r.readable; one_file = r.one_file; next = r.next; clear = r.clear; plans = r.plans; told = each ServesOne serve_on r.told }
+  ready_on r = record { readable = readable_on r.readable; one_file = r.one_file; next = r.next; most = r.most; clear = r.clear; plans = r.plans; told = told_beside (own_file l) ServesOne serve_on old.told new.told stays r.told }
 
 pub layers_stand : LayersStand
 layers_stand = record {

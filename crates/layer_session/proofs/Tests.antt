@@ -6,7 +6,6 @@ use Rattle.vx_base.specs.declared.parts.Parts.{Parts}
 use Rattle.vhdx_format.specs.AllocationTables.{bitmap_index_of}
 use Rattle.vhdx_format.specs.Fields.{megabyte}
 use Rattle.vhdx_format.specs.FileParts.{shape_of}
-use Rattle.vhdx_format.specs.HeldBlocks.{IsBitmapEntry}
 use Rattle.vhdx_format.specs.Layers.{Shape, chunk_count, chunk_ratio_of, place_at, state_at}
 use Rattle.layer_session.specs.Calls.{is_among}
 use Rattle.layer_session.specs.Keeping.{IsTablePlace, bitmap as bitmap_place, entries, metadata, regions}

@@ -1,5 +1,5 @@
 -- A file's numbers under another header that names the same place for a log.
-use Rattle.std.proofs.Common.{◌≡◌, ℕ, ◌≤◌, Bool, true, false, List, length, refl, sym, ap, subst, ◌∙◌}
+use Rattle.std.proofs.Common.{◌≡◌, ℕ, List, length, ap, ◌∙◌}
 use Rattle.std.specs.Prelude.{Ok, Result}
 use Rattle.vx_base.specs.Fields.{bytes_at}
 use Rattle.vx_base.specs.declared.parts.Header.{Header}

@@ -1,10 +1,10 @@
 -- The write of sectors to their places, of a store.
-use Rattle.std.proofs.Common.{◌≡◌, ◌≢◌, ℕ, ◌+◌, ◌*◌, ◌<◌, ◌≤◌, ◌⊎◌, ◌||◌, Bool, true, false, List, length, Option, Some, None, refl, sym, ap, subst, ◌∙◌, arith, inl, inr}
+use Rattle.std.proofs.Common.{◌≡◌, ℕ, ◌+◌, ◌*◌, ◌<◌, ◌≤◌, ◌||◌, Bool, true, false, List, length, Option, Some, None, refl, sym, ap, subst, ◌∙◌, arith}
 use Rattle.std.specs.Prelude.{Result, Ok, Err, OnOk, IfErr}
-use Rattle.store_model.specs.Bytes.{IsBytes, Torn}
+use Rattle.store_model.specs.Bytes.{Torn}
 use Rattle.store_model.specs.Disk.{ChangeFailed, Disk, LeavesTorn, WhereBothTold, WhereTold, WriteFailed, changed, nothing, told_after, torn}
 use Rattle.store_model.specs.File.{File, Grow, IsFileImage, Op, Tear, Write, seen, with_op}
-use Rattle.store_model.specs.Trace.{EachMoment, Trace, file_of, with_change}
+use Rattle.store_model.specs.Trace.{Trace, file_of, with_change}
 use Rattle.store_model.specs.declared.fault.StoreFault.{StoreFault}
 use Rattle.store_model.proofs.Spans.{EachMoment-next, EachMoment-now, file_of-with_change, file_of-with_change_other}
 use Rattle.chain_model.specs.Images.{Placed}
@@ -27,7 +27,7 @@ use Rattle.store_model.specs.Plans.{FailsToChange}
 use Rattle.log_write.specs.Sessions.{IsOpenFor}
 
 -- one change, at each moment of which each image has P
-phase_of : (n : ℕ) (P : List ℕ → Type 0) (t : Trace) (op : Op) → EachUntorn P (file_of t n) → EachUntorn P (file_of (with_change n op t) n) → IsPhase n P t (with_change n op t)
+pub phase_of : (n : ℕ) (P : List ℕ → Type 0) (t : Trace) (op : Op) → EachUntorn P (file_of t n) → EachUntorn P (file_of (with_change n op t) n) → IsPhase n P t (with_change n op t)
 phase_of n P t op before after =
     EachMoment-next (HasWholeImages n P t) t t n op (EachMoment-now (HasWholeImages n P t) t (record { images = before; others = λ o ne. refl }))
     (record { images = after; others = λ o ne. file_of-with_change_other n o op t ne })

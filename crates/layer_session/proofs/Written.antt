@@ -1,39 +1,32 @@
 -- What a layer serves after a write of sectors to their places.
-use Rattle.std.proofs.Common.{◌≡◌, ℕ, suc, ◌+◌, ◌-◌, ◌*◌, ◌/◌, ◌%◌, ◌^◌, ◌<◌, ◌≤◌, ◌⊎◌, ◌||◌, ◌&&◌, Bool, true, false, All, List, length, get_or, Option, Some, None, refl, sym, ap, subst, ◌∙◌, arith, inl, inr, mul_comm, if◌then◌else◌}
-use Rattle.std.proofs.lemmas.Bool.{cases_lt, cases_eq, cases_Bool}
+use Rattle.std.proofs.Common.{◌≡◌, ℕ, ◌+◌, ◌-◌, ◌*◌, ◌/◌, ◌%◌, ◌<◌, ◌≤◌, ◌⊎◌, ◌||◌, Bool, true, false, List, length, get_or, Some, refl, sym, ap, subst, ◌∙◌, arith, inl, inr, mul_comm}
+use Rattle.std.proofs.lemmas.Bool.{cases_lt, cases_Bool}
 use Rattle.std.proofs.lemmas.List.{ext_get_or}
-use Rattle.vx_base.specs.Fields.{IsBytes, bytes_at, written_over}
-use Rattle.vx_base.specs.declared.parts.Parts.{Parts}
-use Rattle.vhdx_format.specs.declared.log_entry.Page.{Page}
+use Rattle.vx_base.specs.Fields.{bytes_at, written_over}
 use Rattle.vhdx_format.specs.AllocationTables.{payload_index_of, state_of, unit_of}
 use Rattle.vhdx_format.specs.Fields.{megabyte}
 use Rattle.vhdx_format.specs.FileParts.{read_parts, shape_of, taken_areas}
-use Rattle.vhdx_format.specs.HeldBlocks.{Area, HoldsBlock, IsSoundTable}
+use Rattle.vhdx_format.specs.HeldBlocks.{IsSoundTable}
 use Rattle.vhdx_format.specs.Layers.{Shape, chunk_ratio_of, entry_of, layer_sector, place_at, sector_bit, sector_by_state, state_at, stored_sector, table_entry}
 use Rattle.vhdx_format.proofs.LayerLemmas.{by_state-full, by_state-marked}
 use Rattle.store_model.specs.File.{File, Write, seen, with_op}
 use Rattle.store_model.specs.Trace.{Trace, file_of, with_change}
 use Rattle.store_model.proofs.Spans.{file_of-with_change}
-use Rattle.table_pages.specs.Changes.{HeldBeside}
 use Rattle.table_pages.specs.Held.{AreTables, held}
-use Rattle.table_pages.specs.Held as tables
-use Rattle.table_pages.specs.Pages.{is_kept}
 use Rattle.table_pages.proofs.Changing.{held_beside_writes, stand_beside_writes}
 use Rattle.table_pages.proofs.Laying.{length_over, over_in, over_out, part_byte, part_len, part_same}
 use Rattle.table_pages.proofs.Words.{held_long}
 use Rattle.log_write.specs.Sessions.{IsRunning}
-use Rattle.log_write.specs.Writing.{IsOfTables}
-use Rattle.block_alloc.specs.declared.freed.Freed.{Freed}
 use Rattle.chain_model.specs.Images.{Placed}
 use Rattle.chain_model.specs.Layers as chain
 use Rattle.layer_session.specs.declared.file.Layer.{Layer}
 use Rattle.layer_session.specs.Calls.{is_among, loose_or_named, placed_with, with_bytes}
-use Rattle.layer_session.specs.Keeping.{AreBeside, Covers, HasSpace, IsClean, IsCommitted, IsHeld, IsLayerOf, IsNobodys, IsPlaced, IsRunAt, IsTablePlace, Serves, StandsAt, area_of}
+use Rattle.layer_session.specs.Keeping.{AreBeside, Covers, HasSpace, IsClean, IsCommitted, IsHeld, IsLayerOf, IsPlaced, IsRunAt, IsTablePlace, Serves, StandsAt, area_of}
 use Rattle.layer_session.specs.Laws.{WritesAreServed}
 use Rattle.layer_session.specs.Steps.{StandFrom}
 use Rattle.layer_session.proofs.Alike.{not_true, bit_alike, holds_alike, layer_alike, numbers_alike, places_alike, places_stay, sound_alike, state_alike}
 use Rattle.layer_session.proofs.Apart.{beside_self}
-use Rattle.layer_session.proofs.Beside.{among, named_only, off_tables}
+use Rattle.layer_session.proofs.Beside.{named_only, off_tables}
 use Rattle.layer_session.proofs.Crashes.{IsSafe, safe_of}
 use Rattle.layer_session.proofs.Payload.{images_then, inside, more, on_disk_too, run_at, running, safe_then, some_bytes, within}
 use Rattle.layer_session.proofs.Places.{in_run}
@@ -130,13 +123,13 @@ module _ (l : Layer) (trace : Trace) (file : Placed) (serves : Serves l trace fi
   fits_held : place + length bytes ≤ length h
   fits_held = omega (arith, fits, long_held)
 
-  longer : length h ≤ length now
+  pub longer : length h ≤ length now
   longer = omega (arith, ap length held_then, length_over h bytes place fits_held)
 
   byte_out : (i : ℕ) → (i < place) ⊎ (place + length bytes ≤ i) → get_or now i 0 ≡ get_or h i 0
   byte_out i o = ap (λ (z : List ℕ). get_or z i 0) held_then ∙ over_out h bytes place i fits_held o
 
-  table_same : (i : ℕ) → IsTablePlace serves.parts h i → i < length h → get_or now i 0 ≡ get_or h i 0
+  pub table_same : (i : ℕ) → IsTablePlace serves.parts h i → i < length h → get_or now i 0 ≡ get_or h i 0
   table_same i t below = byte_out i (out_of i (serves.covered_held.covers i t))
 
   long : 327680 ≤ length h

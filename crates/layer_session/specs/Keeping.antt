@@ -1,19 +1,19 @@
 -- What a layer keeps between two calls: its file as held, what was last committed, and what a crash may leave since.
-use Rattle.std.specs.Prelude.{◌≡◌, ◌⊎◌, ℕ, ◌+◌, ◌*◌, ◌%◌, ◌^◌, ◌<◌, ◌≤◌, Bool, true, false, All, List, length, get_or, Option, None, Ok}
+use Rattle.std.specs.Prelude.{◌≡◌, ◌⊎◌, ℕ, ◌+◌, ◌*◌, ◌%◌, ◌^◌, ◌<◌, ◌≤◌, Bool, true, false, All, List, length, get_or, None, Ok}
 use Rattle.vx_base.specs.Fields.{zeros}
 use Rattle.vx_base.specs.declared.parts.Parts.{Parts}
 use Rattle.vhdx_format.specs.declared.log_entry.Page.{Page}
 use Rattle.vhdx_format.specs.Fields.{megabyte}
 use Rattle.vhdx_format.specs.FileParts.{shape_of, taken_areas, read_parts}
-use Rattle.vhdx_format.specs.HeldBlocks.{Area, HoldsBlock, IsBitmapEntry, IsSoundTable, Overlap}
+use Rattle.vhdx_format.specs.HeldBlocks.{Area, HoldsBlock, IsBitmapEntry, IsSoundTable}
 use Rattle.vhdx_format.specs.Layers.{Shape, entry_of, state_at, place_at, layer_sector, sector_bit}
 use Rattle.store_model.specs.Disk.{Disk, WhereTold}
 use Rattle.store_model.specs.File.{seen}
 use Rattle.store_model.specs.Trace.{Trace, file_of}
 use Rattle.table_pages.specs.Held.{AreTables, HasTables, held}
 use Rattle.table_pages.specs.Held as tables
+use Rattle.table_pages.specs.declared.tables.Tables.{Tables}
 use Rattle.table_pages.specs.Pages.{is_kept}
-use Rattle.log_format.specs.PendingPages.{has_place}
 use Rattle.log_write.specs.Sessions.{IsKept, IsRunning}
 use Rattle.log_write.specs.Writing.{CanCommit, IsOfTables}
 use Rattle.block_alloc.specs.declared.freed.Freed.{Freed}
@@ -70,17 +70,20 @@ pub record IsLayerOf (p : Shape) (file : List ℕ) (layer : chain.Layer) : Type 
 abbrev pub AreOfTables : Parts → List ℕ → List Page → Type 0
 AreOfTables parts file pages = All (λ (page : Page). (i : ℕ) → page.at ≤ i → i < page.at + 4096 → IsTablePlace parts file i) pages
 
--- As held the file has these numbers, its blocks are sound, and this is its layer.
-pub record IsHeld (l : Layer) (parts : Parts) (layer : chain.Layer) (file : List ℕ) : Type 0 where
-  pub sizes : HasTables l.tables.parts
-  pub shape : tables.shape_of l.tables.parts ≡ shape_of parts
-  pub region : l.tables.parts.bat_len ≡ parts.bat_len
+-- As held by these tables the file has these numbers, its blocks are sound, and this is its layer.
+pub record HoldsLayer (t : Tables) (parts : Parts) (layer : chain.Layer) (file : List ℕ) : Type 0 where
+  pub sizes : HasTables t.parts
+  pub shape : tables.shape_of t.parts ≡ shape_of parts
+  pub region : t.parts.bat_len ≡ parts.bat_len
   pub most : length file ≤ 2 ^ 63
-  pub pages : AreTables l.tables.parts file l.tables.pending l.tables.cache
-  pub numbers : read_parts parts.header (held l.tables.pending file) ≡ Ok parts
-  pub sound : IsSoundTable (shape_of parts) (taken_areas parts) (held l.tables.pending file)
-  pub of_tables : AreOfTables parts (held l.tables.pending file) l.tables.pending
-  pub has : IsLayerOf (shape_of parts) (held l.tables.pending file) layer
+  pub pages : AreTables t.parts file t.pending t.cache
+  pub numbers : read_parts parts.header (held t.pending file) ≡ Ok parts
+  pub sound : IsSoundTable (shape_of parts) (taken_areas parts) (held t.pending file)
+  pub of_tables : AreOfTables parts (held t.pending file) t.pending
+  pub has : IsLayerOf (shape_of parts) (held t.pending file) layer
+
+abbrev pub IsHeld : Layer → Parts → chain.Layer → List ℕ → Type 0
+IsHeld l = HoldsLayer l.tables
 
 -- ---- what was committed
 
@@ -168,6 +171,8 @@ pub record IsReady (l : Layer) (disk : Disk) : Type 0 where
   pub readable : IsReadable l disk
   pub one_file : l.log.file ≡ l.tables.parts.file
   pub next : l.log.len ≤ l.space.next * megabyte
+  -- a unit goes into an entry
+  pub most : l.space.next ≤ 2 ^ 44
   pub clear : l.zeros.items ≡ zeros megabyte
   pub plans : length l.plans.items ≡ 257
   pub told : WhereTold disk.told (λ trace. (file : Placed) × Serves l trace file)

@@ -1,5 +1,5 @@
 -- What is known of a file that a layer serves.
-use Rattle.std.specs.Prelude.{◌≡◌, ℕ, Bool, false, ◌+◌, ◌*◌, ◌-◌, ◌^◌, ◌<◌, ◌≤◌, List, length, Some}
+use Rattle.std.specs.Prelude.{◌≡◌, ℕ, Bool, false, ◌+◌, ◌*◌, ◌^◌, ◌<◌, ◌≤◌, ◌==◌, if◌then◌else◌, List, length, Option, Some, None, unwrap_or}
 use Rattle.vx_base.specs.Fields.{bytes_at}
 use Rattle.store_model.specs.Disk.{Disk, WhereBothTold}
 use Rattle.store_model.specs.File.{Grow, Write, seen}
@@ -7,12 +7,14 @@ use Rattle.store_model.specs.Trace.{Trace, file_of, with_change}
 use Rattle.table_pages.specs.Held.{held}
 use Rattle.block_alloc.specs.Spaces.{Space}
 use Rattle.vhdx_format.specs.Fields.{megabyte}
+use Rattle.vhdx_format.specs.SectorBitmaps.{bit_of}
 use Rattle.chain_model.specs.Images.{Placed}
+use Rattle.chain_model.specs.Layers as chain
 use Rattle.chain_model.specs.Sessions.{IsKept, ShowsFile}
 use Rattle.store_model.specs.File.{IsFileImage}
 use Rattle.chain_model.specs.PhaseLaws.{loosened}
 use Rattle.layer_session.specs.declared.file.Layer.{Layer}
-use Rattle.layer_session.specs.Calls.{HoldsMember, IsBeside, loose_or_named, own_file, placed_with, with_bytes}
+use Rattle.layer_session.specs.Calls.{AddsOwned, HoldsMember, IsBeside, loose_or_named, own_file, placed_with, with_bytes}
 use Rattle.log_write.specs.Writing.{CommitsAll}
 use Rattle.layer_session.specs.Keeping.{IsNobodys, IsPlaced, IsReadable, IsReady, Serves}
 use Rattle.layer_session.specs.Steps.{StandFrom}
@@ -70,3 +72,23 @@ abbrev pub CommitsAreServed : Type 0
 CommitsAreServed =
     (l : Layer) (trace : Trace) (file : Placed) (serves : Serves l trace file) (image : List ℕ)
     → CommitsAll l.log l.tables.pending (length serves.bytes) serves.written (seen (file_of trace file.number)) image → ShowsFile file image
+
+-- a sector as a mask and bytes tell it: where its bit is set its bytes, else that it isn't there
+abbrev pub told_sector : ℕ → ℕ → List ℕ → List ℕ → ℕ → Option (List ℕ)
+told_sector z at mask bytes i = if bit_of mask (at + i) == 1 then Some (bytes_at bytes (z * i) z) else None
+
+-- none of so many sectors was found
+abbrev pub NoneFound : ℕ → ℕ → List ℕ → Type 0
+NoneFound count at mask = (i : ℕ) → i < count → bit_of mask (at + i) ≡ 0
+
+-- What layers add to what was found.
+pub record LayersAreAdded : Type 0 where
+  -- What an upper layer adds, and then a lower one, is what the one on top of the other adds.
+  pub over : (upper lower : chain.Layer) (z first count at : ℕ) (mask found new_mask old between new : List ℕ) → AddsOwned upper z first count at mask found old between → AddsOwned lower z first count at found new_mask between new
+      → AddsOwned (chain.over upper lower) z first count at mask new_mask old new
+  -- Where none was found before, mask and bytes then tell the layer,
+  pub tells : (layer : chain.Layer) (z first count at : ℕ) (old_mask new_mask old new : List ℕ) → NoneFound count at old_mask → AddsOwned layer z first count at old_mask new_mask old new
+      → (i : ℕ) → i < count → layer (first + i) ≡ told_sector z at new_mask new i
+  -- and the bytes of each sector are the layer's, or what they were.
+  pub bytes : (layer : chain.Layer) (z first count at : ℕ) (old_mask new_mask old new : List ℕ) → NoneFound count at old_mask → AddsOwned layer z first count at old_mask new_mask old new
+      → (i : ℕ) → i < count → bytes_at new (z * i) z ≡ unwrap_or (layer (first + i)) (bytes_at old (z * i) z)

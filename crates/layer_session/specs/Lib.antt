@@ -6,4 +6,8 @@ pub mod Calls
 pub mod Begins
 pub mod Reading
 pub mod Steps
+pub mod Prepared
+pub mod Bringing
+pub mod Taking
+pub mod ReadOnly
 pub mod Laws

@@ -1,5 +1,5 @@
 -- The steps of a layer's calls.
-use Rattle.std.specs.Prelude.{◌≡◌, ◌≢◌, ◌⊎◌, ℕ, ◌*◌, ◌/◌, ◌%◌, ◌^◌, Bool, true, false, List}
+use Rattle.std.specs.Prelude.{◌≡◌, ◌⊎◌, ℕ, ◌-◌, ◌*◌, ◌/◌, ◌%◌, ◌^◌, Bool, true, false, List}
 use Rattle.vhdx_format.specs.Fields.{megabyte}
 use Rattle.vhdx_format.specs.Layers.{Shape, entry_of, bitmap_entry_of, table_entry}
 use Rattle.store_model.specs.Disk.{Disk, WhereTold}
@@ -37,23 +37,28 @@ has_room trims first count l disk = WhereTold disk.told (λ trace. plans.has_roo
 
 -- ---- what is at hand
 
--- the pages that a planned step changes are among the changed ones; what a new sector bitmap block changes isn't there yet
+-- the first sector of the block that a sector lies in
+abbrev pub first_in_block : Shape → ℕ → ℕ
+first_in_block p sector = sector - sector * p.sector % p.block / p.sector
+
+-- The pages that a planned step changes are among the changed ones: that of the block's entry, and those of the bits that it sets, of
+-- a block that is made in part all of its bits.
 pub record HasPages (t : Tables) (first count : ℕ) (plan : Plan) : Type 0 where
   pub entry : (plan.step ≡ Drop) ⊎ ((plan.step ≡ Make) ⊎ (plan.step ≡ MakePart)) → has_place (page_place (entry_place t.parts (entry_of (tables.shape_of t.parts) first))) t.pending ≡ true
   pub bits : plan.step ≡ Mark → AreChanged (plan.bitmap / 2 ^ 20 * megabyte) (first % 2 ^ 23 / 32768) (bit_pages (first % 2 ^ 23) count) t.pending
-  pub bitmap : plan.step ≡ MakePart → plan.bitmap % 8 ≢ 6 → has_place (page_place (entry_place t.parts (bitmap_entry_of (tables.shape_of t.parts) first))) t.pending ≡ true
+  pub all_bits : plan.step ≡ MakePart → AreChanged (plan.bitmap / 2 ^ 20 * megabyte) (first_in_block (tables.shape_of t.parts) first % 2 ^ 23 / 32768)
+      (bit_pages (first_in_block (tables.shape_of t.parts) first % 2 ^ 23) (t.parts.block / t.parts.sector)) t.pending
 
 -- the space gives so many blocks of this size, and so many sector bitmap blocks, in whatever order they are taken
 abbrev pub HasRoomFor : ℕ → ℕ → ℕ → Space → Type 0
 HasRoomFor units payloads bitmaps space = (blocks : List Block) → payloads_of blocks ≡ payloads → bitmaps_of blocks ≡ bitmaps → all_given units blocks space ≡ true
 
--- What is planned is still to be done: by the file as held each step is the one for its block. Of a sector bitmap block that was
--- missing another step may have made it meanwhile.
+-- What is planned is still to be done: by the file as held each step is the one for its block, and where sectors are marked their
+-- sector bitmap block is there.
 pub record IsToDo (p : Shape) (file : List ℕ) (trims : Bool) (first count : ℕ) (plan : Plan) : Type 0 where
   pub step : plan.step ≡ plans.step_of p file trims first count
   pub word : plan.word ≡ table_entry p file (entry_of p first)
-  pub bitmap : plans.is_marking plan.step ≡ true → plan.bitmap % 8 ≡ 6 → plan.bitmap ≡ table_entry p file (bitmap_entry_of p first)
-  pub marked : plan.step ≡ Mark → plan.bitmap % 8 ≡ 6
+  pub bitmap : plans.is_marking plan.step ≡ true → (plan.bitmap % 8 ≡ 6) × (plan.bitmap ≡ table_entry p file (bitmap_entry_of p first))
 
 -- The rest of a call.
 pub record Wants (l : Layer) (k first count : ℕ) (trims : Bool) (trace : Trace) : Type 0 where

@@ -1,27 +1,28 @@
 //! A file in a session, as the layer that it is in a chain.
 
-ghost use Rattle.std.specs.Prelude.{◌≡◌, ◌+◌, ◌-◌, ◌*◌, ◌/◌, ◌^◌, ◌<◌, ◌≤◌, ◌↔◌, ℕ, Bool, List, [], length, All, IsTrue, IfOk, IfErr, OnOk, OnErr, Ok, Err};
+ghost use Rattle.std.specs.Prelude.{◌≡◌, ◌⊎◌, ◌+◌, ◌-◌, ◌*◌, ◌/◌, ◌^◌, ◌<◌, ◌≤◌, ◌↔◌, ℕ, Bool, List, [], length, map, All, IsTrue, IfOk, IfErr, OnOk, OnErr, Ok, Err};
 ghost use Rattle.store_model.specs.Disk.{ReadFailed, WhereTold, WhereBothTold};
 ghost use Rattle.store_model.specs.Plans.{FailsToChange};
 ghost use Rattle.vx_base.specs.Fields.{zeros};
 ghost use Rattle.vx_base.specs.declared.parts.Parts as declared;
 ghost use Rattle.vhdx_format.specs.Fields.{megabyte};
 ghost use Rattle.vhdx_format.specs.FileParts.{HasNumbers};
-ghost use Rattle.vhdx_format.specs.SectorBitmaps.{bit_of, bit_value};
 ghost use Rattle.log_write.specs.Writing.{BeginFails, CanCommit};
-ghost use Rattle.table_pages.specs.Held.{IsNew};
+ghost use Rattle.table_pages.specs.Held.{IsNew, shape_of};
+ghost use Rattle.block_alloc.specs.Spaces as spaces;
 ghost use Rattle.chain_model.specs.Layers as chain;
 ghost use Rattle.layer_session.specs.Calls as calls;
 ghost use Rattle.layer_session.specs.Calls.{AddsOwned, Fails, HasCommitted, HasEnded, HasPut, HoldsRest, IsSame, KeepsOver, PutsInto, own_bytes, with_bytes};
 ghost use Rattle.layer_session.specs.Keeping.{IsHeld, IsReadable, IsReady};
 ghost use Rattle.layer_session.specs.Begins.{BeginsOver, CanServe, HasBegun, IsOf};
-ghost use Rattle.layer_session.specs.Steps.{StandFrom};
+ghost use Rattle.layer_session.specs.Bringing.{SaysAllSame};
+ghost use Rattle.layer_session.specs.Steps.{StandFrom, held_by};
+ghost use Rattle.layer_session.specs.Taking.{IsBroken, IsDone, KeepsEntries};
 
 use crate::planning::{Plan, Step};
-use crate::reading::own_all;
+use crate::reading::own_missing;
 use block_alloc::Alloc;
 use log_write::{Log, SessionIds};
-use sector_bits::first_run;
 use std::alloc::Global;
 use store_model::{SealFault, Store, StoreFault};
 use table_pages::{TableParts, Tables};
@@ -155,44 +156,7 @@ impl Layer {
         ensures stays { OnOk result (S.disk store.new ≡ S.disk store.old) }
         ensures err { IfErr result (ReadFailed self.old.tables.parts.file (S.disk store.old) (S.disk store.new)) }
     {
-        if count == 0 {
-            return Ok(());
-        }
-        let run = first_run(mask, at, count as usize);
-        let len = run.count as u64;
-        let (piece, rest) = out.split_at_mut((u64::from(self.tables.parts.sector) * len) as usize);
-        self.add_run(store, run.set, first, len, piece, mask, at)?;
-        self.own(store, first + len, count - len, rest, mask, at + run.count)?;
-        Ok(())
-    }
-
-    // The same of sectors of which all were found, or none.
-    fn add_run<S: Store>(
-        &mut self,
-        store: &mut S,
-        found: bool,
-        first: u64,
-        count: u64,
-        out: &mut [u8],
-        mask: &mut [u8],
-        at: usize,
-    ) -> Result<(), StoreFault>
-        requires readable { IsReadable self.old (S.disk store.old) }
-        requires on_disk { first + count ≤ self.old.tables.parts.sectors }
-        requires out { length out.old ≡ self.old.tables.parts.sector * count }
-        requires mask { at + count ≤ 8 * length mask.old }
-        requires ends { at + count < 2 ^ 64 }
-        requires all { (i : ℕ) → at ≤ i → i < at + count → bit_of mask.old i ≡ bit_value found }
-        ensures owned { OnOk result ((parts : declared.Parts) (layer : chain.Layer) → WhereTold (S.disk store.old).told (λ trace. IsHeld self.old parts layer (own_bytes self.old trace) → AddsOwned layer self.old.tables.parts.sector first count at mask.old mask.new out.old out.new)) }
-        ensures same { IsSame self.old self.new (S.disk store.old) }
-        ensures stays { OnOk result (S.disk store.new ≡ S.disk store.old) }
-        ensures err { IfErr result (ReadFailed self.old.tables.parts.file (S.disk store.old) (S.disk store.new)) }
-    {
-        if found {
-            return Ok(());
-        }
-        own_all(&mut self.tables, store, first, count, out, mask, at)?;
-        Ok(())
+        own_missing(&mut self.tables, store, first, count, out, mask, at)
     }
 
     /// Commits: a crash leaves from then on what the layer has. After a fault the file is to be written no more.
@@ -204,8 +168,13 @@ impl Layer {
         ensures committed { OnOk result (WhereBothTold (HasCommitted self.old self.new) (S.disk store.old).told (S.disk store.new).told) }
         ensures ready { OnOk result (IsReady self.new (S.disk store.new)) }
         ensures empty { OnOk result (self.new.tables.pending ≡ []) }
-        ensures number { OnOk result (self.new.log.number ≤ self.old.log.number + 1) }
+        ensures number { self.new.log.number ≤ self.old.log.number + 1 }
         ensures parts { self.new.tables.parts ≡ self.old.tables.parts }
+        ensures leave { self.new.leave ≡ self.old.leave }
+        ensures plans { self.new.plans ≡ self.old.plans }
+        // The tables say the same, and places that were freed can be taken.
+        ensures says { OnOk result (WhereBothTold (λ before after. SaysAllSame (shape_of self.old.tables.parts) (held_by self.old before) (held_by self.new after)) (S.disk store.old).told (S.disk store.new).told) }
+        ensures space { OnOk result ((self.new.space ≡ self.old.space) ⊎ (self.new.space ≡ record self.old.space { freed = map spaces.committed self.old.space.freed })) }
         ensures broken { OnErr result (IsReadable self.new (S.disk store.new) × WhereBothTold (HoldsRest self.old self.new 0 0) (S.disk store.old).told (S.disk store.new).told) }
         ensures counts { OnOk result (S.disk store.new ≡ record (S.disk store.old) { told = (S.disk store.new).told }) }
         ensures err { IfErr result (FailsToChange self.old.tables.parts.file (S.disk store.old) (S.disk store.new)) }
@@ -249,11 +218,11 @@ impl Layer {
         requires on_disk { first + calls.sectors_in self.now bytes.now ≤ self.now.tables.parts.sectors }
         requires stand { WhereTold (S.disk store.old).told (λ trace. StandFrom self.now first (calls.sectors_in self.now bytes.now) place trace) }
         ensures moments { WhereBothTold (PutsInto self.now first (calls.sectors_in self.now bytes.now)) (S.disk store.old).told (S.disk store.new).told }
-        ensures put { OnOk result (WhereBothTold (HasPut self.now self.now first (calls.sectors_in self.now bytes.now) (with_bytes self.now.tables.parts.sector first (calls.sectors_in self.now bytes.now) bytes.now)) (S.disk store.old).told (S.disk store.new).told) }
+        ensures done { OnOk result (IsDone self.now self.now first (calls.sectors_in self.now bytes.now) (with_bytes self.now.tables.parts.sector first (calls.sectors_in self.now bytes.now) bytes.now) (S.disk store.old) (S.disk store.new)) }
+        // No table changes.
+        ensures same { OnOk result (WhereBothTold (KeepsEntries self.now self.now) (S.disk store.old).told (S.disk store.new).told) }
         // A write that failed may have left any bytes of those sectors.
-        ensures broken { OnErr result (IsReadable self.now (S.disk store.new) × WhereBothTold (HoldsRest self.now self.now first (calls.sectors_in self.now bytes.now)) (S.disk store.old).told (S.disk store.new).told) }
-        ensures counts { OnOk result (S.disk store.new ≡ record (S.disk store.old) { told = (S.disk store.new).told }) }
-        ensures err { IfErr result (Fails self.now.tables.parts.file (S.disk store.old) (S.disk store.new)) }
+        ensures broken { IfErr result (IsBroken self.now self.now first (calls.sectors_in self.now bytes.now) (S.disk store.old) (S.disk store.new)) }
     {
         let _first = first;
         match self.log.write(store, place, bytes) {

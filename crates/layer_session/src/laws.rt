@@ -1,6 +1,6 @@
 //! What is known of a file that a layer serves. The functions do nothing; each carries a law.
 
-ghost use Rattle.layer_session.specs.Laws.{CommitsAreServed, LayersAreKept, LayersStand, PlacesAreTaken, TakenIsServed, WritesAreServed};
+ghost use Rattle.layer_session.specs.Laws.{CommitsAreServed, LayersAreAdded, LayersAreKept, LayersStand, PlacesAreTaken, TakenIsServed, WritesAreServed};
 
 /// Whatever a crash leaves of a file that a layer serves is opened to the layer outside the loose sectors.
 pub fn layers_are_kept()
@@ -27,4 +27,10 @@ pub fn commits_are_served()
 pub fn places_are_taken()
     ensures images { PlacesAreTaken }
     ensures behind { TakenIsServed }
+{}
+
+/// Layers that are read one after the other, the upper one first, are read as one on top of the other; and where no sector was
+/// found before, mask and bytes tell what is read.
+pub fn layers_are_added()
+    ensures { LayersAreAdded }
 {}

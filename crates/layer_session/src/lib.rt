@@ -5,10 +5,15 @@ mod file;
 mod geometry;
 mod laws;
 mod planning;
+mod preparing;
+mod read_layer;
 mod reading;
 mod steps;
+mod writing;
 
 pub use file::{Layer, LayerFault};
 pub use laws::{
-    commits_are_served, layers_are_kept, layers_stand, places_are_taken, writes_are_served,
+    commits_are_served, layers_are_added, layers_are_kept, layers_stand, places_are_taken,
+    writes_are_served,
 };
+pub use read_layer::{ReadLayer, own_through, read_layers_stand};

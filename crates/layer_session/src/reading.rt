@@ -1,13 +1,14 @@
 //! Sectors are read by the tables of their file. No table is changed.
 
-ghost use Rattle.std.specs.Prelude.{◌≡◌, ◌+◌, ◌*◌, ◌%◌, ◌^◌, ◌<◌, ◌≤◌, ◌⊎◌, min, length, true, OnOk, IfErr, ◌-◌};
+ghost use Rattle.std.specs.Prelude.{◌≡◌, ◌+◌, ◌*◌, ◌%◌, ◌^◌, ◌<◌, ◌≤◌, ◌⊎◌, ℕ, min, length, true, OnOk, IfErr, ◌-◌};
 ghost use Rattle.store_model.specs.Disk.{ReadFailed, WhereTold};
 ghost use Rattle.store_model.specs.File.{seen};
 ghost use Rattle.store_model.specs.Trace.{file_of};
 ghost use Rattle.vx_base.specs.Fields.{zeros};
 ghost use Rattle.vhdx_format.specs.Layers.{entry_of, place_at, state_at};
+ghost use Rattle.vhdx_format.specs.SectorBitmaps.{bit_of, bit_value};
 ghost use Rattle.table_pages.specs.Held.{held_file, shape_of};
-ghost use Rattle.layer_session.specs.Calls.{HasOwned};
+ghost use Rattle.layer_session.specs.Calls.{AddsOwned, HasOwned};
 ghost use Rattle.layer_session.specs.Keeping.{IsPartAt};
 ghost use Rattle.layer_session.specs.Reading.{AreStored, layer_by, marked_layer, run_layer};
 ghost use Rattle.layer_session.specs.TablesRead.{AreBitsThere, AreReadable, HasRead};
@@ -107,9 +108,80 @@ fn own_marked<S: Store>(
     Ok(())
 }
 
-/// Which of the sectors from `first` on the file has, as bits of the mask from `at` on, and the bytes of those. The bytes of the
-/// others stay.
-pub fn own_all<S: Store>(
+/// Adds what the file has of so many sectors from `first` on to what was found of them: their bytes, and their bits in the
+/// mask from `at` on. What was found stays as it is, and isn't read.
+pub fn own_missing<S: Store>(
+    tables: &mut Tables,
+    store: &mut S,
+    first: u64,
+    count: u64,
+    out: &mut [u8],
+    mask: &mut [u8],
+    at: usize,
+) -> Result<(), StoreFault>
+    requires readable { AreReadable tables.old (S.disk store.old) }
+    requires stored { WhereTold (S.disk store.old).told (λ trace. AreStored (shape_of tables.old.parts) (seen (file_of trace tables.old.parts.file)) (held_file tables.old trace)) }
+    requires on_disk { first + count ≤ tables.old.parts.sectors }
+    requires out { length out.old ≡ tables.old.parts.sector * count }
+    requires mask { at + count ≤ 8 * length mask.old }
+    requires ends { at + count < 2 ^ 64 }
+    ensures added { OnOk result (WhereTold (S.disk store.old).told (λ trace. AddsOwned (layer_by tables.old trace) tables.old.parts.sector first count at mask.old mask.new out.old out.new)) }
+    ensures reads { HasRead tables.old tables.new (S.disk store.old) }
+    ensures stays { OnOk result (S.disk store.new ≡ S.disk store.old) }
+    ensures err { IfErr result (ReadFailed tables.old.parts.file (S.disk store.old) (S.disk store.new)) }
+{
+    if count == 0 {
+        return Ok(());
+    }
+    let run = first_run(mask, at, count as usize);
+    let len = run.count as u64;
+    let (piece, rest) = out.split_at_mut((u64::from(tables.parts.sector) * len) as usize);
+    add_run(tables, store, run.set, first, len, piece, mask, at)?;
+    own_missing(
+        tables,
+        store,
+        first + len,
+        count - len,
+        rest,
+        mask,
+        at + run.count,
+    )?;
+    Ok(())
+}
+
+// The same of sectors of which all were found, or none.
+fn add_run<S: Store>(
+    tables: &mut Tables,
+    store: &mut S,
+    found: bool,
+    first: u64,
+    count: u64,
+    out: &mut [u8],
+    mask: &mut [u8],
+    at: usize,
+) -> Result<(), StoreFault>
+    requires readable { AreReadable tables.old (S.disk store.old) }
+    requires stored { WhereTold (S.disk store.old).told (λ trace. AreStored (shape_of tables.old.parts) (seen (file_of trace tables.old.parts.file)) (held_file tables.old trace)) }
+    requires on_disk { first + count ≤ tables.old.parts.sectors }
+    requires out { length out.old ≡ tables.old.parts.sector * count }
+    requires mask { at + count ≤ 8 * length mask.old }
+    requires ends { at + count < 2 ^ 64 }
+    requires all { (i : ℕ) → at ≤ i → i < at + count → bit_of mask.old i ≡ bit_value found }
+    ensures added { OnOk result (WhereTold (S.disk store.old).told (λ trace. AddsOwned (layer_by tables.old trace) tables.old.parts.sector first count at mask.old mask.new out.old out.new)) }
+    ensures reads { HasRead tables.old tables.new (S.disk store.old) }
+    ensures stays { OnOk result (S.disk store.new ≡ S.disk store.old) }
+    ensures err { IfErr result (ReadFailed tables.old.parts.file (S.disk store.old) (S.disk store.new)) }
+{
+    if found {
+        return Ok(());
+    }
+    own_all(tables, store, first, count, out, mask, at)?;
+    Ok(())
+}
+
+// Which of the sectors from `first` on the file has, as bits of the mask from `at` on, and the bytes of those. The bytes of the
+// others stay.
+fn own_all<S: Store>(
     tables: &mut Tables,
     store: &mut S,
     first: u64,

@@ -1,12 +1,6 @@
-use Rattle.std.proofs.Common.{◌≡◌, ◌+◌, ◌*◌, ◌/◌, ◌%◌, ◌^◌, ◌<◌, ◌≤◌, true, false, length, ℕ, ◌-◌, List, [], ◌∷◌, ◌++◌, Bool, arith, refl, sym, subst, ap}
-use Rattle.std.specs.Prelude.{Result, Ok, Err, IfOk}
-use Rattle.store_model.specs.Disk.{Disk, WhereTold}
-use Rattle.store_model.specs.declared.fault.StoreFault.{StoreFault}
-use Rattle.table_pages.specs.Held.{held_file, shape_of}
-use Rattle.table_pages.specs.declared.tables.Tables.{Tables}
-use Rattle.layer_session.specs.Planning as spec
+use Rattle.std.proofs.Common.{◌≡◌, ◌+◌, ◌≤◌, true, false, ◌-◌, arith, sym, subst}
 use Rattle.layer_session.specs.TablesRead.{AreReadable, HasRead, AreBitsThere}
-use Rattle.layer_session.proofs.Planned.{bits_there_again, marked_on, marked_then, not_marked, read_again, read_then, same_bitmap}
+use Rattle.layer_session.proofs.Planned.{bits_there_again, marked_then, not_marked, read_again, read_then, same_bitmap}
 use Rattle.layer_session.proofs.planning.+are_marked.Goals as goal
 
 pub returns-then-not-branch-clause-marked : goal.returns-then-not-branch-clause-marked

@@ -1,15 +1,14 @@
-use Rattle.std.proofs.Common.{◌≡◌, ◌+◌, ◌*◌, ◌/◌, ◌%◌, ◌^◌, ◌<◌, ◌≤◌, ℕ, length, slice_get, ◌-◌, arith, refl, sym, subst, ap, ◌∙◌}
-use Rattle.table_pages.specs.Held.{held_file, shape_of}
-use Rattle.layer_session.specs.Planning as spec
+use Rattle.std.proofs.Common.{◌+◌, ◌<◌, ◌≤◌, ◌-◌, arith, refl, sym, subst, ap, ◌∙◌}
+use Rattle.table_pages.specs.Held.{shape_of}
 use Rattle.layer_session.specs.Blocks as blocks
-use Rattle.layer_session.specs.Planning.{IsLooked, IsPlanned, nothing}
+use Rattle.layer_session.specs.Planning.{nothing}
 use Rattle.layer_session.specs.TablesRead.{AreReadable, HasRead}
 use Rattle.store_model.specs.Disk.{Disk}
 use Rattle.std.proofs.lemmas.List.{length-set}
 use Rattle.std.specs.Prelude.{None, false}
 use Rattle.layer_session.proofs.Counting.{set_beside, set_here}
 use Rattle.layer_session.proofs.Looked.{counted_then, few_then, looked_none, looked_then, rest_few}
-use Rattle.layer_session.proofs.Planned.{read_again, read_then, same_held}
+use Rattle.layer_session.proofs.Planned.{read_again, read_then}
 use Rattle.layer_session.proofs.planning.+look.Goals as goal
 
 pub returns-then-count-eq0-clause-looked : goal.returns-then-count-eq0-clause-looked

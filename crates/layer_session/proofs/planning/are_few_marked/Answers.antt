@@ -1,4 +1,4 @@
-use Rattle.std.proofs.Common.{rules, ◌-◌, ◌%◌, ◌*◌, ◌+◌, ◌≤◌, ◌≡◌, length, arith}
+use Rattle.std.proofs.Common.{rules, ◌-◌, ◌%◌, arith}
 use Rattle.layer_session.proofs.Planned.{bits_reads, bits_tell, has_bitmap, same_bitmap}
 use Rattle.layer_session.proofs.planning.are_few_marked.Goals as goal
 

@@ -1,4 +1,4 @@
-use Rattle.std.proofs.Common.{◌≡◌, ◌≢◌, ◌⊎◌, ◌%◌, ◌∙◌, true, false, inl, inr, sym, subst, refl, arith}
+use Rattle.std.proofs.Common.{◌≡◌, ◌≢◌, ◌⊎◌, ◌%◌, ◌∙◌, true, false, inl, inr, sym, subst, arith}
 use Rattle.layer_session.specs.TablesRead.{HasRead}
 use Rattle.table_pages.specs.Held.{held_file, shape_of}
 use Rattle.vhdx_format.specs.Layers.{table_entry}

@@ -1,5 +1,5 @@
-use Rattle.std.proofs.Common.{◌≡◌, sym, subst, refl, arith}
-use Rattle.layer_session.specs.TablesRead.{AreReadable, HasRead}
+use Rattle.std.proofs.Common.{subst}
+use Rattle.layer_session.specs.TablesRead.{HasRead}
 use Rattle.layer_session.proofs.Planned.{entry_reads, read_then}
 use Rattle.layer_session.proofs.planning.plan_part.Goals as goal
 

@@ -1,9 +1,18 @@
-use Rattle.std.proofs.Common.{◌≡◌, ◌≤◌, ◌+◌, ◌-◌, ◌*◌, arith, ap, sym, subst, ◌∙◌}
+use Rattle.std.proofs.Common.{◌+◌, ◌-◌, ◌*◌, arith, ap, subst, ◌∙◌}
 use Rattle.layer_session.specs.TablesRead.{HasRead}
 use Rattle.layer_session.proofs.Owned.{owned_rest}
-use Rattle.layer_session.proofs.Parted.{owned_again}
+use Rattle.layer_session.proofs.Parted.{owned_again, reads_rest}
 use Rattle.layer_session.proofs.Planned.{read_then}
 use Rattle.layer_session.proofs.reading.+own_all.Goals as goal
+
+pub own_all-requires : goal.own_all-requires
+own_all-requires g n c κs within =
+    let asked = reads_rest c.args.tables.now c.own_run.new.tables (g.S.Store.disk c.args.store.now) (g.S.Store.disk c.own_run.new.store) c.own_run.ensures.reads c.in_ok-own_run.ensures.stays c.requires.readable c.requires.stored c.args.first
+    c.run_in_block-len.result c.args.count c.args.out.now c.split_at_mut-run.result.0.now c.split_at_mut-run.result.1.now c.run_in_block-len.ensures.most c.requires.on_disk c.requires.out c.split_at_mut-run.ensures.value
+    (c.split_at_mut-run.ensures.front_len ∙ ap (λ s. s * c.run_in_block-len.result) c.from.ensures) in (
+      omega arith,
+      (within.0, (within.1, (asked.readable, (asked.stored, (asked.on_disk, (asked.long, (omega arith, omega arith))))))),
+    )
 
 pub returns-in_err-own_all-clause-reads : goal.returns-in_err-own_all-clause-reads
 returns-in_err-own_all-clause-reads g n c =

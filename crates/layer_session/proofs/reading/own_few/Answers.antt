@@ -1,9 +1,9 @@
-use Rattle.std.proofs.Common.{rules, ◌-◌, ◌%◌, ◌*◌, ◌+◌, ◌≤◌, ◌≡◌, length, arith, ap, sym, subst, ◌∙◌}
+use Rattle.std.proofs.Common.{rules, ◌-◌, ◌%◌, arith, ap, ◌∙◌}
 use Rattle.store_model.specs.File.{seen}
 use Rattle.store_model.specs.Trace.{file_of}
 use Rattle.table_pages.specs.Held.{held_file}
 use Rattle.layer_session.proofs.Planned.{bits_reads, has_bitmap, same_bitmap}
-use Rattle.layer_session.proofs.Parted.{part_owned, part_within}
+use Rattle.layer_session.proofs.Parted.{part_owned}
 use Rattle.layer_session.proofs.reading.own_few.Goals as goal
 
 pub returns-clause-owned : goal.returns-clause-owned

@@ -1,10 +1,9 @@
-use Rattle.std.proofs.Common.{◌≡◌, ◌≢◌, ◌≤◌, ◌<◌, ◌+◌, ◌*◌, ◌%◌, ◌/◌, ◌^◌, ◌⊎◌, length, ℕ, Bool, true, false, arith, refl, ap, sym, subst, ◌∙◌, inl, inr}
+use Rattle.std.proofs.Common.{◌≡◌, ◌+◌, ◌*◌, ◌%◌, ◌/◌, ◌^◌, ap, sym, subst, ◌∙◌, inl}
 use Rattle.std.specs.Prelude.{min, ◌-◌}
 use Rattle.vx_base.specs.Fields.{zeros}
 use Rattle.vhdx_format.specs.Fields.{megabyte}
 use Rattle.store_model.specs.File.{seen}
-use Rattle.store_model.specs.Trace.{Trace, file_of}
-use Rattle.store_model.specs.Disk.{Disk}
+use Rattle.store_model.specs.Trace.{file_of}
 use Rattle.vhdx_format.specs.Layers.{entry_of, state_at, table_entry}
 use Rattle.table_pages.specs.Held.{held_file, shape_of}
 use Rattle.layer_session.specs.TablesRead.{AreReadable, HasRead}

@@ -1,4 +1,4 @@
-use Rattle.std.proofs.Common.{◌≡◌, ◌∙◌, [], ap}
+use Rattle.std.proofs.Common.{◌∙◌, [], ap, arith}
 use Rattle.block_alloc.specs.Spaces.{Space}
 use Rattle.layer_session.specs.declared.file.Layer.{Layer}
 use Rattle.layer_session.proofs.Beginning.{is_made, begin_moments, begin_none, begin_ready, begin_served}
@@ -19,7 +19,7 @@ pub returns-clause-served : goal.returns-clause-served
 returns-clause-served g c =
     let l : Layer = record { tables = c.in-Ok.room.tables; log = c.in_ok-log.log; space = c.new-space.result; leave = c.args.parts.now.leave; zeros = c.in-Ok.room.zeros; plans = c.in-Ok.room.plans } in
     let made = is_made c.args.parts.now c.args.ids c.args.file c.file_len.result c.new.result l c.in-Ok.ensures.tables c.new.ensures.file c.new.ensures.shape c.new.ensures.len c.in_ok-log.ensures.log c.file_len.ensures
-    (c.new-space.ensures ∙ ap (λ n. (let s : Space = record { next = n; freed = [] } in s)) c.div_ceil.ensures) in
+    (c.new-space.ensures ∙ ap (λ n. (let s : Space = record { next = n; freed = [] } in s)) c.div_ceil.ensures) (omega arith) in
     begin_served c.args.parts.now c.args.ids c.args.file c.new.result l (g.S.Store.disk c.args.store.now) (g.S.Store.disk c.begin.new.store) c.requires.numbers c.requires.ready made (c.in_ok-log.ensures.rest c.requires.low)
     (c.in_ok-log.ensures.running c.requires.low) c.begin.ensures.only
 
@@ -27,6 +27,6 @@ pub returns-clause-ready : goal.returns-clause-ready
 returns-clause-ready g c =
     let l : Layer = record { tables = c.in-Ok.room.tables; log = c.in_ok-log.log; space = c.new-space.result; leave = c.args.parts.now.leave; zeros = c.in-Ok.room.zeros; plans = c.in-Ok.room.plans } in
     let made = is_made c.args.parts.now c.args.ids c.args.file c.file_len.result c.new.result l c.in-Ok.ensures.tables c.new.ensures.file c.new.ensures.shape c.new.ensures.len c.in_ok-log.ensures.log c.file_len.ensures
-    (c.new-space.ensures ∙ ap (λ n. (let s : Space = record { next = n; freed = [] } in s)) c.div_ceil.ensures) in
+    (c.new-space.ensures ∙ ap (λ n. (let s : Space = record { next = n; freed = [] } in s)) c.div_ceil.ensures) (omega arith) in
     begin_ready c.args.parts.now c.args.ids c.args.file c.new.result l (g.S.Store.disk c.args.store.now) (g.S.Store.disk c.begin.new.store) c.requires.numbers c.requires.ready made (c.in_ok-log.ensures.rest c.requires.low)
     (c.in_ok-log.ensures.running c.requires.low) c.begin.ensures.only c.requires.there c.in_ok-log.ensures.counts c.in-Ok.ensures.zeros c.in-Ok.ensures.plans

@@ -1,17 +1,21 @@
-use Rattle.std.proofs.Common.{◌≡◌, sym, subst, List, [], map, All, true, false, ap, ◌∙◌}
-use Rattle.store_model.specs.Disk.{Disk, WhereBothTold}
-use Rattle.store_model.specs.Plans.{FailsToChange}
+use Rattle.std.proofs.Common.{◌≡◌, sym, subst, List, [], map}
+use Rattle.store_model.specs.Disk.{WhereBothTold}
 use Rattle.block_alloc.specs.Spaces as spaces
 use Rattle.vhdx_format.specs.declared.log_entry.Page.{Page}
 use Rattle.log_write.specs.Sessions.{LogState}
-use Rattle.log_write.specs.Writing.{CanCommit, committed}
+use Rattle.log_write.specs.Writing.{committed}
 use Rattle.layer_session.specs.declared.file.Layer.{Layer}
 use Rattle.layer_session.specs.Calls.{HasCommitted, HoldsRest}
 use Rattle.layer_session.specs.Keeping.{IsReadable, IsReady}
 use Rattle.log_write.proofs.Failed.{on_err}
 use Rattle.layer_session.proofs.Committed.{layer_behind}
-use Rattle.layer_session.proofs.Committing.{Runs, left_out, commit_moments, commit_ready, commit_served}
+use Rattle.layer_session.proofs.Committing.{Runs, commit_moments, commit_ready, commit_served, left_out}
 use Rattle.layer_session.proofs.Failing.{holds_rest, readable_still, with_log}
+use Rattle.store_model.specs.File.{seen}
+use Rattle.store_model.specs.Trace.{file_of}
+use Rattle.table_pages.specs.Held.{held, shape_of}
+use Rattle.layer_session.specs.Bringing.{SaysAllSame}
+use Rattle.layer_session.proofs.Says.{commit_says_told}
 use Rattle.layer_session.proofs.file.Layer.commit.Goals as goal
 
 pub returns-clause-moments : goal.returns-clause-moments
@@ -61,3 +65,18 @@ returns-in_err-commit-clause-broken g c =
     ) in
     on_err c.from_residual.result
     (subst (λ (p : List Page). (let then : Layer = record l { tables = record (l.tables) { pending = p }; log = c.commit.new.self } in IsReadable then new × WhereBothTold (HoldsRest l then 0 0) old.told new.told)) kept both)
+
+pub returns-clause-says : goal.returns-clause-says
+returns-clause-says g c =
+    let l : Layer = c.args.self.now in
+    let taken : c.commit.new.pending ≡ [] = c.in_ok-commit.ensures.taken in
+    let old = g.S.Store.disk c.args.store.now in
+    let new = g.S.Store.disk c.commit.new.store in
+    subst (λ (p : List Page). WhereBothTold (λ before after. SaysAllSame (shape_of l.tables.parts) (held l.tables.pending (seen (file_of before l.tables.parts.file))) (held p (seen (file_of after l.tables.parts.file)))) old.told new.told) (sym taken)
+    (commit_says_told l old new c.requires.ready c.in_ok-commit.ensures.content)
+
+pub returns-then-not-can_commit-clause-ready : goal.returns-then-not-can_commit-clause-ready
+returns-then-not-can_commit-clause-ready g c =
+    let l : Layer = c.args.self.now in
+    subst (λ (pages : List Page). (let n : Layer = record l { tables = record (l.tables) { pending = pages } } in IsReady n (g.S.Store.disk c.args.store.now))) (sym c.clear.ensures)
+    (left_out l (g.S.Store.disk c.args.store.now) c.requires.ready (λ all. let can = c.can_commit.ensures.1 all in let cannot = c.if-not-can_commit.true in let none : ⊥ = cc in none))

@@ -1,7 +1,9 @@
-use Rattle.std.proofs.Common.{◌≡◌, ◌≤◌, ◌%◌, ◌∙◌, arith, ap, sym}
+use Rattle.std.proofs.Common.{◌/◌, ◌^◌, ◌∙◌, arith, ap, sym}
 use Rattle.vhdx_format.specs.Layers.{table_entry}
 use Rattle.table_pages.specs.Held.{held_file, shape_of}
+use Rattle.layer_session.specs.declared.file.Layer.{Layer}
 use Rattle.layer_session.proofs.Dropping.{drops, drops_place, drops_place_ready, drops_ready}
+use Rattle.layer_session.proofs.Dropped.{drops_others, drops_place_rest, drops_rest}
 use Rattle.layer_session.proofs.file.Layer.drop_block.Goals as goal
 
 pub returns-else-held-clause-dropped : goal.returns-else-held-clause-dropped
@@ -27,3 +29,23 @@ returns-then-can_free-clause-ready g c =
     c.entry_index.ensures.inside c.set_entry.ensures.parts c.set_entry.ensures.set c.set_entry.ensures.tables c.set_entry.ensures.places c.requires.ready
     c.args.word c.block_units-units.result (omega arith) (λ trace told. c.requires.found trace told ∙ ap (table_entry (shape_of c.args.self.now.tables.parts) (held_file c.args.self.now.tables trace)) (sym c.entry_index.ensures.index))
     c.block_units-units.ensures.is c.set_entry.new.self c.free_after_commit.new.self c.set_entry.ensures.only c.free_after_commit.ensures
+
+pub returns-else-held-clause-others : goal.returns-else-held-clause-others
+returns-else-held-clause-others g c t told =
+    drops_others c.args.self.now c.set_entry.new.self (g.S.Store.disk c.args.store.now) c.args.first c.entry_index.result (omega arith) c.entry_index.ensures.index c.entry_index.ensures.inside c.requires.ready c.set_entry.ensures.parts c.set_entry.ensures.set
+    c.set_entry.ensures.tables c.set_entry.ensures.places t told
+
+pub returns-else-held-clause-leaves : goal.returns-else-held-clause-leaves
+returns-else-held-clause-leaves g c = drops_rest c.args.self.now c.set_entry.new.self c.entry_index.result 2 (g.S.Store.disk c.args.store.now) c.set_entry.ensures.only c.set_entry.ensures.parts c.set_entry.ensures.set
+
+pub returns-then-can_free-clause-others : goal.returns-then-can_free-clause-others
+returns-then-can_free-clause-others g c t told =
+    let l : Layer = c.args.self.now in
+    let kept = drops_others l c.set_entry.new.self (g.S.Store.disk c.args.store.now) c.args.first c.entry_index.result (omega arith) c.entry_index.ensures.index c.entry_index.ensures.inside c.requires.ready c.set_entry.ensures.parts c.set_entry.ensures.set
+    c.set_entry.ensures.tables c.set_entry.ensures.places t told in
+    record { others = kept.others }
+
+pub returns-then-can_free-clause-leaves : goal.returns-then-can_free-clause-leaves
+returns-then-can_free-clause-leaves g c =
+    drops_place_rest c.args.self.now c.set_entry.new.self c.entry_index.result 2 (g.S.Store.disk c.args.store.now) c.set_entry.ensures.only c.set_entry.ensures.parts c.set_entry.ensures.set (c.args.word / 2 ^ 20) c.block_units-units.result
+    c.free_after_commit.new.self c.free_after_commit.ensures

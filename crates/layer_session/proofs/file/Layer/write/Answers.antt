@@ -1,7 +1,8 @@
-use Rattle.std.proofs.Common.{◌≡◌, sym, subst, ◌<◌, ◌/◌, length}
+use Rattle.std.proofs.Common.{sym, subst, ◌<◌}
 use Rattle.std.specs.Prelude.{Ok, Err}
 use Rattle.layer_session.specs.Calls.{sectors_in}
-use Rattle.layer_session.proofs.WriteSteps.{write_broken, open_for, within_log, write_moments, write_put}
+use Rattle.layer_session.proofs.WriteEnds.{write_done, write_same, write_stops}
+use Rattle.layer_session.proofs.WriteSteps.{open_for, within_log, write_moments}
 use Rattle.layer_session.proofs.file.Layer.write.Goals as goal
 
 pub write-requires-clause-there : goal.write-requires-clause-there
@@ -24,12 +25,17 @@ returns-in-Err-clause-moments g c =
     write_moments c.args.self.now c.args.first (sectors_in c.args.self.now c.args.bytes.now) c.args.place c.args.bytes.now c.requires.whole c.requires.on_disk (g.S.Store.disk c.args.store.now) (g.S.Store.disk c.write.new.store)
     c.args.self.now.log.file c.requires.ready.one_file c.requires.stand (Err c.in-Err.fault) tt c.in-Err.ensures.err
 
-pub returns-in-Ok-clause-put : goal.returns-in-Ok-clause-put
-returns-in-Ok-clause-put g c =
-    write_put c.args.self.now c.args.first (sectors_in c.args.self.now c.args.bytes.now) c.args.place c.args.bytes.now c.requires.whole c.requires.on_disk (g.S.Store.disk c.args.store.now) (g.S.Store.disk c.write.new.store)
-    c.args.self.now.log.file c.requires.ready.one_file c.requires.stand (Ok tt) c.in-Ok.ensures.ok
+pub returns-in-Ok-clause-done : goal.returns-in-Ok-clause-done
+returns-in-Ok-clause-done g c =
+    write_done c.args.self.now c.args.first (sectors_in c.args.self.now c.args.bytes.now) c.args.place c.args.bytes.now c.requires.whole c.requires.on_disk (g.S.Store.disk c.args.store.now) (g.S.Store.disk c.write.new.store)
+    c.requires.ready c.requires.stand c.in-Ok.ensures.ok
+
+pub returns-in-Ok-clause-same : goal.returns-in-Ok-clause-same
+returns-in-Ok-clause-same g c =
+    write_same c.args.self.now c.args.first (sectors_in c.args.self.now c.args.bytes.now) c.args.place c.args.bytes.now c.requires.whole c.requires.on_disk (g.S.Store.disk c.args.store.now) (g.S.Store.disk c.write.new.store)
+    c.requires.ready c.requires.stand c.in-Ok.ensures.ok
 
 pub returns-in-Err-clause-broken : goal.returns-in-Err-clause-broken
 returns-in-Err-clause-broken g c =
-    write_broken c.args.self.now c.args.first (sectors_in c.args.self.now c.args.bytes.now) c.args.place c.args.bytes.now c.requires.whole c.requires.on_disk (g.S.Store.disk c.args.store.now) (g.S.Store.disk c.write.new.store)
-    c.args.self.now.log.file c.requires.ready.one_file c.requires.ready c.requires.stand c.in-Err.fault c.in-Err.ensures.err
+    write_stops c.args.self.now c.args.first (sectors_in c.args.self.now c.args.bytes.now) c.args.place c.args.bytes.now c.requires.whole c.requires.on_disk (g.S.Store.disk c.args.store.now) (g.S.Store.disk c.write.new.store)
+    c.requires.ready c.requires.stand c.in-Err.fault c.in-Err.ensures.err

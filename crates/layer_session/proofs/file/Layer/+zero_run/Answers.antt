@@ -1,0 +1,88 @@
+use Rattle.std.proofs.Common.{◌≡◌, ◌+◌, ◌-◌, ◌*◌, arith, rules, sym, subst, ap, ◌∙◌, take}
+use Rattle.store_model.specs.Disk.{WhereBothTold, WhereTold}
+use Rattle.layer_session.specs.Calls.{PutsInto, sectors_in, with_zeros}
+use Rattle.layer_session.specs.Steps.{StandFrom}
+use Rattle.layer_session.specs.Taking.{IsBroken, IsDone}
+use Rattle.layer_session.proofs.Joining.{keeps_puts, part_outside, puts_more}
+use Rattle.layer_session.proofs.Zeroing.{broken_more, done_zeros, entries_join, first_stands, join_broken, join_done, join_moments, piece_at, piece_clear, piece_count, piece_long, piece_some, piece_whole, place_small, rest_stands, zeros_join, zeros_off}
+use Rattle.layer_session.proofs.Readying.{quiet_now}
+use Rattle.layer_session.proofs.Told.{if_err, if_err_map, ok_map}
+use Rattle.layer_session.proofs.file.Layer.+zero_run.Goals as goal
+
+pub returns-then-count-eq0-clause-moments : goal.returns-then-count-eq0-clause-moments
+returns-then-count-eq0-clause-moments g t c =
+    keeps_puts c.args.self.now c.args.first c.args.count (g.S.Store.disk c.args.store.now).told (g.S.Store.disk c.args.store.now).told (quiet_now c.args.self.now (g.S.Store.disk c.args.store.now).told)
+
+pub slice_bounds-write-end : goal.slice_bounds-write-end
+slice_bounds-write-end g t c =
+    sym (piece_long c.args.self.now c.from-sector.result c.min-len.result c.from-sector.ensures c.requires.ready.readable.sizes.sector (omega (arith, c.min-len.ensures)) c.deref.result.now (c.deref.ensures.value ∙ c.requires.ready.clear))
+
+pub write-requires-clause-whole : goal.write-requires-clause-whole
+write-requires-clause-whole g t c =
+    let n : sectors_in c.args.self.now (take (c.from-sector.result * c.min-len.result) c.deref.result.now) ≡ c.min-len.result = piece_count c.args.self.now c.from-sector.result c.min-len.result c.from-sector.ensures c.requires.ready.readable.sizes.sector (omega (arith, c.min-len.ensures)) c.deref.result.now (c.deref.ensures.value ∙ c.requires.ready.clear) in
+    piece_whole c.args.self.now c.from-sector.result c.min-len.result c.from-sector.ensures c.requires.ready.readable.sizes.sector (omega (arith, c.min-len.ensures)) c.deref.result.now (c.deref.ensures.value ∙ c.requires.ready.clear) ∙ ap (λ k. c.args.self.now.tables.parts.sector * k) (sym n)
+
+pub write-requires-clause-stand : goal.write-requires-clause-stand
+write-requires-clause-stand g t c =
+    let n : sectors_in c.args.self.now (take (c.from-sector.result * c.min-len.result) c.deref.result.now) ≡ c.min-len.result = piece_count c.args.self.now c.from-sector.result c.min-len.result c.from-sector.ensures c.requires.ready.readable.sizes.sector (omega (arith, c.min-len.ensures)) c.deref.result.now (c.deref.ensures.value ∙ c.requires.ready.clear) in
+    subst (λ k. WhereTold (g.S.Store.disk c.args.store.now).told (λ t. StandFrom c.args.self.now c.args.first k c.args.place t)) (sym n)
+    (first_stands c.args.self.now (g.S.Store.disk c.args.store.now) (g.S.Store.disk c.args.store.now) c.requires.ready c.args.first c.args.count c.args.place c.requires.on_disk (c.requires.stand (omega arith)) c.min-len.result (piece_some c.args.self.now c.from-sector.result c.min-len.result c.from-sector.ensures c.requires.ready.readable.sizes.sector (omega (arith, c.min-len.ensures)) c.deref.result.now (c.deref.ensures.value ∙ c.requires.ready.clear) c.args.count (omega arith) c.min-len.ensures) (omega (arith, c.min-len.ensures)))
+
+pub returns-in_err-write-clause-moments : goal.returns-in_err-write-clause-moments
+returns-in_err-write-clause-moments g t c =
+    let n : sectors_in c.args.self.now (take (c.from-sector.result * c.min-len.result) c.deref.result.now) ≡ c.min-len.result = piece_count c.args.self.now c.from-sector.result c.min-len.result c.from-sector.ensures c.requires.ready.readable.sizes.sector (omega (arith, c.min-len.ensures)) c.deref.result.now (c.deref.ensures.value ∙ c.requires.ready.clear) in
+    puts_more c.args.self.now c.args.first c.args.count c.args.first c.min-len.result (part_outside c.args.first c.args.count c.args.first c.min-len.result (omega arith) (omega (arith, c.min-len.ensures))) (g.S.Store.disk c.args.store.now).told (g.S.Store.disk c.write.new.store).told (subst (λ k. WhereBothTold (PutsInto c.args.self.now c.args.first k) (g.S.Store.disk c.args.store.now).told (g.S.Store.disk c.write.new.store).told) n c.write.ensures.moments)
+
+pub returns-in_err-write-clause-broken : goal.returns-in_err-write-clause-broken
+returns-in_err-write-clause-broken g t c =
+    let n : sectors_in c.args.self.now (take (c.from-sector.result * c.min-len.result) c.deref.result.now) ≡ c.min-len.result = piece_count c.args.self.now c.from-sector.result c.min-len.result c.from-sector.ensures c.requires.ready.readable.sizes.sector (omega (arith, c.min-len.ensures)) c.deref.result.now (c.deref.ensures.value ∙ c.requires.ready.clear) in
+    if_err c.from_residual.result c.in_err-write.field-0.0 _ (search rules)
+    (broken_more c.args.self.now c.args.self.now c.args.first c.args.count c.args.first c.min-len.result (part_outside c.args.first c.args.count c.args.first c.min-len.result (omega arith) (omega (arith, c.min-len.ensures))) (g.S.Store.disk c.args.store.now) (g.S.Store.disk c.write.new.store) c.in_err-write.field-0.0 (subst (λ k. IsBroken c.args.self.now c.args.self.now c.args.first k (g.S.Store.disk c.args.store.now) (g.S.Store.disk c.write.new.store) c.in_err-write.field-0.0) n c.in_err-write.ensures.broken))
+
+pub zero_run-requires : goal.zero_run-requires
+zero_run-requires g t c κs within =
+    let n : sectors_in c.args.self.now (take (c.from-sector.result * c.min-len.result) c.deref.result.now) ≡ c.min-len.result = piece_count c.args.self.now c.from-sector.result c.min-len.result c.from-sector.ensures c.requires.ready.readable.sizes.sector (omega (arith, c.min-len.ensures)) c.deref.result.now (c.deref.ensures.value ∙ c.requires.ready.clear) in
+    let one : IsDone c.args.self.now c.args.self.now c.args.first c.min-len.result (with_zeros c.args.self.now.tables.parts.sector c.args.first c.min-len.result) (g.S.Store.disk c.args.store.now) (g.S.Store.disk c.write.new.store) = done_zeros c.args.self.now (g.S.Store.disk c.args.store.now) (g.S.Store.disk c.write.new.store) c.args.first c.min-len.result (sectors_in c.args.self.now (take (c.from-sector.result * c.min-len.result) c.deref.result.now)) (take (c.from-sector.result * c.min-len.result) c.deref.result.now) n (piece_whole c.args.self.now c.from-sector.result c.min-len.result c.from-sector.ensures c.requires.ready.readable.sizes.sector (omega (arith, c.min-len.ensures)) c.deref.result.now (c.deref.ensures.value ∙ c.requires.ready.clear)) (piece_clear c.args.self.now c.from-sector.result c.min-len.result c.from-sector.ensures c.requires.ready.readable.sizes.sector (omega (arith, c.min-len.ensures)) c.deref.result.now (c.deref.ensures.value ∙ c.requires.ready.clear)) c.in_ok-write.ensures.done in
+    let next : WhereTold (g.S.Store.disk c.args.store.now).told (λ t. c.saturating_add.result ≡ c.args.place + c.args.self.now.tables.parts.sector * c.min-len.result) =
+    λ t told.
+    let small = place_small c.args.self.now (g.S.Store.disk c.args.store.now) (g.S.Store.disk c.args.store.now) c.requires.ready c.args.first c.min-len.result c.args.place (omega (arith, c.requires.on_disk, c.min-len.ensures))
+    (first_stands c.args.self.now (g.S.Store.disk c.args.store.now) (g.S.Store.disk c.args.store.now) c.requires.ready c.args.first c.args.count c.args.place c.requires.on_disk (c.requires.stand (omega arith)) c.min-len.result (piece_some c.args.self.now c.from-sector.result c.min-len.result c.from-sector.ensures c.requires.ready.readable.sizes.sector (omega (arith, c.min-len.ensures)) c.deref.result.now (c.deref.ensures.value ∙ c.requires.ready.clear) c.args.count (omega arith) c.min-len.ensures) (omega (arith, c.min-len.ensures))) (take (c.from-sector.result * c.min-len.result) c.deref.result.now) (piece_whole c.args.self.now c.from-sector.result c.min-len.result c.from-sector.ensures c.requires.ready.readable.sizes.sector (omega (arith, c.min-len.ensures)) c.deref.result.now (c.deref.ensures.value ∙ c.requires.ready.clear)) t told in
+    omega (arith, small, c.saturating_add.ensures, piece_at c.args.self.now c.from-sector.result c.min-len.result c.from-sector.ensures c.requires.ready.readable.sizes.sector (omega (arith, c.min-len.ensures)) c.deref.result.now (c.deref.ensures.value ∙ c.requires.ready.clear)) in (
+      omega (arith, (piece_some c.args.self.now c.from-sector.result c.min-len.result c.from-sector.ensures c.requires.ready.readable.sizes.sector (omega (arith, c.min-len.ensures)) c.deref.result.now (c.deref.ensures.value ∙ c.requires.ready.clear) c.args.count (omega arith) c.min-len.ensures)),
+      (
+        within.0,
+        (
+          within.1,
+          (
+            one.ready,
+            (
+              omega (arith, c.requires.on_disk, c.min-len.ensures),
+              λ more. rest_stands c.args.self.now (g.S.Store.disk c.args.store.now) (g.S.Store.disk c.write.new.store) c.requires.ready c.args.first c.args.count c.args.place c.requires.on_disk (c.requires.stand (omega arith)) c.min-len.result c.saturating_add.result (omega (arith, more)) next c.in_ok-write.ensures.same,
+            ),
+          ),
+        ),
+      ),
+    )
+
+pub returns-clause-moments : goal.returns-clause-moments
+returns-clause-moments g t c =
+    let n : sectors_in c.args.self.now (take (c.from-sector.result * c.min-len.result) c.deref.result.now) ≡ c.min-len.result = piece_count c.args.self.now c.from-sector.result c.min-len.result c.from-sector.ensures c.requires.ready.readable.sizes.sector (omega (arith, c.min-len.ensures)) c.deref.result.now (c.deref.ensures.value ∙ c.requires.ready.clear) in
+    let one : IsDone c.args.self.now c.args.self.now c.args.first c.min-len.result (with_zeros c.args.self.now.tables.parts.sector c.args.first c.min-len.result) (g.S.Store.disk c.args.store.now) (g.S.Store.disk c.write.new.store) = done_zeros c.args.self.now (g.S.Store.disk c.args.store.now) (g.S.Store.disk c.write.new.store) c.args.first c.min-len.result (sectors_in c.args.self.now (take (c.from-sector.result * c.min-len.result) c.deref.result.now)) (take (c.from-sector.result * c.min-len.result) c.deref.result.now) n (piece_whole c.args.self.now c.from-sector.result c.min-len.result c.from-sector.ensures c.requires.ready.readable.sizes.sector (omega (arith, c.min-len.ensures)) c.deref.result.now (c.deref.ensures.value ∙ c.requires.ready.clear)) (piece_clear c.args.self.now c.from-sector.result c.min-len.result c.from-sector.ensures c.requires.ready.readable.sizes.sector (omega (arith, c.min-len.ensures)) c.deref.result.now (c.deref.ensures.value ∙ c.requires.ready.clear)) c.in_ok-write.ensures.done in
+    join_moments c.args.self.now c.args.self.now c.args.first c.min-len.result c.args.count (omega (arith, c.min-len.ensures)) (with_zeros c.args.self.now.tables.parts.sector c.args.first c.min-len.result) (zeros_off c.args.self.now.tables.parts.sector c.args.first c.min-len.result) (g.S.Store.disk c.args.store.now) (g.S.Store.disk c.write.new.store) one (g.S.Store.disk c.zero_run.new.store) (subst (λ k. WhereBothTold (PutsInto c.args.self.now c.args.first k) (g.S.Store.disk c.args.store.now).told (g.S.Store.disk c.write.new.store).told) n c.write.ensures.moments) c.zero_run.ensures.moments
+
+pub returns-clause-done : goal.returns-clause-done
+returns-clause-done g t c =
+    let n : sectors_in c.args.self.now (take (c.from-sector.result * c.min-len.result) c.deref.result.now) ≡ c.min-len.result = piece_count c.args.self.now c.from-sector.result c.min-len.result c.from-sector.ensures c.requires.ready.readable.sizes.sector (omega (arith, c.min-len.ensures)) c.deref.result.now (c.deref.ensures.value ∙ c.requires.ready.clear) in
+    let one : IsDone c.args.self.now c.args.self.now c.args.first c.min-len.result (with_zeros c.args.self.now.tables.parts.sector c.args.first c.min-len.result) (g.S.Store.disk c.args.store.now) (g.S.Store.disk c.write.new.store) = done_zeros c.args.self.now (g.S.Store.disk c.args.store.now) (g.S.Store.disk c.write.new.store) c.args.first c.min-len.result (sectors_in c.args.self.now (take (c.from-sector.result * c.min-len.result) c.deref.result.now)) (take (c.from-sector.result * c.min-len.result) c.deref.result.now) n (piece_whole c.args.self.now c.from-sector.result c.min-len.result c.from-sector.ensures c.requires.ready.readable.sizes.sector (omega (arith, c.min-len.ensures)) c.deref.result.now (c.deref.ensures.value ∙ c.requires.ready.clear)) (piece_clear c.args.self.now c.from-sector.result c.min-len.result c.from-sector.ensures c.requires.ready.readable.sizes.sector (omega (arith, c.min-len.ensures)) c.deref.result.now (c.deref.ensures.value ∙ c.requires.ready.clear)) c.in_ok-write.ensures.done in
+    ok_map c.zero_run.result _ _ c.zero_run.ensures.done (join_done c.args.self.now c.args.self.now c.args.first c.min-len.result c.args.count (omega (arith, c.min-len.ensures)) (with_zeros c.args.self.now.tables.parts.sector c.args.first c.min-len.result) (zeros_off c.args.self.now.tables.parts.sector c.args.first c.min-len.result) (g.S.Store.disk c.args.store.now) (g.S.Store.disk c.write.new.store) one c.args.self.now (g.S.Store.disk c.zero_run.new.store) (with_zeros c.args.self.now.tables.parts.sector (c.args.first + c.min-len.result) (c.args.count - c.min-len.result)) (with_zeros c.args.self.now.tables.parts.sector c.args.first c.args.count)
+    (zeros_join c.args.self.now.tables.parts.sector c.args.first c.min-len.result c.args.count (omega (arith, c.min-len.ensures))))
+
+pub returns-clause-same : goal.returns-clause-same
+returns-clause-same g t c =
+    ok_map c.zero_run.result _ _ c.zero_run.ensures.same (entries_join c.args.self.now (g.S.Store.disk c.args.store.now).told (g.S.Store.disk c.write.new.store).told (g.S.Store.disk c.zero_run.new.store).told c.in_ok-write.ensures.same)
+
+pub returns-clause-broken : goal.returns-clause-broken
+returns-clause-broken g t c =
+    let n : sectors_in c.args.self.now (take (c.from-sector.result * c.min-len.result) c.deref.result.now) ≡ c.min-len.result = piece_count c.args.self.now c.from-sector.result c.min-len.result c.from-sector.ensures c.requires.ready.readable.sizes.sector (omega (arith, c.min-len.ensures)) c.deref.result.now (c.deref.ensures.value ∙ c.requires.ready.clear) in
+    let one : IsDone c.args.self.now c.args.self.now c.args.first c.min-len.result (with_zeros c.args.self.now.tables.parts.sector c.args.first c.min-len.result) (g.S.Store.disk c.args.store.now) (g.S.Store.disk c.write.new.store) = done_zeros c.args.self.now (g.S.Store.disk c.args.store.now) (g.S.Store.disk c.write.new.store) c.args.first c.min-len.result (sectors_in c.args.self.now (take (c.from-sector.result * c.min-len.result) c.deref.result.now)) (take (c.from-sector.result * c.min-len.result) c.deref.result.now) n (piece_whole c.args.self.now c.from-sector.result c.min-len.result c.from-sector.ensures c.requires.ready.readable.sizes.sector (omega (arith, c.min-len.ensures)) c.deref.result.now (c.deref.ensures.value ∙ c.requires.ready.clear)) (piece_clear c.args.self.now c.from-sector.result c.min-len.result c.from-sector.ensures c.requires.ready.readable.sizes.sector (omega (arith, c.min-len.ensures)) c.deref.result.now (c.deref.ensures.value ∙ c.requires.ready.clear)) c.in_ok-write.ensures.done in
+    if_err_map c.zero_run.result _ _ c.zero_run.ensures.broken (join_broken c.args.self.now c.args.self.now c.args.first c.min-len.result c.args.count (omega (arith, c.min-len.ensures)) (with_zeros c.args.self.now.tables.parts.sector c.args.first c.min-len.result) (zeros_off c.args.self.now.tables.parts.sector c.args.first c.min-len.result) (g.S.Store.disk c.args.store.now) (g.S.Store.disk c.write.new.store) one c.args.self.now (g.S.Store.disk c.zero_run.new.store))

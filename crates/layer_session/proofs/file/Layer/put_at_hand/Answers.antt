@@ -1,0 +1,100 @@
+use Rattle.std.proofs.Common.{◌≡◌, rules, sym, subst}
+use Rattle.std.specs.Prelude.{Err}
+use Rattle.layer_session.specs.declared.file.LayerFault.{LayerFault}
+use Rattle.layer_session.specs.Bringing.{Leads}
+use Rattle.layer_session.proofs.AtHand.{entries_four, far_two, hand_four, lacks_four, lacks_three, near_two, prepared_five, room_four, room_three, there_four, wants_five}
+use Rattle.layer_session.proofs.Leading.{leads_on, leads_then, prepared_by}
+use Rattle.layer_session.proofs.file.Layer.put_at_hand.Goals as goal
+
+pub bring_pages-requires-clause-near_there : goal.bring_pages-requires-clause-near_there
+bring_pages-requires-clause-near_there g c =
+    near_two c.args.self.now (g.S.Store.disk c.args.store.now) c.requires.ready c.args.first c.args.count c.requires.some c.requires.size c.requires.on_disk c.args.wanted.now c.requires.counted c.requires.planned c.requires.fits c.find_missing-missing.result c.find_missing-missing.ensures
+    c.make_room.new.self (g.S.Store.disk c.make_room.new.store) c.in_ok-make_room.ensures.leads c.make_room.ensures.plans c.in_ok-make_room.ensures.says c.in_ok-make_room.ensures.fits
+
+pub bring_pages-requires-clause-far_there : goal.bring_pages-requires-clause-far_there
+bring_pages-requires-clause-far_there g c =
+    far_two c.args.self.now (g.S.Store.disk c.args.store.now) c.requires.ready c.args.first c.args.count c.requires.some c.requires.size c.requires.on_disk c.args.wanted.now c.requires.counted c.requires.planned c.requires.fits c.find_missing-missing.result c.find_missing-missing.ensures
+    c.make_room.new.self (g.S.Store.disk c.make_room.new.store) c.in_ok-make_room.ensures.leads c.make_room.ensures.plans c.in_ok-make_room.ensures.says c.in_ok-make_room.ensures.fits
+
+pub returns-in_err-bring_pages-clause-leads : goal.returns-in_err-bring_pages-clause-leads
+returns-in_err-bring_pages-clause-leads g c =
+    let fault : LayerFault = c.in_err-bring_pages.field-0.0 in
+    let same : c.from_residual-in_err-bring_pages.result ≡ Err fault = search rules in
+    subst (Leads c.args.self.now c.bring_pages.new.self (g.S.Store.disk c.args.store.now) (g.S.Store.disk c.bring_pages.new.store)) (sym same) (leads_on {T = Unit {0}} c.args.self.now c.make_room.new.self c.bring_pages.new.self (g.S.Store.disk c.args.store.now) (g.S.Store.disk c.make_room.new.store) (g.S.Store.disk c.bring_pages.new.store) (Err fault) c.in_ok-make_room.ensures.leads c.in_err-bring_pages.ensures.leads)
+
+pub make_chunk-requires-clause-room : goal.make_chunk-requires-clause-room
+make_chunk-requires-clause-room g c =
+    room_three c.args.self.now (g.S.Store.disk c.args.store.now) c.requires.ready c.args.first c.args.count c.requires.some c.requires.size c.requires.on_disk c.args.wanted.now c.requires.counted c.requires.planned c.requires.fits c.find_missing-missing.result c.find_missing-missing.ensures
+    c.make_room.new.self (g.S.Store.disk c.make_room.new.store) c.in_ok-make_room.ensures.leads c.make_room.ensures.plans c.in_ok-make_room.ensures.says c.in_ok-make_room.ensures.fits
+    c.bring_pages.new.self (g.S.Store.disk c.bring_pages.new.store) c.in_ok-bring_pages.ensures.leads c.in_ok-bring_pages.ensures.stays c.bring_pages.ensures.space c.in_ok-bring_pages.ensures.held c.in_ok-bring_pages.ensures.brings c.in_ok-bring_pages.ensures.far_there
+
+pub make_chunk-requires-clause-lacks : goal.make_chunk-requires-clause-lacks
+make_chunk-requires-clause-lacks g c =
+    lacks_three c.args.self.now (g.S.Store.disk c.args.store.now) c.requires.ready c.args.first c.args.count c.requires.some c.requires.size c.requires.on_disk c.args.wanted.now c.requires.counted c.requires.planned c.requires.fits c.find_missing-missing.result c.find_missing-missing.ensures
+    c.make_room.new.self (g.S.Store.disk c.make_room.new.store) c.in_ok-make_room.ensures.leads c.make_room.ensures.plans c.in_ok-make_room.ensures.says c.in_ok-make_room.ensures.fits
+    c.bring_pages.new.self (g.S.Store.disk c.bring_pages.new.store) c.in_ok-bring_pages.ensures.leads c.in_ok-bring_pages.ensures.stays c.bring_pages.ensures.space c.in_ok-bring_pages.ensures.held c.in_ok-bring_pages.ensures.brings c.in_ok-bring_pages.ensures.far_there
+
+pub returns-in_err-make_chunk-clause-leads : goal.returns-in_err-make_chunk-clause-leads
+returns-in_err-make_chunk-clause-leads g c =
+    let fault : LayerFault = c.in_err-make_chunk.field-0.0 in
+    let same : c.from_residual-in_err-make_chunk.result ≡ Err fault = search rules in
+    subst (Leads c.args.self.now c.make_chunk.new.self (g.S.Store.disk c.args.store.now) (g.S.Store.disk c.make_chunk.new.store)) (sym same)
+    (leads_on {T = Unit {0}} c.args.self.now c.bring_pages.new.self c.make_chunk.new.self (g.S.Store.disk c.args.store.now) (g.S.Store.disk c.bring_pages.new.store) (g.S.Store.disk c.make_chunk.new.store) (Err fault) (leads_then c.args.self.now c.make_room.new.self c.bring_pages.new.self (g.S.Store.disk c.args.store.now) (g.S.Store.disk c.make_room.new.store) (g.S.Store.disk c.bring_pages.new.store) c.in_ok-make_room.ensures.leads c.in_ok-bring_pages.ensures.leads) c.in_err-make_chunk.ensures.leads)
+
+pub make_chunk-requires-2-clause-entries : goal.make_chunk-requires-2-clause-entries
+make_chunk-requires-2-clause-entries g c =
+    entries_four c.args.self.now (g.S.Store.disk c.args.store.now) c.requires.ready c.args.first c.args.count c.requires.some c.requires.size c.requires.on_disk c.args.wanted.now c.requires.counted c.requires.planned c.requires.fits c.find_missing-missing.result c.find_missing-missing.ensures
+    c.make_room.new.self (g.S.Store.disk c.make_room.new.store) c.in_ok-make_room.ensures.leads c.make_room.ensures.plans c.in_ok-make_room.ensures.says c.in_ok-make_room.ensures.fits
+    c.bring_pages.new.self (g.S.Store.disk c.bring_pages.new.store) c.in_ok-bring_pages.ensures.leads c.in_ok-bring_pages.ensures.stays c.bring_pages.ensures.space c.in_ok-bring_pages.ensures.held c.in_ok-bring_pages.ensures.brings c.in_ok-bring_pages.ensures.far_there
+    c.make_chunk.new.self (g.S.Store.disk c.make_chunk.new.store) c.in_ok-make_chunk.ensures.leads c.in_ok-make_chunk.ensures.space c.make_chunk.ensures.keeps c.in_ok-make_chunk.ensures.named c.in_ok-make_chunk.ensures.at_hand c.in_ok-make_chunk.ensures.there c.in_ok-make_chunk.ensures.says
+
+pub make_chunk-requires-2-clause-room : goal.make_chunk-requires-2-clause-room
+make_chunk-requires-2-clause-room g c =
+    room_four c.args.self.now (g.S.Store.disk c.args.store.now) c.requires.ready c.args.first c.args.count c.requires.some c.requires.size c.requires.on_disk c.args.wanted.now c.requires.counted c.requires.planned c.requires.fits c.find_missing-missing.result c.find_missing-missing.ensures
+    c.make_room.new.self (g.S.Store.disk c.make_room.new.store) c.in_ok-make_room.ensures.leads c.make_room.ensures.plans c.in_ok-make_room.ensures.says c.in_ok-make_room.ensures.fits
+    c.bring_pages.new.self (g.S.Store.disk c.bring_pages.new.store) c.in_ok-bring_pages.ensures.leads c.in_ok-bring_pages.ensures.stays c.bring_pages.ensures.space c.in_ok-bring_pages.ensures.held c.in_ok-bring_pages.ensures.brings c.in_ok-bring_pages.ensures.far_there
+    c.make_chunk.new.self (g.S.Store.disk c.make_chunk.new.store) c.in_ok-make_chunk.ensures.leads c.in_ok-make_chunk.ensures.space c.make_chunk.ensures.keeps c.in_ok-make_chunk.ensures.named c.in_ok-make_chunk.ensures.at_hand c.in_ok-make_chunk.ensures.there c.in_ok-make_chunk.ensures.says
+
+pub make_chunk-requires-2-clause-lacks : goal.make_chunk-requires-2-clause-lacks
+make_chunk-requires-2-clause-lacks g c =
+    lacks_four c.args.self.now (g.S.Store.disk c.args.store.now) c.requires.ready c.args.first c.args.count c.requires.some c.requires.size c.requires.on_disk c.args.wanted.now c.requires.counted c.requires.planned c.requires.fits c.find_missing-missing.result c.find_missing-missing.ensures
+    c.make_room.new.self (g.S.Store.disk c.make_room.new.store) c.in_ok-make_room.ensures.leads c.make_room.ensures.plans c.in_ok-make_room.ensures.says c.in_ok-make_room.ensures.fits
+    c.bring_pages.new.self (g.S.Store.disk c.bring_pages.new.store) c.in_ok-bring_pages.ensures.leads c.in_ok-bring_pages.ensures.stays c.bring_pages.ensures.space c.in_ok-bring_pages.ensures.held c.in_ok-bring_pages.ensures.brings c.in_ok-bring_pages.ensures.far_there
+    c.make_chunk.new.self (g.S.Store.disk c.make_chunk.new.store) c.in_ok-make_chunk.ensures.leads c.in_ok-make_chunk.ensures.space c.make_chunk.ensures.keeps c.in_ok-make_chunk.ensures.named c.in_ok-make_chunk.ensures.at_hand c.in_ok-make_chunk.ensures.there c.in_ok-make_chunk.ensures.says
+
+pub make_chunk-requires-2-clause-at_hand : goal.make_chunk-requires-2-clause-at_hand
+make_chunk-requires-2-clause-at_hand g c =
+    hand_four c.args.self.now (g.S.Store.disk c.args.store.now) c.requires.ready c.args.first c.args.count c.requires.some c.requires.size c.requires.on_disk c.args.wanted.now c.requires.counted c.requires.planned c.requires.fits c.find_missing-missing.result c.find_missing-missing.ensures
+    c.make_room.new.self (g.S.Store.disk c.make_room.new.store) c.in_ok-make_room.ensures.leads c.make_room.ensures.plans c.in_ok-make_room.ensures.says c.in_ok-make_room.ensures.fits
+    c.bring_pages.new.self (g.S.Store.disk c.bring_pages.new.store) c.in_ok-bring_pages.ensures.leads c.in_ok-bring_pages.ensures.stays c.bring_pages.ensures.space c.in_ok-bring_pages.ensures.held c.in_ok-bring_pages.ensures.brings c.in_ok-bring_pages.ensures.far_there
+    c.make_chunk.new.self (g.S.Store.disk c.make_chunk.new.store) c.in_ok-make_chunk.ensures.leads c.in_ok-make_chunk.ensures.space c.make_chunk.ensures.keeps c.in_ok-make_chunk.ensures.named c.in_ok-make_chunk.ensures.at_hand c.in_ok-make_chunk.ensures.there c.in_ok-make_chunk.ensures.says
+
+pub make_chunk-requires-2-clause-there : goal.make_chunk-requires-2-clause-there
+make_chunk-requires-2-clause-there g c =
+    there_four c.args.self.now (g.S.Store.disk c.args.store.now) c.requires.ready c.args.first c.args.count c.requires.some c.requires.size c.requires.on_disk c.args.wanted.now c.requires.counted c.requires.planned c.requires.fits c.find_missing-missing.result c.find_missing-missing.ensures
+    c.make_room.new.self (g.S.Store.disk c.make_room.new.store) c.in_ok-make_room.ensures.leads c.make_room.ensures.plans c.in_ok-make_room.ensures.says c.in_ok-make_room.ensures.fits
+    c.bring_pages.new.self (g.S.Store.disk c.bring_pages.new.store) c.in_ok-bring_pages.ensures.leads c.in_ok-bring_pages.ensures.stays c.bring_pages.ensures.space c.in_ok-bring_pages.ensures.held c.in_ok-bring_pages.ensures.brings c.in_ok-bring_pages.ensures.far_there
+    c.make_chunk.new.self (g.S.Store.disk c.make_chunk.new.store) c.in_ok-make_chunk.ensures.leads c.in_ok-make_chunk.ensures.space c.make_chunk.ensures.keeps c.in_ok-make_chunk.ensures.named c.in_ok-make_chunk.ensures.at_hand c.in_ok-make_chunk.ensures.there c.in_ok-make_chunk.ensures.says
+
+pub returns-clause-leads : goal.returns-clause-leads
+returns-clause-leads g c =
+    leads_on c.args.self.now c.make_chunk.new.self c.make_chunk-2.new.self (g.S.Store.disk c.args.store.now) (g.S.Store.disk c.make_chunk.new.store) (g.S.Store.disk c.make_chunk-2.new.store) c.make_chunk-2.result
+    (leads_then c.args.self.now c.bring_pages.new.self c.make_chunk.new.self (g.S.Store.disk c.args.store.now) (g.S.Store.disk c.bring_pages.new.store) (g.S.Store.disk c.make_chunk.new.store) (leads_then c.args.self.now c.make_room.new.self c.bring_pages.new.self (g.S.Store.disk c.args.store.now) (g.S.Store.disk c.make_room.new.store) (g.S.Store.disk c.bring_pages.new.store) c.in_ok-make_room.ensures.leads c.in_ok-bring_pages.ensures.leads) c.in_ok-make_chunk.ensures.leads) c.make_chunk-2.ensures.leads
+
+pub returns-clause-prepared : goal.returns-clause-prepared
+returns-clause-prepared g c =
+    prepared_by c.make_chunk-2.result c.make_chunk-2.ensures.leads c.make_chunk-2.ensures.space c.make_chunk-2.ensures.named c.make_chunk-2.ensures.at_hand c.make_chunk-2.ensures.there c.make_chunk-2.ensures.says
+    (λ leads space named hand there says. prepared_five c.args.self.now (g.S.Store.disk c.args.store.now) c.requires.ready c.args.first c.args.count c.requires.some c.requires.size c.requires.on_disk c.args.wanted.now c.requires.counted c.requires.planned c.requires.fits c.find_missing-missing.result c.find_missing-missing.ensures
+    c.make_room.new.self (g.S.Store.disk c.make_room.new.store) c.in_ok-make_room.ensures.leads c.make_room.ensures.plans c.in_ok-make_room.ensures.says c.in_ok-make_room.ensures.fits
+    c.bring_pages.new.self (g.S.Store.disk c.bring_pages.new.store) c.in_ok-bring_pages.ensures.leads c.in_ok-bring_pages.ensures.stays c.bring_pages.ensures.space c.in_ok-bring_pages.ensures.held c.in_ok-bring_pages.ensures.brings c.in_ok-bring_pages.ensures.far_there
+    c.make_chunk.new.self (g.S.Store.disk c.make_chunk.new.store) c.in_ok-make_chunk.ensures.leads c.in_ok-make_chunk.ensures.space c.make_chunk.ensures.keeps c.in_ok-make_chunk.ensures.named c.in_ok-make_chunk.ensures.at_hand c.in_ok-make_chunk.ensures.there c.in_ok-make_chunk.ensures.says
+    c.make_chunk-2.new.self (g.S.Store.disk c.make_chunk-2.new.store) leads space c.make_chunk-2.ensures.keeps named hand there says)
+
+pub returns-clause-wants : goal.returns-clause-wants
+returns-clause-wants g c trims =
+    prepared_by c.make_chunk-2.result c.make_chunk-2.ensures.leads c.make_chunk-2.ensures.space c.make_chunk-2.ensures.named c.make_chunk-2.ensures.at_hand c.make_chunk-2.ensures.there c.make_chunk-2.ensures.says
+    (λ leads space named hand there says. wants_five c.args.self.now (g.S.Store.disk c.args.store.now) c.requires.ready c.args.first c.args.count c.requires.some c.requires.size c.requires.on_disk c.args.wanted.now c.requires.counted c.requires.planned c.requires.fits c.find_missing-missing.result c.find_missing-missing.ensures
+    c.make_room.new.self (g.S.Store.disk c.make_room.new.store) c.in_ok-make_room.ensures.leads c.make_room.ensures.plans c.in_ok-make_room.ensures.says c.in_ok-make_room.ensures.fits
+    c.bring_pages.new.self (g.S.Store.disk c.bring_pages.new.store) c.in_ok-bring_pages.ensures.leads c.in_ok-bring_pages.ensures.stays c.bring_pages.ensures.space c.in_ok-bring_pages.ensures.held c.in_ok-bring_pages.ensures.brings c.in_ok-bring_pages.ensures.far_there
+    c.make_chunk.new.self (g.S.Store.disk c.make_chunk.new.store) c.in_ok-make_chunk.ensures.leads c.in_ok-make_chunk.ensures.space c.make_chunk.ensures.keeps c.in_ok-make_chunk.ensures.named c.in_ok-make_chunk.ensures.at_hand c.in_ok-make_chunk.ensures.there c.in_ok-make_chunk.ensures.says
+    c.make_chunk-2.new.self (g.S.Store.disk c.make_chunk-2.new.store) leads space c.make_chunk-2.ensures.keeps named hand there says trims)

@@ -1,0 +1,30 @@
+use Rattle.std.proofs.Common.{rules, not, subst, ap}
+use Rattle.store_model.specs.Disk.{WhereBothTold}
+use Rattle.table_pages.specs.declared.tables.TableParts.{TableParts}
+use Rattle.layer_session.specs.Calls.{HasPut, with_zeros}
+use Rattle.layer_session.proofs.Calling.{broken_call, broken_err, call_moments, call_put}
+use Rattle.layer_session.proofs.Joining.{keeps_puts}
+use Rattle.layer_session.proofs.Told.{ok_map}
+use Rattle.layer_session.proofs.file.Layer.zero.Goals as goal
+
+pub returns-in_err-prepare-clause-moments : goal.returns-in_err-prepare-clause-moments
+returns-in_err-prepare-clause-moments g c =
+    keeps_puts c.args.self.now c.args.first c.args.count (g.S.Store.disk c.args.store.now).told (g.S.Store.disk c.prepare.new.store).told c.prepare.ensures.moments
+
+pub returns-in_err-prepare-clause-broken : goal.returns-in_err-prepare-clause-broken
+returns-in_err-prepare-clause-broken g c =
+    broken_err c.from_residual.result c.in_err-prepare.field-0.0 c.args.self.now c.prepare.new.self c.args.first c.args.count (g.S.Store.disk c.args.store.now) (g.S.Store.disk c.prepare.new.store) (search rules) c.in_err-prepare.ensures.broken
+
+pub returns-clause-moments : goal.returns-clause-moments
+returns-clause-moments g c =
+    call_moments c.args.self.now c.prepare.new.self c.args.first c.args.count (not c.args.self.now.leave) (g.S.Store.disk c.args.store.now).told (g.S.Store.disk c.prepare.new.store).told (g.S.Store.disk c.zero_blocks.new.store).told c.in_ok-prepare.ensures.done c.prepare.ensures.moments c.zero_blocks.ensures.moments
+
+pub returns-clause-put : goal.returns-clause-put
+returns-clause-put g c =
+    ok_map c.zero_blocks.result _ _ c.zero_blocks.ensures.done
+    (λ d. call_put c.args.self.now c.prepare.new.self c.args.first c.args.count (not c.args.self.now.leave) (g.S.Store.disk c.args.store.now).told (g.S.Store.disk c.prepare.new.store).told (g.S.Store.disk c.zero_blocks.new.store).told c.in_ok-prepare.ensures.done c.zero_blocks.new.self (with_zeros c.args.self.now.tables.parts.sector c.args.first c.args.count)
+    (subst (λ z. WhereBothTold (HasPut c.prepare.new.self c.zero_blocks.new.self c.args.first c.args.count (with_zeros z c.args.first c.args.count)) (g.S.Store.disk c.prepare.new.store).told (g.S.Store.disk c.zero_blocks.new.store).told) (ap (λ (p : TableParts). p.sector) c.prepare.ensures.parts) d.put))
+
+pub returns-clause-broken : goal.returns-clause-broken
+returns-clause-broken g c =
+    broken_call c.zero_blocks.result c.args.self.now c.prepare.new.self c.zero_blocks.new.self c.args.first c.args.count (not c.args.self.now.leave) (g.S.Store.disk c.args.store.now) (g.S.Store.disk c.prepare.new.store) (g.S.Store.disk c.zero_blocks.new.store) c.in_ok-prepare.ensures.done c.zero_blocks.ensures.broken

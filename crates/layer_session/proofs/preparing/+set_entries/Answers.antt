@@ -1,0 +1,30 @@
+use Rattle.std.proofs.Common.{get_or, arith}
+use Rattle.table_pages.specs.Held.{shape_of}
+use Rattle.layer_session.specs.Bringing.{SetsEntry}
+use Rattle.layer_session.specs.Planning.{none}
+use Rattle.layer_session.proofs.BitRuns.{none_yet, plan_here, run_more}
+use Rattle.layer_session.proofs.preparing.+set_entries.Goals as goal
+
+pub returns-then-count-eq0-clause-none : goal.returns-then-count-eq0-clause-none
+returns-then-count-eq0-clause-none t c e = none c.args.k c.args.first c.args.count c.if-count-eq0.true
+
+pub returns-then-count-eq0-clause-there : goal.returns-then-count-eq0-clause-there
+returns-then-count-eq0-clause-there t c = none c.args.k c.args.first c.args.count c.if-count-eq0.true
+
+pub returns-then-sets_entry-clause-there : goal.returns-then-sets_entry-clause-there
+returns-then-sets_entry-clause-there t c =
+    run_more (shape_of c.args.parts.now) c.args.plans.now (λ s n plan. Unit {0}) c.args.k c.args.first c.args.count c.run_in_block-len.result (get_or c.args.plans.now c.args.k none_yet) (omega arith) c.run_in_block-len.ensures.is
+    (plan_here (shape_of c.args.parts.now) (record { sector = c.requires.sizes.sector; block = c.requires.sizes.block }) c.args.plans.now c.args.k c.args.first c.args.count none_yet (omega arith) c.requires.few)
+    tt c.set_entries-rest.ensures.there
+
+pub returns-else-sets_entry-clause-there : goal.returns-else-sets_entry-clause-there
+returns-else-sets_entry-clause-there t c =
+    run_more (shape_of c.args.parts.now) c.args.plans.now (λ s n plan. Unit {0}) c.args.k c.args.first c.args.count c.run_in_block-len.result (get_or c.args.plans.now c.args.k none_yet) (omega arith) c.run_in_block-len.ensures.is
+    (plan_here (shape_of c.args.parts.now) (record { sector = c.requires.sizes.sector; block = c.requires.sizes.block }) c.args.plans.now c.args.k c.args.first c.args.count none_yet (omega arith) c.requires.few)
+    tt c.set_entries-rest.ensures.there
+
+pub returns-else-sets_entry-clause-none : goal.returns-else-sets_entry-clause-none
+returns-else-sets_entry-clause-none t c e =
+    run_more (shape_of c.args.parts.now) c.args.plans.now (λ s n plan. SetsEntry plan → ⊥) c.args.k c.args.first c.args.count c.run_in_block-len.result (get_or c.args.plans.now c.args.k none_yet) (omega arith) c.run_in_block-len.ensures.is
+    (plan_here (shape_of c.args.parts.now) (record { sector = c.requires.sizes.sector; block = c.requires.sizes.block }) c.args.plans.now c.args.k c.args.first c.args.count none_yet (omega arith) c.requires.few)
+    (c.sets_entry.ensures c.if-sets_entry.false) (c.set_entries-rest.ensures.none e)

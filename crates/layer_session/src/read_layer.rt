@@ -1,0 +1,98 @@
+//! A file of a chain that is only read.
+
+ghost use Rattle.std.specs.Prelude.{◌≡◌, ◌+◌, ◌*◌, ◌^◌, ◌<◌, ◌≤◌, ℕ, List, length, Contains, IfOk, IfErr, OnOk};
+ghost use Rattle.store_model.specs.Disk.{ReadFailed, WhereTold};
+ghost use Rattle.vhdx_format.specs.FileParts.{HasNumbers};
+ghost use Rattle.chain_model.specs.Images.{Placed, members_of};
+ghost use Rattle.chain_model.specs.Layers.{through};
+ghost use Rattle.chain_model.specs.Members.{layers_of};
+ghost use Rattle.layer_session.specs.Calls.{AddsOwned};
+ghost use Rattle.layer_session.specs.ReadOnly.{AreRead, AreReadable, AreSameRead, CanRead, HaveSameParts, IsRead, IsReadOf, IsSameRead, ReadLayersStand, SomeReadFailed, numbers_of};
+
+use crate::reading::own_missing;
+use sector_bits::are_set;
+use std::alloc::Global;
+use store_model::{Store, StoreFault};
+use table_pages::{TableParts, Tables};
+use vx_base::{Geometry, NoRoom, Parts};
+
+/// A file that is only read: of each sector of the disk its bytes, or that the file doesn't have it.
+#[derive(Drop)]
+pub struct ReadLayer {
+    pub(crate) tables: Tables,
+}
+
+impl ReadLayer {
+    /// The layer of an opened file of these numbers, with room for so many pages of its tables in memory.
+    pub fn new(alloc: Global, file: u32, parts: &Parts, pages: u32) -> Result<ReadLayer, NoRoom>
+        requires pages { 0 < pages }
+        requires numbers { HasNumbers parts.now }
+        ensures { IfOk result (IsReadOf parts.now file) }
+    {
+        let tables = Tables::new(alloc, TableParts::new(file, parts), pages)?;
+        Ok(ReadLayer { tables })
+    }
+
+    /// Adds what the file has of so many sectors from `first` on to what was found of them: their bytes, and their bits in the
+    /// mask from `at` on. What was found stays as it is.
+    pub fn own<S: Store>(
+        &mut self,
+        store: &mut S,
+        first: u64,
+        count: u64,
+        out: &mut [u8],
+        mask: &mut [u8],
+        at: usize,
+    ) -> Result<(), StoreFault>
+        requires readable { CanRead self.old (S.disk store.old) }
+        requires on_disk { first + count ≤ self.old.tables.parts.sectors }
+        requires out { length out.old ≡ self.old.tables.parts.sector * count }
+        requires mask { at + count ≤ 8 * length mask.old }
+        requires ends { at + count < 2 ^ 64 }
+        ensures owned { OnOk result ((file : Placed) → WhereTold (S.disk store.old).told (λ trace. IsRead self.old trace file → AddsOwned file.member.layer self.old.tables.parts.sector first count at mask.old mask.new out.old out.new)) }
+        ensures same { IsSameRead self.old self.new (S.disk store.old) }
+        ensures stays { OnOk result (S.disk store.new ≡ S.disk store.old) }
+        ensures err { IfErr result (ReadFailed self.old.tables.parts.file (S.disk store.old) (S.disk store.new)) }
+    {
+        own_missing(&mut self.tables, store, first, count, out, mask, at)
+    }
+}
+
+/// Adds what files have of so many sectors from `first` on to what was found of them, file by file, the upper one first, until
+/// all is found: their bytes, and their bits in the mask from `at` on. All have the disk of this geometry.
+pub fn own_through<S: Store>(
+    layers: &mut [ReadLayer],
+    store: &mut S,
+    geometry: Geometry,
+    first: u64,
+    count: u64,
+    out: &mut [u8],
+    mask: &mut [u8],
+    at: usize,
+) -> Result<(), StoreFault>
+    requires readable { AreReadable geometry (S.disk store.old) layers.old }
+    requires on_disk { first + count ≤ geometry.sectors }
+    requires out { length out.old ≡ geometry.sector * count }
+    requires mask { at + count ≤ 8 * length mask.old }
+    requires ends { at + count < 2 ^ 64 }
+    ensures owned { OnOk result ((files : List Placed) → WhereTold (S.disk store.old).told (λ trace. AreRead layers.old trace files → AddsOwned (through (layers_of (members_of files))) geometry.sector first count at mask.old mask.new out.old out.new)) }
+    ensures same { AreSameRead geometry layers.old layers.new (S.disk store.old) }
+    ensures parts { HaveSameParts layers.old layers.new }
+    ensures stays { OnOk result (S.disk store.new ≡ S.disk store.old) }
+    ensures err { IfErr result (SomeReadFailed (S.disk store.old) (S.disk store.new)) }
+    ensures whose { IfErr result (λ fault. Contains (numbers_of layers.old) fault.file) }
+{
+    if are_set(mask, at, count as usize) {
+        return Ok(());
+    }
+    let Some((upper, below)) = layers.split_first_mut() else {
+        return Ok(());
+    };
+    upper.own(store, first, count, out, mask, at)?;
+    own_through(below, store, geometry, first, count, out, mask, at)
+}
+
+/// What a layer that is only read has hangs on its own file and on the files' names alone.
+pub fn read_layers_stand()
+    ensures { ReadLayersStand }
+{}
