@@ -23,10 +23,10 @@ use Rattle.link_rules.proofs.Lent.{rest_idle}
 use Rattle.link_rules.proofs.Safe.{own_name}
 
 -- a file that opens as one that had these bytes
-record AlikeIn (more : Files) (name bytes : List ℕ) : Type 0 where
-  now : List ℕ
-  there : more name ≡ Some (at_rest now)
-  alike : OpensAlike bytes now
+pub record AlikeIn (more : Files) (name bytes : List ℕ) : Type 0 where
+  pub now : List ℕ
+  pub there : more name ≡ Some (at_rest now)
+  pub alike : OpensAlike bytes now
 
 -- ---- a folder's image
 
@@ -77,7 +77,7 @@ module _ (may : List ℕ → Type 0) (name bytes : List ℕ) (long : may name �
 file_opened : (bytes : List ℕ) (parts : Parts) → Opens bytes (Ok parts) → OpensFile bytes (Ok parts)
 file_opened bytes parts (opened _ h) = h
 
-parts_alike : (bytes now held : List ℕ) (parts : Parts) → OpensAlike bytes now → HasParts (at_rest bytes) held parts → HasParts (at_rest now) held parts
+pub parts_alike : (bytes now held : List ℕ) (parts : Parts) → OpensAlike bytes now → HasParts (at_rest bytes) held parts → HasParts (at_rest now) held parts
 parts_alike bytes now held parts alike has =
     opened_parts now held parts (file_opened now parts (alike.opens (Ok parts) (opened parts (parts_opened bytes held parts has)))) (alike.stands held (parts_stand bytes held parts has))
 
@@ -100,7 +100,7 @@ module _ (files : Contents) (more : Files) (alike : (name bytes : List ℕ) → 
             layer = is.layer;
           }
 
-  members_alike : (members : List Member) → AllByRecursion (IsIn (at_rest_all files)) members → AllByRecursion (IsIn more) members
+  pub members_alike : (members : List Member) → AllByRecursion (IsIn (at_rest_all files)) members → AllByRecursion (IsIn more) members
   members_alike [] h = tt
   members_alike (member ∷ members) h = (member_alike member h.0, members_alike members h.1)
 

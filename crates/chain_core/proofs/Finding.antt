@@ -1,0 +1,283 @@
+-- What reading leaves of the layers, and what it finds.
+use Rattle.std.proofs.Common.{◌≡◌, ◌≢◌, ℕ, zero, suc, ◌+◌, ◌*◌, ◌/◌, ◌%◌, ◌==◌, ◌<◌, ◌≤◌, ◌||◌, Bool, true, false, cond, List, [], ◌∷◌, ◌++◌, length, take, drop, get_or, replicate, refl, sym, ap, subst, ◌∙◌, arith, is_some, map, mul_comm}
+use Rattle.std.specs.Prelude.{Option, Some, None, unwrap_or, option_map, Result, Ok, Err, OnOk, IfErr, IfSome}
+use Rattle.std.specs.List.{AllByRecursion}
+use Rattle.std.specs.Option.{option_or}
+use Rattle.std.specs.Int.{bit_at}
+use Rattle.std.proofs.lemmas.List.{nil_from_length, take-append-drop, drop-drop, drop_more, length-drop, get_or-replicate}
+use Rattle.std.proofs.lemmas.Nat.Bits.{bit_at-zero}
+use Rattle.vx_base.specs.declared.parts.Geometry.{Geometry}
+use Rattle.vx_base.specs.declared.parts.Parts.{Parts}
+use Rattle.vx_base.specs.Fields.{bytes_at, zeros}
+use Rattle.vhdx_format.specs.SectorBitmaps.{bit_of}
+use Rattle.store_model.specs.declared.fault.StoreFault.{StoreFault}
+use Rattle.store_model.specs.Disk.{Disk, ReadFailed, WhereTold, WhereBothTold}
+use Rattle.store_model.specs.File.{seen}
+use Rattle.store_model.specs.Trace.{Trace, file_of}
+use Rattle.table_pages.specs.declared.tables.TableParts.{TableParts}
+use Rattle.guest_model.specs.declared.call.Call.TheVariants as calls
+use Rattle.guest_model.specs.declared.call.Reply.TheVariants as replies
+use Rattle.guest_model.specs.Calls.{Disk as GuestDisk, bytes_of, reply}
+use Rattle.guest_model.specs.History.{sector_at}
+use Rattle.chain_model.specs.Layers.{Layer as SectorLayer, flat, through}
+use Rattle.chain_model.specs.Members.{disk_of, layers_of}
+use Rattle.chain_model.specs.Images.{Placed, members_of}
+use Rattle.chain_model.proofs.Layering.{length-flat, sector_at-flat}
+use Rattle.layer_session.specs.declared.file.Layer.{Layer}
+use Rattle.layer_session.specs.declared.read_layer.ReadLayer.{ReadLayer}
+use Rattle.layer_session.specs.Calls.{AddsOwned, IsBeside, IsSame, own_bytes, own_file}
+use Rattle.layer_session.specs.Keeping.{IsHeld, IsReady, Serves}
+use Rattle.layer_session.specs.ReadOnly.{AreRead, AreReadable, AreSameRead, SomeReadFailed}
+use Rattle.layer_session.proofs.Standing.{layers_stand}
+use Rattle.chain_core.specs.declared.layers.Layers.{Layers}
+use Rattle.chain_core.specs.Reading.{AddsPart, HasOnlyRead, log_number, of_read, of_session}
+use Rattle.chain_core.specs.Sessions.{AreReady, IsReadyLeaf}
+use Rattle.chain_core.specs.States.{AreHeld, State, IsServing, disk_now, files_of, sector_of, seen_in}
+use Rattle.layer_session.proofs.ReadOnly.{read_layers_stand}
+use Rattle.chain_core.proofs.Steps.{LeafStep}
+use Rattle.chain_core.proofs.Standing.{leaf_of, still_readable}
+
+-- ---- the store stays but for its counts of failed reads
+
+-- what a read leaves of the store, done or failed
+pub record Stays (before after : Disk) : Type 0 where
+  pub files : after.files ≡ before.files
+  pub told : after.told ≡ before.told
+
+stays_by : (before after : Disk) (answer : Result (Unit {0}) StoreFault) → OnOk answer (after ≡ before) → IfErr answer (λ fault. ReadFailed fault.file before after fault) → Stays before after
+stays_by before after (Ok t) done failed = record { files = ap (λ (d : Disk). d.files) done; told = ap (λ (d : Disk). d.told) done }
+stays_by before after (Err fault) done failed = record { files = ap (λ (d : Disk). d.files) failed.stays; told = ap (λ (d : Disk). d.told) failed.stays }
+
+-- a failed read of one file is one of the file that the fault names
+its_own : (file : ℕ) (before after : Disk) (answer : Result (Unit {0}) StoreFault) → IfErr answer (ReadFailed file before after) → IfErr answer (λ fault. ReadFailed fault.file before after fault)
+its_own file before after (Ok t) failed = tt
+its_own file before after (Err fault) failed = subst (λ (f : ℕ). ReadFailed f before after fault) (sym failed.of_file) failed
+
+of_some : (before after : Disk) (answer : Result (Unit {0}) StoreFault) → IfErr answer (SomeReadFailed before after) → IfErr answer (λ fault. ReadFailed fault.file before after fault)
+of_some before after (Ok t) failed = tt
+of_some before after (Err fault) failed = failed.1
+
+same_beside : (other : ℕ) (a b : Option Trace) → b ≡ a → WhereBothTold (IsBeside other) a b
+same_beside other a b e = subst (λ o. WhereBothTold (IsBeside other) a o) (sym e) (itself a)
+  where
+    itself : (a : Option Trace) → WhereBothTold (IsBeside other) a a
+    itself None = tt
+    itself (Some t) = record { same = refl; names = refl }
+
+all_beside : (below : List ReadLayer) (before after : Disk) → Stays before after → AllByRecursion (λ (r : ReadLayer). WhereBothTold (IsBeside r.tables.parts.file) before.told after.told) below
+all_beside [] before after s = tt
+all_beside (l ∷ below) before after s = (same_beside l.tables.parts.file before.told after.told s.told, all_beside below before after s)
+
+readable_moved : (g : Geometry) (below : List ReadLayer) (before after : Disk) → Stays before after → AreReadable g before below → AreReadable g after below
+readable_moved g below before after s all = still_readable g before after below (all_beside below before after s) all s.files
+
+leaf_moved : (g : Geometry) (below : List ReadLayer) (leaf : Layer) (before after : Disk) → Stays before after → IsReadyLeaf g below before leaf → IsReadyLeaf g below after leaf
+leaf_moved g below leaf before after s l = record {
+  ready = layers_stand.ready leaf before after l.ready s.files (same_beside (own_file leaf) before.told after.told s.told);
+  number = l.number;
+  sector = l.sector;
+  sectors = l.sectors;
+  apart = λ trace is. l.apart trace (sym s.told ∙ is);
+}
+
+-- ---- the layers serve what they served
+
+swapped : (old new : Layers) (v : State) (trace : Trace) → new.geometry ≡ old.geometry → AreHeld new.leaf new.below.items trace v.top v.others → IsServing old v trace → IsServing new v trace
+swapped old new v trace g held s = record { once = s.once; geometry = g ∙ s.geometry; served = s.served; loose = s.loose; held = held; whole = s.whole; synced = s.synced; still = s.still; past = s.past }
+
+-- the leaf was read
+pub leaf_reads : (old new : Layers) (leaf next : Layer) (file : ℕ) (before after : Disk) (answer : Result (Unit {0}) StoreFault) → LeafStep old new leaf next → IsSame leaf next before
+    → OnOk answer (after ≡ before) → IfErr answer (ReadFailed file before after) → AreReady old before → HasOnlyRead old new before after
+leaf_reads old new leaf next file before after answer step same done failed ready =
+    let s = stays_by before after answer done (its_own file before after answer failed) in
+    let l = leaf_of old leaf before step.was ready in
+    let made : IsReadyLeaf old.geometry old.below.items before next = record {
+      ready = same.ready l.ready;
+      number = ap (λ (p : TableParts). p.file) same.parts ∙ l.number;
+      sector = ap (λ (p : TableParts). p.sector) same.parts ∙ l.sector;
+      sectors = ap (λ (p : TableParts). p.sectors) same.parts ∙ l.sectors;
+      apart = l.apart;
+    } in
+    let moved = leaf_moved old.geometry old.below.items next before after s made in
+    let there : IsReadyLeaf new.geometry new.below.items after next = subst (λ b. IsReadyLeaf new.geometry b.items after next) (sym step.below) (subst (λ (g : Geometry). IsReadyLeaf g old.below.items after next) (sym step.geometry) moved) in
+    let below = readable_moved old.geometry old.below.items before after s ready.below in
+    record {
+      geometry = step.geometry;
+      numbers = ap (option_map (λ (l : Layer). l.log.number)) step.now ∙ ap Some same.number ∙ sym (ap (option_map (λ (l : Layer). l.log.number)) step.was);
+      ready = record {
+        sector = ap (λ (g : Geometry). g.sector) step.geometry ∙ ready.sector;
+        leaf = subst (λ o. IfSome o (IsReadyLeaf new.geometry new.below.items after)) (sym step.now) there;
+        below = subst (λ b. AreReadable new.geometry after b.items) (sym step.below) (subst (λ (g : Geometry). AreReadable g after old.below.items) (sym step.geometry) below);
+      };
+      serves = λ trace is v serving.
+          let held : Serves leaf trace v.top × AreRead old.below.items trace v.others = subst (λ o. AreHeld o old.below.items trace v.top v.others) step.was serving.held in
+          let rest : AreRead new.below.items trace v.others = subst (λ b. AreRead b.items trace v.others) (sym step.below) held.1 in
+          swapped old new v trace step.geometry (subst (λ o. AreHeld o new.below.items trace v.top v.others) (sym step.now) (same.serves trace v.top is held.0, rest)) serving;
+      told = s.told;
+    }
+
+-- ---- the files below were read
+
+-- layers that can be read have some files
+files_read : (g : Geometry) (disk : Disk) (trace : Trace) (below : List ReadLayer) → disk.told ≡ Some trace → AreReadable g disk below → (files : List Placed) × AreRead below trace files
+files_read g disk trace [] is all = ([], tt)
+files_read g disk trace (l ∷ below) is all =
+    let (file, read) = all.0.can.told trace is in
+    let (files, rest) = files_read g disk trace below is all.1 in
+    (file ∷ files, (read, rest))
+
+-- by which their numbers are seen
+same_numbers : (was now : List ReadLayer) (trace : Trace) (files : List Placed) → AreRead was trace files → AreRead now trace files → AllByRecursion (λ (l : ReadLayer). l.tables.parts.file ≢ 0) was
+    → AllByRecursion (λ (l : ReadLayer). l.tables.parts.file ≢ 0) now
+same_numbers was [] trace files a b ne = tt
+same_numbers [] (n ∷ now) trace [] a b ne = absurd b
+same_numbers [] (n ∷ now) trace (p ∷ files) a b ne = absurd a
+same_numbers (w ∷ was) (n ∷ now) trace [] a b ne = absurd b
+same_numbers (w ∷ was) (n ∷ now) trace (p ∷ files) a b ne = ((λ e. ne.0 (sym a.0.number ∙ b.0.number ∙ e)), same_numbers was now trace files a.1 b.1 ne.1)
+
+leaf_beside : (o : Option Layer) (g : Geometry) (was now : List ReadLayer) (before after : Disk) → Stays before after → AreSameRead g was now before → AreReadable g before was
+    → IfSome o (IsReadyLeaf g was before) → IfSome o (IsReadyLeaf g now after)
+leaf_beside None g was now before after s same readable leaf = tt
+leaf_beside (Some leaf) g was now before after s same readable l =
+    leaf_moved g now leaf before after s (record {
+      ready = l.ready;
+      number = l.number;
+      sector = l.sector;
+      sectors = l.sectors;
+      apart = λ trace is. let (files, read) = files_read g before trace was is readable in same_numbers was now trace files read (same.reads trace files is read) (l.apart trace is);
+    })
+
+held_beside : (o : Option Layer) (was now : List ReadLayer) (trace : Trace) (v : State) → ((files : List Placed) → AreRead was trace files → AreRead now trace files) → AreHeld o was trace v.top v.others → AreHeld o now trace v.top v.others
+held_beside None was now trace v reads held = (held.0, reads (files_of v) held.1)
+held_beside (Some leaf) was now trace v reads held = (held.0, reads v.others held.1)
+
+pub below_reads : (old new : Layers) (was now : List ReadLayer) (before after : Disk) (answer : Result (Unit {0}) StoreFault) → was ≡ old.below.items → new.geometry ≡ old.geometry → new.leaf ≡ old.leaf → new.below.items ≡ now
+    → AreSameRead old.geometry was now before → OnOk answer (after ≡ before) → IfErr answer (SomeReadFailed before after) → AreReady old before → HasOnlyRead old new before after
+below_reads old new was now before after answer w g l n same done failed ready =
+    let s = stays_by before after answer done (of_some before after answer failed) in
+    let same' : AreSameRead old.geometry old.below.items now before = subst (λ (b : List ReadLayer). AreSameRead old.geometry b now before) w same in
+    let leaf : IfSome old.leaf (IsReadyLeaf old.geometry now after) = leaf_beside old.leaf old.geometry old.below.items now before after s same' ready.below ready.leaf in
+    let leaf' : IfSome new.leaf (IsReadyLeaf new.geometry new.below.items after) =
+    subst (λ o. IfSome o (IsReadyLeaf new.geometry new.below.items after)) (sym l)
+    (subst (λ (b : List ReadLayer). IfSome old.leaf (IsReadyLeaf new.geometry b after)) (sym n) (subst (λ (k : Geometry). IfSome old.leaf (IsReadyLeaf k now after)) (sym g) leaf)) in
+    let below = readable_moved old.geometry now before after s same'.readable in
+    record {
+      geometry = g;
+      numbers = ap (option_map (λ (l : Layer). l.log.number)) l;
+      ready = record {
+        sector = ap (λ (k : Geometry). k.sector) g ∙ ready.sector;
+        leaf = leaf';
+        below = subst (λ (b : List ReadLayer). AreReadable new.geometry after b) (sym n) (subst (λ (k : Geometry). AreReadable k after now) (sym g) below);
+      };
+      serves = λ trace is v serving.
+          let held : AreHeld old.leaf now trace v.top v.others = held_beside old.leaf old.below.items now trace v (λ files. same'.reads trace files is) serving.held in
+          swapped old new v trace g (subst (λ o. AreHeld o new.below.items trace v.top v.others) (sym l) (subst (λ (b : List ReadLayer). AreHeld old.leaf b trace v.top v.others) (sym n) held)) serving;
+      told = s.told;
+    }
+
+-- ---- what was found
+
+pub leaf_adds : (layers : Layers) (leaf : Layer) (disk : Disk) (first count : ℕ) (mask new_mask out new_out : List ℕ) (answer : Result (Unit {0}) StoreFault) → layers.leaf ≡ Some leaf → AreReady layers disk
+    → OnOk answer ((parts : Parts) (layer : SectorLayer) → WhereTold disk.told (λ trace. IsHeld leaf parts layer (own_bytes leaf trace) → AddsOwned layer leaf.tables.parts.sector first count 0 mask new_mask out new_out))
+    → OnOk answer (AddsPart of_session first count layers disk mask new_mask out new_out)
+leaf_adds layers leaf disk first count mask new_mask out new_out (Err fault) is ready owned = tt
+leaf_adds layers leaf disk first count mask new_mask out new_out (Ok t) is ready owned = λ trace told v serving.
+    let l = leaf_of layers leaf disk is ready in
+    let serves : Serves leaf trace v.top = (subst (λ o. AreHeld o layers.below.items trace v.top v.others) is serving.held).0 in
+    let held : IsHeld leaf serves.parts v.top.member.layer (own_bytes leaf trace) = subst (λ (n : ℕ). IsHeld leaf serves.parts v.top.member.layer (seen (file_of trace n))) serves.number serves.as_held in
+    let adds = owned serves.parts v.top.member.layer trace told held in
+    let sized = subst (λ (z : ℕ). AddsOwned v.top.member.layer z first count 0 mask new_mask out new_out) l.sector adds in
+    subst (λ o. AddsOwned (of_session o v) layers.geometry.sector first count 0 mask new_mask out new_out) (sym is) sized
+
+pub below_adds : (layers : Layers) (was : List ReadLayer) (disk : Disk) (first count : ℕ) (mask new_mask out new_out : List ℕ) (answer : Result (Unit {0}) StoreFault) → was ≡ layers.below.items
+    → OnOk answer ((files : List Placed) → WhereTold disk.told (λ trace. AreRead was trace files → AddsOwned (through (layers_of (members_of files))) layers.geometry.sector first count 0 mask new_mask out new_out))
+    → OnOk answer (AddsPart of_read first count layers disk mask new_mask out new_out)
+below_adds layers was disk first count mask new_mask out new_out (Err fault) w owned = tt
+below_adds layers was disk first count mask new_mask out new_out (Ok t) w owned = λ trace told v serving. by_leaf layers.leaf trace told v serving.held
+  where
+    by_leaf : (o : Option Layer) (trace : Trace) → disk.told ≡ Some trace → (v : State) → AreHeld o layers.below.items trace v.top v.others → AddsOwned (of_read o v) layers.geometry.sector first count 0 mask new_mask out new_out
+    by_leaf None trace told v held = owned (files_of v) trace told (subst (λ (b : List ReadLayer). AreRead b trace (files_of v)) (sym w) held.1)
+    by_leaf (Some leaf) trace told v held = owned v.others trace told (subst (λ (b : List ReadLayer). AreRead b trace v.others) (sym w) held.1)
+
+-- a mask of zeros has no bit set
+blank : (k : ℕ) → k < 2048 → bit_of (replicate 256 0) (0 + k) ≡ 0
+blank k below =
+    let at : 0 + k ≡ k = omega arith in
+    let inside : k / 8 < 256 = omega arith in
+    ap (λ (n : ℕ). bit_of (replicate 256 0) n) at ∙ ap (λ (n : ℕ). bit_at n (k % 8)) (get_or-replicate 256 (k / 8) 0 0 inside) ∙ bit_at-zero (k % 8)
+
+-- what two parts found, one behind the other
+found : (a b : SectorLayer) (z first count k : ℕ) (bytes mask mask1 mask2 out out1 out2 : List ℕ) → AddsOwned a z first count 0 mask mask1 out out1 → AddsOwned b z first count 0 mask1 mask2 out1 out2
+    → k < count → bit_of mask (0 + k) ≡ 0 → option_or (a (first + k)) (b (first + k)) ≡ Some bytes → bytes_at out2 (z * k) z ≡ bytes
+found a b z first count k bytes mask mask1 mask2 out out1 out2 one two below bit is = by_first (a (first + k)) refl
+  where
+    by_first : (o : Option (List ℕ)) → a (first + k) ≡ o → bytes_at out2 (z * k) z ≡ bytes
+    by_first (Some x) e =
+        let mine = one.owned k x below bit e in
+        let same : ◌≡◌ {A = Option (List ℕ)} (Some x) (Some bytes) = sym (ap (λ o. option_or o (b (first + k))) e) ∙ is in
+        (two.found k below mine.0).1 ∙ mine.1 ∙ ap (λ (o : Option (List ℕ)). unwrap_or o []) same
+    by_first None e =
+        let none = one.others k below bit e in
+        (two.owned k bytes below none.0 (sym (ap (λ o. option_or o (b (first + k))) e) ∙ is)).1
+
+-- both parts are all files
+all_parts : (o p : Option Layer) (v : State) (s : ℕ) → option_map (λ (l : Layer). l.log.number) p ≡ option_map (λ (l : Layer). l.log.number) o → option_or (of_session o v s) (of_read p v s) ≡ seen_in (files_of v) s
+all_parts None None v s e = refl
+all_parts None (Some q) v s e = absurd (let h : ◌≡◌ {A = Option ℕ} (Some q.log.number) None = e in cc)
+all_parts (Some q) None v s e = absurd (let h : ◌≡◌ {A = Option ℕ} None (Some q.log.number) = e in cc)
+all_parts (Some q) (Some r) v s e = refl
+
+-- ---- what is read
+
+abbrev HasPieces : ℕ → GuestDisk → ℕ → ℕ → List ℕ → Type 0
+HasPieces z disk first n bytes = (k : ℕ) → k < n → sector_at disk (first + k) ≡ take z (drop (k * z) bytes)
+
+pieces_behind : (z : ℕ) (disk : GuestDisk) (first n : ℕ) (bytes : List ℕ) → HasPieces z disk first (suc n) bytes → HasPieces z disk (first + 1) n (drop z bytes)
+pieces_behind z disk first n bytes h k below =
+    let place : first + 1 + k ≡ first + suc k = omega arith in
+    let start : suc k * z ≡ z + k * z = omega arith in
+    ap (sector_at disk) place ∙ h (suc k) (omega arith) ∙ ap (λ m. take z (drop m bytes)) start ∙ ap (take z) (sym (drop-drop (k * z) z bytes))
+
+-- sectors that are pieces of the bytes, one behind the other
+joined : (z : ℕ) (disk : GuestDisk) (first n : ℕ) (bytes : List ℕ) → first + n ≤ length disk → length bytes ≡ n * z → HasPieces z disk first n bytes → bytes_of (take n (drop first disk)) ≡ bytes
+joined z disk first zero bytes inside len h = sym (nil_from_length bytes (omega arith))
+joined z disk first (suc n) bytes inside len h =
+    let place : first ≡ first + 0 = omega arith in
+    let start : 0 * z ≡ 0 = omega arith in
+    let front : sector_at disk first ≡ take z bytes = ap (sector_at disk) place ∙ h 0 (omega arith) ∙ ap (λ m. take z (drop m bytes)) start in
+    let rest = joined z disk (first + 1) n (drop z bytes) (omega arith) (omega (arith, length-drop z bytes)) (pieces_behind z disk first n bytes h) in
+    ap (λ d. bytes_of (take (suc n) d)) (drop_more disk first [] (omega arith))
+    ∙ ap (λ s. s ++ bytes_of (take n (drop (first + 1) disk))) front
+    ∙ ap (λ l. take z bytes ++ l) rest
+    ∙ take-append-drop z bytes
+
+some_of : (o : Option (List ℕ)) (d : List ℕ) → is_some o ≡ true → o ≡ Some (unwrap_or o d)
+some_of None d h = absurd (cc)
+some_of (Some x) d h = refl
+
+-- the bytes are the disk's
+replied : (z first count : ℕ) (v : State) (layers : Layers) (trace : Trace) (out : List ℕ) → z ≡ sector_of v → IsServing layers v trace → first + count ≤ v.top.member.ties.geometry.sectors → length out ≡ z * count
+    → ((k : ℕ) (bytes : List ℕ) → k < count → seen_in (files_of v) (first + k) ≡ Some bytes → bytes_at out (z * k) z ≡ bytes) → reply (disk_now v) (calls.Read first count) ≡ replies.Bytes out
+unfolding bytes_at
+replied z first count v layers trace out sized serving inside len has =
+    let g : Geometry = v.top.member.ties.geometry in
+    let all : List SectorLayer = layers_of (members_of (files_of v)) in
+    let is : flat z g.sectors all ≡ disk_now v = ap (λ (n : ℕ). flat n g.sectors all) sized ∙ serving.served.disk in
+    let whole : first + count ≤ length (flat z g.sectors all) = subst (λ (n : ℕ). first + count ≤ n) (sym (length-flat z g.sectors all)) inside in
+    ap (λ d. reply d (calls.Read first count)) (sym is)
+    ∙ ap replies.Bytes (joined z (flat z g.sectors all) first count out whole (len ∙ mul_comm z count) (λ k below.
+    sector_at-flat z g.sectors all (first + k) (omega arith)
+    ∙ sym (ap (λ (m : ℕ). take z (drop m out)) (mul_comm k z) ∙ has k (unwrap_or (seen_in (files_of v) (first + k)) (zeros z)) below (some_of (seen_in (files_of v) (first + k)) (zeros z) (serving.whole (first + k) (omega arith))))))
+
+pub finds : (old mid : Layers) (disk mid_disk : Disk) (first count : ℕ) (mask1 mask2 out out1 out2 : List ℕ) (answer : Result (Unit {0}) StoreFault) → count ≤ 2048 → first + count ≤ old.geometry.sectors → length out2 ≡ old.geometry.sector * count
+    → HasOnlyRead old mid disk mid_disk → mid_disk ≡ disk → AddsPart of_session first count old disk (replicate 256 0) mask1 out out1 → OnOk answer (AddsPart of_read first count mid mid_disk mask1 mask2 out1 out2)
+    → OnOk answer (WhereTold disk.told (λ trace. (v : State) → IsServing old v trace → reply (disk_now v) (calls.Read first count) ≡ replies.Bytes out2))
+finds old mid disk mid_disk first count mask1 mask2 out out1 out2 (Err fault) few inside len reads same one two = tt
+finds old mid disk mid_disk first count mask1 mask2 out out1 out2 (Ok t) few inside len reads same one two = λ trace told v serving.
+    let z = old.geometry.sector in
+    let a = one trace told v serving in
+    let b' = two trace (ap (λ (d : Disk). d.told) same ∙ told) v (reads.serves trace told v serving) in
+    let b = subst (λ (n : ℕ). AddsOwned (of_read mid.leaf v) n first count 0 mask1 mask2 out1 out2) (ap (λ (g : Geometry). g.sector) reads.geometry) b' in
+    replied z first count v old trace out2 (ap (λ (g : Geometry). g.sector) serving.geometry) serving (subst (λ (g : Geometry). first + count ≤ g.sectors) serving.geometry inside) len
+    (λ k bytes below is. found (of_session old.leaf v) (of_read mid.leaf v) z first count k bytes (replicate 256 0) mask1 mask2 out out1 out2 a b below (blank k (omega arith))
+    (all_parts old.leaf mid.leaf v (first + k) reads.numbers ∙ is))

@@ -1,0 +1,11 @@
+pub mod Steps
+pub mod Leafs
+pub mod Standing
+pub mod Concluding
+pub mod Holding
+pub mod Finding
+pub mod Looking
+pub mod Opened
+pub mod Beginning
+pub mod Fresh
+pub mod Showing

@@ -1,0 +1,88 @@
+-- What a read makes of a session.
+use Rattle.std.proofs.Common.{◌≡◌, ℕ, Bool, true, false, ◌||◌, List, [], ◌∷◌, ◌++◌, refl, sym, ap, subst, ◌∙◌}
+use Rattle.std.specs.Prelude.{Option, Some, None, Result, Ok, Err, OnOk}
+use Rattle.std.proofs.Math.Bool.{or-false}
+use Rattle.store_model.specs.declared.fault.StoreFault.{StoreFault}
+use Rattle.store_model.specs.Disk.{Disk, WhereTold, WhereBothTold}
+use Rattle.store_model.specs.Trace.{Trace, EachMoment}
+use Rattle.store_model.proofs.Spans.{EachMoment-now, EachMoment-weaken}
+use Rattle.guest_model.specs.declared.refusal.ChainRefusal.{ChainRefusal}
+use Rattle.guest_model.specs.declared.call.Caller.{Caller}
+use Rattle.guest_model.specs.declared.call.Entry.{Entry}
+use Rattle.guest_model.specs.declared.call.Call.TheVariants as calls
+use Rattle.guest_model.specs.Calls.{is_named}
+use Rattle.guest_model.specs.History.{either, is_dirty, replay}
+use Rattle.guest_model.proofs.HistoryLaws.{replay_unchanged}
+use Rattle.chain_model.specs.Images.{Placed}
+use Rattle.chain_model.specs.Moments.{EachOpens}
+use Rattle.chain_model.proofs.Serving.{loose_is_dirty, past_goes_on, served_chains_open}
+use Rattle.layer_session.specs.declared.file.LayerFault.{LayerFault}
+use Rattle.chain_core.specs.declared.layers.Layers.{Layers}
+use Rattle.chain_core.specs.States.{State, IsServing, dirty_now, disk_now, entry, files_of, made, sector_of, with_entry}
+use Rattle.chain_core.specs.Reading.{Finds, HasOnlyRead}
+use Rattle.chain_core.specs.Answering.{EachOpensBefore, IsDone, LayerAnswers, LayerTold, answer_of, as_read}
+use Rattle.chain_core.proofs.Steps.{at_rest}
+
+-- a read makes nothing loose
+read_leaves : (z first count : ℕ) (top : Placed) → top ≡ made z (calls.Read first count) top
+read_leaves z first count top =
+    let same : top.is_loose ≡ (λ s. top.is_loose s || false) = sym (λ i. λ s. or-false (top.is_loose s) i) in
+    ap (λ (f : ℕ → Bool). let p : Placed = record top { is_loose = f } in p) same
+
+first_out : (a b : Bool) → (a || b) ≡ false → a ≡ false
+first_out true b h = h
+first_out false b h = refl
+
+-- each image opens to the disk, outside what is dirty and what a read names, which is nothing
+opens_still : (first count : ℕ) (who : Caller) (v : State) (layers : Layers) (trace : Trace) → IsServing layers v trace → EachOpensBefore (entry who (calls.Read first count)) v trace trace
+opens_still first count who v layers trace serving =
+    let among = either (dirty_now v) (is_named (sector_of v) (calls.Read first count)) in
+    EachMoment-now (EachOpens v.leaf among (disk_now v)) trace
+    (served_chains_open.settled (sector_of v) v.opening v.history v.leaf among v.retired (files_of v) trace serving.once serving.served ((λ s clean. serving.loose.0 s (first_out (dirty_now v s) _ clean)), serving.loose.1))
+
+-- the session serves the history with the read
+read_on : (first count : ℕ) (who : Caller) (v : State) (layers : Layers) (trace : Trace) → IsServing layers v trace → IsServing layers (with_entry (entry who (calls.Read first count)) v) trace
+read_on first count who v layers trace s =
+    let e : Entry = entry who (calls.Read first count) in
+    let z = sector_of v in
+    let longer : State = record v { history = v.history ++ e ∷ [] } in
+    let kept : IsServing layers longer trace = record {
+      once = s.once;
+      geometry = s.geometry;
+      served = record { linked = s.served.linked; kept = s.served.kept; disk = s.served.disk ∙ sym (replay_unchanged z v.opening v.history e refl) };
+      loose = loose_is_dirty.settled z v.history e v.top v.top v.others (record { call = λ sector loose named. loose; flush = λ flush. absurd (let never : false ≡ true = flush in cc) }) s.loose;
+      held = s.held;
+      whole = s.whole;
+      synced = s.synced;
+      still = s.still;
+      past = past_goes_on.call z v.opening v.history e (λ s. false) v.leaf v.began trace trace s.past (opens_still first count who v layers trace s);
+    } in
+    subst (λ (top : Placed). let w : State = record longer { top = top } in IsServing layers w trace) (read_leaves z first count v.top) kept
+
+-- what holds of one moment holds from it to itself
+pub both_same : {T : Type 0} (P : T → T → Type 0) (a b : Option T) → b ≡ a → ((t : T) → a ≡ Some t → P t t) → WhereBothTold P a b
+both_same P a b e h = subst (λ o. WhereBothTold P a o) (sym e) (itself a h)
+  where
+    itself : (a : Option _) → ((t : _) → a ≡ Some t → P t t) → WhereBothTold P a a
+    itself None h = tt
+    itself (Some t) h = h t refl
+
+by_answer : (first count : ℕ) (who : Caller) (v : State) (layers : Layers) (trace : Trace) (answer : Result (Unit {0}) StoreFault) → IsServing layers v trace → LayerAnswers (entry who (calls.Read first count)) v layers trace trace (as_read answer)
+by_answer first count who v layers trace (Ok t) serving = record { moments = opens_still first count who v layers trace serving; serving = read_on first count who v layers trace serving }
+by_answer first count who v layers trace (Err fault) serving = at_rest v layers trace serving
+
+pub looked : (first count : ℕ) (old new : Layers) (before after : Disk) (answer : Result (Unit {0}) StoreFault) → HasOnlyRead old new before after → LayerTold (calls.Read first count) old new before after (as_read answer)
+looked first count old new before after answer reads =
+    both_same (λ trace now. (who : Caller) (v : State) → IsServing old v trace → LayerAnswers (entry who (calls.Read first count)) v new trace now (as_read answer)) before.told after.told reads.told
+    (λ trace told who v serving. by_answer first count who v new trace answer (reads.serves trace told v serving))
+
+-- what was found in the layers as they were
+pub found_before : (first count place : ℕ) (bytes out : List ℕ) (layers0 layers1 : Layers) (disk0 disk1 : Disk) (answer : Result (Unit {0}) StoreFault) (result : Result ℕ ChainRefusal) → out ≡ bytes → layers1 ≡ layers0 → disk1 ≡ disk0
+    → result ≡ answer_of place (as_read answer) → OnOk answer (Finds first count bytes layers1 disk1) → OnOk result (Finds first count out layers0 disk0)
+found_before first count place bytes out layers0 layers1 disk0 disk1 answer result o l d is finds =
+    subst (λ r. OnOk r (Finds first count out layers0 disk0)) (sym is) (by_case answer finds)
+  where
+    by_case : (answer : Result (Unit {0}) StoreFault) → OnOk answer (Finds first count bytes layers1 disk1) → OnOk (answer_of place (as_read answer)) (Finds first count out layers0 disk0)
+    by_case (Err fault) finds = tt
+    by_case (Ok t) finds =
+        subst (λ (b : List ℕ). Finds first count b layers0 disk0) (sym o) (subst (λ (k : Layers). Finds first count bytes k disk0) l (subst (λ (k : Disk). Finds first count bytes layers1 k) d finds))

@@ -1,0 +1,20 @@
+use Rattle.std.proofs.Common.{◌≡◌, refl, sym, subst}
+use Rattle.chain_core.specs.Starting.{HasStarted}
+use Rattle.chain_core.specs.declared.starting.Mode.{Mode}
+use Rattle.chain_core.proofs.Beginning.{files_rest, reading_ready, reading_started}
+use Rattle.chain_core.proofs.layers.Layers.start.Goals as goal
+
+pub returns-in_err-open-in-ReadOnly-clause-moments : goal.returns-in_err-open-in-ReadOnly-clause-moments
+returns-in_err-open-in-ReadOnly-clause-moments g c = files_rest c.args.files.now (g.S.Store.disk c.args.store.now) c.requires.files
+
+pub returns-in_ok-open-in-ReadOnly-clause-moments : goal.returns-in_ok-open-in-ReadOnly-clause-moments
+returns-in_ok-open-in-ReadOnly-clause-moments g c = files_rest c.args.files.now (g.S.Store.disk c.args.store.now) c.requires.files
+
+pub returns-in_ok-open-in-ReadOnly-clause-started : goal.returns-in_ok-open-in-ReadOnly-clause-started
+returns-in_ok-open-in-ReadOnly-clause-started g c =
+    subst (λ (mode : Mode). HasStarted mode c.args.files.now c.in_ok-open-in-ReadOnly.field-0 (g.S.Store.disk c.args.store.now) (g.S.Store.disk c.args.store.now) (g.I.Ids.drawn c.args.ids.now) (g.I.Ids.drawn c.args.ids.now)) (sym c.in-ReadOnly.is)
+    (reading_started c.args.files.now c.in_ok-open-in-ReadOnly.field-0 (g.S.Store.disk c.args.store.now) (g.I.Ids.drawn c.args.ids.now) c.requires.files c.in_ok-open-in-ReadOnly.ensures.geometry c.in_ok-open-in-ReadOnly.ensures.leaf c.in_ok-open-in-ReadOnly.ensures.below)
+
+pub returns-in_ok-open-in-ReadOnly-clause-ready : goal.returns-in_ok-open-in-ReadOnly-clause-ready
+returns-in_ok-open-in-ReadOnly-clause-ready g c =
+    reading_ready c.args.files.now c.in_ok-open-in-ReadOnly.field-0 (g.S.Store.disk c.args.store.now) c.requires.files c.in_ok-open-in-ReadOnly.ensures.geometry c.in_ok-open-in-ReadOnly.ensures.leaf c.in_ok-open-in-ReadOnly.ensures.below

@@ -1,0 +1,5 @@
+use Rattle.chain_core.proofs.Beginning.{files_rest}
+use Rattle.chain_core.proofs.layers.Layers.start_guests.Goals as goal
+
+pub returns-in-Some-clause-moments : goal.returns-in-Some-clause-moments
+returns-in-Some-clause-moments g c = files_rest c.args.files.now (g.S.Store.disk c.args.store.now) c.requires.files

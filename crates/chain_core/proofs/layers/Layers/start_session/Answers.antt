@@ -1,0 +1,34 @@
+use Rattle.std.proofs.Common.{◌≡◌, ◌∷◌, ◌-◌, List, length, take, drop, ap, sym, subst, ◌∙◌}
+use Rattle.std.specs.Prelude.{Option}
+use Rattle.store_model.specs.Disk.{Disk}
+use Rattle.store_model.specs.Trace.{Trace}
+use Rattle.link_rules.specs.declared.linked.LinkedFile.{LinkedFile}
+use Rattle.chain_core.specs.Starting.{EachOpensAlike}
+use Rattle.chain_core.proofs.Beginning.{files_rest, of_disk, parted, session_answers}
+use Rattle.chain_core.proofs.Fresh.{fresh}
+use Rattle.chain_core.proofs.layers.Layers.start_session.Goals as goal
+
+pub returns-in_err-new-clause-moments : goal.returns-in_err-new-clause-moments
+returns-in_err-new-clause-moments g c =
+    subst (λ (o : Option Trace). EachOpensAlike c.args.files.now (g.S.Store.disk c.args.store.now).told o) (sym c.choose_ids.ensures.told)
+    (files_rest c.args.files.now (g.S.Store.disk c.args.store.now) c.requires.files)
+
+pub begin-requires-clause-fresh : goal.begin-requires-clause-fresh
+begin-requires-clause-fresh g c t told =
+    let others : List LinkedFile = take (length c.args.files.now - 1) (drop 1 c.args.files.now) in
+    let is : c.args.files.now ≡ c.leaf-item.result ∷ others = parted c.args.files.now c.leaf-item.result c.in-len1-up.len_at_least ∙ ap (λ (f : LinkedFile). f ∷ others) (sym c.leaf-item.is) in
+    fresh c.args.files.now (g.S.Store.disk c.args.store.now) (g.I.Ids.drawn c.args.ids.now) (g.I.Ids.drawn c.choose_ids.new.ids) c.in_ok-new.new c.leaf-item.result others c.requires.files c.in_ok-new.ensures.fit is t
+    (sym c.choose_ids.ensures.told ∙ told)
+
+pub returns-in-len1-up-clause-begun : goal.returns-in-len1-up-clause-begun
+returns-in-len1-up-clause-begun g c =
+    let others : List LinkedFile = take (length c.args.files.now - 1) (drop 1 c.args.files.now) in
+    let is : c.args.files.now ≡ c.leaf-item.result ∷ others = parted c.args.files.now c.leaf-item.result c.in-len1-up.len_at_least ∙ ap (λ (f : LinkedFile). f ∷ others) (sym c.leaf-item.is) in
+    session_answers c.args.files.now c.leaf-item.result others c.in_ok-new.new c.begin.result (g.S.Store.disk c.args.store.now) (g.S.Store.disk c.choose_ids.new.store) (g.S.Store.disk c.begin.new.store)
+    (g.I.Ids.drawn c.args.ids.now) (g.I.Ids.drawn c.choose_ids.new.ids) is c.in_ok-new.ensures.stays c.in_ok-new.ensures.fit c.begin.ensures.session c.begin.ensures.serving c.begin.ensures.counts
+
+pub returns-in-len1-up-clause-geometry : goal.returns-in-len1-up-clause-geometry
+returns-in-len1-up-clause-geometry g c =
+    let others : List LinkedFile = take (length c.args.files.now - 1) (drop 1 c.args.files.now) in
+    let is : c.args.files.now ≡ c.leaf-item.result ∷ others = parted c.args.files.now c.leaf-item.result c.in-len1-up.len_at_least ∙ ap (λ (f : LinkedFile). f ∷ others) (sym c.leaf-item.is) in
+    of_disk c.args.files.now c.leaf-item.result others c.begin.result is c.begin.ensures.geometry

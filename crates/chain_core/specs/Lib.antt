@@ -1,0 +1,9 @@
+pub mod States
+pub mod Sessions
+pub mod Refusing
+pub mod Answering
+pub mod Reading
+pub mod Starting
+pub mod Converting
+pub mod Events
+pub mod Laws

@@ -1,0 +1,65 @@
+-- What stands of a session for every store, whether it tells its content or not.
+use Rattle.std.specs.Prelude.{◌≡◌, ◌≢◌, ◌+◌, ◌^◌, ◌≤◌, ℕ, List, Option, None, IfSome}
+use Rattle.std.specs.List.{AllByRecursion}
+use Rattle.vx_base.specs.declared.parts.Geometry.{Geometry}
+use Rattle.store_model.specs.Disk.{Disk, WhereTold}
+use Rattle.store_model.specs.declared.fault.StoreFault.{StoreFault}
+use Rattle.guest_model.specs.declared.call.Entry.{Entry}
+use Rattle.layer_session.specs.declared.file.Layer.{Layer}
+use Rattle.layer_session.specs.declared.read_layer.ReadLayer.{ReadLayer}
+use Rattle.layer_session.specs.Calls.{own_file}
+use Rattle.layer_session.specs.Keeping.{IsReady}
+use Rattle.layer_session.specs.ReadOnly.{AreReadable}
+use Rattle.chain_core.specs.declared.chain.Chain.{Chain}
+use Rattle.chain_core.specs.declared.layers.Layers.{Layers}
+
+-- A session: the layers of its files, how many events it had, the fault that broke it, how many entries its recorder has and which, if
+-- it tells them, and its store.
+pub record Session : Type 0 where
+  pub layers : Layers
+  pub events : ℕ
+  pub broken : Option StoreFault
+  pub noted : ℕ
+  pub told : Option (List Entry)
+  pub disk : Disk
+
+-- that of a chain, by what its store and its recorder tell
+abbrev pub seen : {S R T : Type 0} → (S → Disk) → (R → ℕ) → (R → Option (List Entry)) → Chain S R T → Session
+seen disk noted told chain = record {
+  layers = chain.layers;
+  events = chain.events;
+  broken = chain.broken;
+  noted = noted chain.recorder;
+  told = told chain.recorder;
+  disk = disk chain.store;
+}
+
+-- only the count of events is another
+abbrev pub IsCounted : {S R T : Type 0} → Chain S R T → Chain S R T → Type 0
+IsCounted old new = new ≡ record old { events = new.events }
+
+-- the leaf's layer in a session can be written; its file is the store's first, and no other layer's where the store tells its content
+pub record IsReadyLeaf (geometry : Geometry) (below : List ReadLayer) (disk : Disk) (leaf : Layer) : Type 0 where
+  pub ready : IsReady leaf disk
+  pub number : own_file leaf ≡ 0
+  pub sector : leaf.tables.parts.sector ≡ geometry.sector
+  pub sectors : leaf.tables.parts.sectors ≡ geometry.sectors
+  pub apart : WhereTold disk.told (λ _. AllByRecursion (λ (l : ReadLayer). l.tables.parts.file ≢ 0) below)
+
+-- layers of files that can be read, and the leaf written if it is in a session
+pub record AreReady (layers : Layers) (disk : Disk) : Type 0 where
+  pub sector : layers.geometry.sector ≡ 512
+  pub leaf : IfSome layers.leaf (IsReadyLeaf layers.geometry layers.below.items disk)
+  pub below : AreReadable layers.geometry disk layers.below.items
+
+-- the number of the log's last entry is at most this
+abbrev pub IsLow : ℕ → Layers → Type 0
+IsLow most layers = IfSome layers.leaf (λ leaf. leaf.log.number ≤ most)
+
+-- Each entry of the history was an event, and each event wrote at most one entry of the log; until a change fails the layers are ready.
+pub record IsSound (s : Session) : Type 0 where
+  pub sector : s.layers.geometry.sector ≡ 512
+  pub noted : s.noted ≤ s.events
+  pub few : s.events ≤ 2 ^ 63
+  pub ready : s.broken ≡ None → AreReady s.layers s.disk
+  pub low : s.broken ≡ None → IsLow (s.events + 1) s.layers

@@ -1,0 +1,101 @@
+-- What a chain keeps in a session, where its store tells its content.
+use Rattle.std.specs.Prelude.{◌≡◌, ◌≢◌, ◌<◌, ℕ, Bool, true, false, if◌then◌else◌, is_some, List, [], ◌∷◌, ◌++◌, Option, Some, None}
+use Rattle.std.specs.List.{AllByRecursion}
+use Rattle.store_model.specs.File.{is_synced}
+use Rattle.store_model.specs.Trace.{Trace, file_of}
+use Rattle.guest_model.specs.declared.call.Call.{Call}
+use Rattle.guest_model.specs.declared.call.Caller.{Caller}
+use Rattle.guest_model.specs.declared.call.Entry.{Entry}
+use Rattle.guest_model.specs.Calls.{Disk, is_named}
+use Rattle.guest_model.specs.History.{History, either, is_dirty, is_flush, replay}
+use Rattle.chain_model.specs.Layers.{Layer as SectorLayer, through, with_call}
+use Rattle.chain_model.specs.Members.{layers_of}
+use Rattle.chain_model.specs.Images.{Placed, members_of}
+use Rattle.chain_model.specs.Moments.{EachOpensToPrefix}
+use Rattle.chain_model.specs.Sessions.{IsServed, LooseAtTop}
+use Rattle.chain_model.specs.PhaseLaws.{IsNamedOnce, loosened}
+use Rattle.layer_session.specs.declared.file.Layer.{Layer}
+use Rattle.layer_session.specs.declared.read_layer.ReadLayer.{ReadLayer}
+use Rattle.layer_session.specs.Keeping.{Serves}
+use Rattle.layer_session.specs.ReadOnly.{AreRead}
+use Rattle.chain_core.specs.declared.layers.Layers.{Layers}
+
+-- What is said of a session and kept by no code: the name that it was opened by, the retired leaves behind that name, its files from
+-- the leaf on, the disk when it began, its history, and the moment when it began.
+pub record State : Type 0 where
+  pub leaf : List ℕ
+  pub retired : List Placed
+  pub top : Placed
+  pub others : List Placed
+  pub opening : Disk
+  pub history : History
+  pub began : Trace
+
+-- the files of the chain, from the leaf to the base
+abbrev pub files_of : State → List Placed
+files_of v = v.top ∷ v.others
+
+-- the size of a sector
+abbrev pub sector_of : State → ℕ
+sector_of v = v.top.member.ties.geometry.sector
+
+-- the disk of the history
+abbrev pub disk_now : State → Disk
+disk_now v = replay (sector_of v) v.opening v.history
+
+-- its dirty sectors
+abbrev pub dirty_now : State → ℕ → Bool
+dirty_now v = is_dirty (sector_of v) v.history
+
+-- ---- calls
+
+-- a caller's call, as it stands in the history
+abbrev pub entry : Caller → Call → Entry
+entry who call = record { guest = who.guest; no = who.no; call = call }
+
+-- a file while a call goes on: what was loose and what the call names may be loose
+abbrev pub wide : ℕ → Call → Placed → Placed
+wide z call file = loosened (either file.is_loose (is_named z call)) file
+
+-- A file once the call was made on it: its layer has the call, and what was loose or is named is loose; behind a Flush, which is a
+-- commit, nothing is.
+abbrev pub made : ℕ → Call → Placed → Placed
+made z call file = record file {
+  member = record file.member { layer = with_call z call file.member.layer };
+  is_loose = λ s. if is_flush call then false else either file.is_loose (is_named z call) s;
+}
+
+-- the state behind a call
+abbrev pub with_entry : Entry → State → State
+with_entry e v = record v { top = made (sector_of v) e.call v.top; history = v.history ++ e ∷ [] }
+
+-- ---- the invariant
+
+-- what some files say of a sector, the upper one first
+abbrev pub seen_in : List Placed → SectorLayer
+seen_in files = through (layers_of (members_of files))
+
+-- Layers have these files of the store: in a session the leaf's layer serves the first, and the others are read; with no session all are
+-- read, and nothing is loose.
+abbrev pub AreHeld : Option Layer → List ReadLayer → Trace → Placed → List Placed → Type 0
+AreHeld None below trace top others = ((s : ℕ) → top.is_loose s ≡ false) × AreRead below trace (top ∷ others)
+AreHeld (Some leaf) below trace top others = Serves leaf trace top × AreRead below trace others
+
+-- no file but the leaf was changed since the session began
+abbrev pub LeavesOthers : State → Trace → Type 0
+LeavesOthers v trace = (other : ℕ) → other ≢ v.top.number → file_of trace other ≡ file_of v.began other
+
+-- A session in which no change failed, with no merge: the history's disk is that of its files, which its layers have; only the leaf has
+-- loose sectors, which are dirty ones; and each moment since it began opens to a prefix of the history.
+pub record IsServing (layers : Layers) (v : State) (trace : Trace) : Type 0 where
+  pub once : IsNamedOnce trace
+  pub geometry : layers.geometry ≡ v.top.member.ties.geometry
+  pub served : IsServed (sector_of v) v.opening v.history v.leaf v.retired (files_of v) trace
+  pub loose : LooseAtTop (dirty_now v) (files_of v)
+  pub held : AreHeld layers.leaf layers.below.items trace v.top v.others
+  -- each sector of the disk is in one of the files
+  pub whole : (s : ℕ) → s < v.top.member.ties.geometry.sectors → is_some (seen_in (files_of v) s) ≡ true
+  -- nothing of any file was unsynced when it began, and no other has changed since
+  pub synced : AllByRecursion (λ f. is_synced (file_of v.began f.number) ≡ true) (files_of v)
+  pub still : LeavesOthers v trace
+  pub past : EachOpensToPrefix (sector_of v) v.opening v.history (λ s. false) v.leaf v.began trace

@@ -1,0 +1,390 @@
+//! The session of a chain.
+
+ghost use Rattle.std.specs.Prelude.{◌≡◌, ◌+◌, ◌-◌, ◌*◌, ◌/◌, ◌%◌, ◌<◌, ◌++◌, ◌∷◌, [], Ok, Err, true, false, None, Some, length, take, is_some, option_map, IfErr, IfNone, IfOk, IfSome, IsTrue, OnErr, OnOk};
+ghost use Rattle.guest_model.specs.declared.call.Call.TheVariants as calls;
+ghost use Rattle.guest_model.specs.Calls.{call_of, entry_of};
+ghost use Rattle.store_model.specs.Plans.{FailsToChange};
+ghost use Rattle.chain_core.specs.Answering.{AnswersTold, ClosesTold, HasCause, HasReadCause, HasRoom, IsDurable, Notes, answer_of, as_read, breaks};
+ghost use Rattle.chain_core.specs.Events.{HasWholeSectors, IsCaused, RepliesBy, answer_by, placed};
+ghost use Rattle.chain_core.specs.Reading.{Finds};
+ghost use Rattle.chain_core.specs.Refusing.{IfRefused, counted, is_read, misplaced, range_of, fill, refused, unfit};
+ghost use Rattle.chain_core.specs.Starting.{CanStart, EachOpensAlike, HasStarted, IsOfDisk, RefusesStart};
+ghost use Rattle.chain_core.specs.Sessions.{IsCounted, IsSound, seen};
+
+use crate::answer::Answer;
+use crate::layers::Layers;
+use crate::starting::{Mode, StartRefusal};
+use guest_model::{Call, CallRef, Caller, ChainRefusal, Recorder, Reply, check_range};
+use layer_session::LayerFault;
+use link_rules::LinkedFile;
+use std::alloc::Global;
+use store_model::{Ids, Store, StoreFault};
+use vx_base::{Bytes, Geometry, NoRoom};
+
+/// The greatest count of events.
+const EVENTS: u64 = 1 << 63;
+
+/// How many sectors a read or a write may name.
+const MOST_MOVED: u64 = 2_048;
+
+/// How many sectors a trim may name.
+const MOST_TRIMMED: u64 = 524_288;
+
+/// A chain of files in a session: its store, its history, and the layers of its files.
+pub struct Chain<S: Store, R: Recorder> {
+    store: S,
+    recorder: R,
+    layers: Layers,
+    /// How many events there were.
+    events: u64,
+    /// The fault that broke the session.
+    broken: Option<StoreFault>,
+}
+
+impl<S: Store, R: Recorder> Chain<S, R> {
+    /// A session over these files of the store, with no call yet. For guests the leaf's session begins, under new identifiers. A
+    /// refused one gives the store back; whatever is answered, the files open to the disk that they had.
+    pub fn start<I: Ids>(
+        alloc: Global,
+        mut store: S,
+        files: &[LinkedFile],
+        mode: Mode,
+        recorder: R,
+        ids: &mut I,
+    ) -> Result<Chain<S, R>, (S, StartRefusal)>
+        requires files { CanStart files.now (S.disk store) }
+        requires empty { R.noted recorder ≡ 0 }
+        ensures sound { IfOk result (λ chain. IsSound (seen S.disk R.noted R.told chain)) }
+        ensures new { IfOk result (λ chain. (chain.events ≡ 0) × (chain.broken ≡ None) × (chain.recorder ≡ recorder)) }
+        ensures geometry { IfOk result (λ chain. IsOfDisk files.now chain.layers.geometry) }
+        ensures started { IfOk result (λ c. HasStarted mode files.now c.layers (S.disk store) (S.disk c.store) (I.drawn ids.old) (I.drawn ids.new)) }
+        ensures moments { IfOk result (λ chain. EachOpensAlike files.now (S.disk store).told (S.disk chain.store).told) }
+        ensures kept { IfErr result (λ refused. EachOpensAlike files.now (S.disk store).told (S.disk refused.0).told) }
+        ensures err { IfErr result (λ refused. RefusesStart mode files.now (S.disk store) (S.disk refused.0) (I.drawn ids.old) (I.drawn ids.new) refused.1) }
+    {
+        match Layers::start(alloc, &mut store, files, mode, ids) {
+            Ok(layers) => Ok(Chain {
+                store,
+                recorder,
+                layers,
+                events: 0,
+                broken: None,
+            }),
+            Err(refusal) => Err((store, refusal)),
+        }
+    }
+
+    // Counts an event, and refuses it where no more are counted or the session is broken.
+    fn admit(&mut self) -> Result<(), ChainRefusal>
+        ensures events { self.new.events ≡ counted self.old.events }
+        ensures fits { OnOk result (self.new.events ≡ self.old.events + 1) }
+        ensures only { self.new ≡ record self.old { events = self.new.events } }
+        ensures ok { OnOk result (unfit self.old.events self.old.broken ≡ None) }
+        ensures whole { OnOk result (self.old.broken ≡ None) }
+        ensures err { IfErr result (λ e. unfit self.old.events self.old.broken ≡ Some e) }
+    {
+        if self.events >= EVENTS {
+            return Err(ChainRefusal::Spent { t: self.events });
+        }
+        self.events += 1;
+        match self.broken {
+            Some(fault) => Err(ChainRefusal::Broken {
+                file: fault.file,
+                count: fault.count,
+            }),
+            None => Ok(()),
+        }
+    }
+
+    // Refuses a call that asks for a session of the leaf, where there is none.
+    fn permit(&self) -> Result<(), ChainRefusal>
+        ensures ok { OnOk result (is_some self.now.layers.leaf ≡ true) }
+        ensures err { IfErr result (λ e. (e ≡ ChainRefusal.ReadOnly) × (is_some self.now.layers.leaf ≡ false)) }
+    {
+        if !self.layers.has_session() {
+            return Err(ChainRefusal::ReadOnly);
+        }
+        Ok(())
+    }
+
+    // Refuses a call whose range is none of the disk, and then one that asks for a session where there is none.
+    fn check(&self, call: CallRef<'_>) -> Result<(), ChainRefusal>
+        requires { 0 < self.now.layers.geometry.sector }
+        ensures ok { OnOk result (misplaced (call_of call.entry) self.now.layers ≡ None) }
+        ensures range { OnOk result (range_of self.now.layers.geometry (call_of call.entry) ≡ Ok tt) }
+        ensures session { OnOk result (is_read (call_of call.entry) ≡ false → is_some self.now.layers.leaf ≡ true) }
+        ensures err { IfErr result (λ e. misplaced (call_of call.entry) self.now.layers ≡ Some e) }
+    {
+        let Geometry { sector, sectors } = self.layers.geometry;
+        match call {
+            CallRef::Read { first, count } => check_range(first, count, MOST_MOVED, sectors),
+            CallRef::Write { first, bytes } => {
+                let count = bytes.len() as u64 / u64::from(sector);
+                check_range(first, count, MOST_MOVED, sectors)?;
+                self.permit()
+            }
+            CallRef::Trim { first, count } => {
+                check_range(first, count, MOST_TRIMMED, sectors)?;
+                self.permit()
+            }
+            CallRef::Flush => self.permit(),
+        }
+    }
+
+    // Notes a call, unless it is refused before it reaches the files.
+    fn accept(&mut self, who: Caller, call: CallRef<'_>) -> Result<(), ChainRefusal>
+        requires { IsSound (seen S.disk R.noted R.told self.old) }
+        ensures events { self.new.events ≡ counted self.old.events }
+        ensures fits { OnOk result (self.new.events ≡ self.old.events + 1) }
+        ensures only { self.new ≡ record self.old { events = self.new.events; recorder = self.new.recorder } }
+        ensures early { IfRefused (call_of call.entry) (seen S.disk R.noted R.told self.old) result (IsCounted self.old self.new) }
+        ensures fit { OnOk result (refused (call_of call.entry) (seen S.disk R.noted R.told self.old) ≡ None) }
+        ensures whole { OnOk result (self.old.broken ≡ None) }
+        ensures range { OnOk result (range_of self.old.layers.geometry (call_of call.entry) ≡ Ok tt) }
+        ensures session { OnOk result (is_read (call_of call.entry) ≡ false → is_some self.old.layers.leaf ≡ true) }
+        ensures noted { OnOk result (R.noted self.new.recorder ≡ R.noted self.old.recorder + 1) }
+        ensures told { OnOk result (R.told self.new.recorder ≡ option_map (λ h. h ++ entry_of who call.entry ∷ []) (R.told self.old.recorder)) }
+        ensures err_noted { OnErr result (R.noted self.new.recorder ≡ R.noted self.old.recorder) }
+        ensures err_told { OnErr result (R.told self.new.recorder ≡ R.told self.old.recorder) }
+        ensures room { refused (call_of call.entry) (seen S.disk R.noted R.told self.old) ≡ None → IfErr result (λ e. e ≡ ChainRefusal.NoRoom) }
+        ensures free { IsTrue R.takes_none → result ≡ Err ChainRefusal.NoRoom → ⊥ }
+        ensures healthy { refused (call_of call.entry) (seen S.disk R.noted R.told self.old) ≡ None → self.old.broken ≡ None }
+    {
+        self.admit()?;
+        self.check(call)?;
+        self.recorder.note(who, call)?;
+        Ok(())
+    }
+
+    // What a call answers once the layers have. Where it wasn't done its entry, the last one, is taken back.
+    fn conclude(&mut self, done: Result<(), LayerFault>) -> Result<u64, ChainRefusal>
+        ensures answer { result ≡ answer_of (R.noted self.old.recorder) done }
+        ensures fault { IfNone (breaks done) (self.new.broken ≡ self.old.broken) }
+        ensures broken { IfSome (breaks done) (λ fault. self.new.broken ≡ Some fault) }
+        ensures kept { OnOk done (self.new.recorder ≡ self.old.recorder) }
+        ensures told { OnErr done (R.told self.new.recorder ≡ option_map (λ h. take (length h - 1) h) (R.told self.old.recorder)) }
+        ensures noted { OnErr done (R.noted self.new.recorder ≡ R.noted self.old.recorder - 1) }
+        ensures only { self.new ≡ record self.old { recorder = self.new.recorder; broken = self.new.broken } }
+    {
+        let fault = match done {
+            Ok(()) => return Ok(self.recorder.len()),
+            Err(fault) => fault,
+        };
+        self.recorder.drop_last();
+        Err(match fault {
+            LayerFault::Read(fault) => ChainRefusal::ReadFault {
+                file: fault.file,
+                count: fault.count,
+            },
+            LayerFault::FileFull { next } => ChainRefusal::FileFull { next },
+            LayerFault::Write(fault) => {
+                self.broken = Some(fault);
+                ChainRefusal::Broken {
+                    file: fault.file,
+                    count: fault.count,
+                }
+            }
+        })
+    }
+
+    /// Reads whole sectors. Answers the call's place in the history.
+    pub fn read(&mut self, who: Caller, first: u64, out: &mut [u8]) -> Result<u64, ChainRefusal>
+        requires sound { IsSound (seen S.disk R.noted R.told self.old) }
+        requires whole { length out.old % self.old.layers.geometry.sector ≡ 0 }
+        ensures sound { IsSound (seen S.disk R.noted R.told self.new) }
+        ensures events { self.new.events ≡ counted self.old.events }
+        ensures geometry { self.new.layers.geometry ≡ self.old.layers.geometry }
+        ensures session { is_some self.new.layers.leaf ≡ is_some self.old.layers.leaf }
+        ensures early { IfRefused (fill self.old.layers first out.old) (seen S.disk R.noted R.told self.old) result (IsCounted self.old self.new) }
+        ensures notes { Notes who (fill self.old.layers first out.old) (seen S.disk R.noted R.told self.old) (seen S.disk R.noted R.told self.new) result }
+        ensures cause { HasReadCause (fill self.old.layers first out.old) (seen S.disk R.noted R.told self.old) (seen S.disk R.noted R.told self.new) result }
+        ensures free { IsTrue R.takes_none → result ≡ Err ChainRefusal.NoRoom → ⊥ }
+        ensures finds { OnOk result (Finds first (length out.old / self.old.layers.geometry.sector) out.new self.old.layers (S.disk self.old.store)) }
+        ensures told { AnswersTold who (fill self.old.layers first out.old) (seen S.disk R.noted R.told self.old) (seen S.disk R.noted R.told self.new) result }
+    {
+        let count = out.len() as u64 / u64::from(self.layers.geometry.sector);
+        self.accept(who, CallRef::Read { first, count })?;
+        let done = unread(self.layers.find(&mut self.store, first, count, out));
+        self.conclude(done)
+    }
+
+    /// Writes whole sectors. Answers the call's place in the history.
+    pub fn write(&mut self, who: Caller, first: u64, bytes: &[u8]) -> Result<u64, ChainRefusal>
+        requires sound { IsSound (seen S.disk R.noted R.told self.old) }
+        requires whole { length bytes.now % self.old.layers.geometry.sector ≡ 0 }
+        ensures sound { IsSound (seen S.disk R.noted R.told self.new) }
+        ensures events { self.new.events ≡ counted self.old.events }
+        ensures geometry { self.new.layers.geometry ≡ self.old.layers.geometry }
+        ensures session { is_some self.new.layers.leaf ≡ is_some self.old.layers.leaf }
+        ensures early { IfRefused (calls.Write first bytes.now) (seen S.disk R.noted R.told self.old) result (IsCounted self.old self.new) }
+        ensures notes { Notes who (calls.Write first bytes.now) (seen S.disk R.noted R.told self.old) (seen S.disk R.noted R.told self.new) result }
+        ensures cause { HasCause (calls.Write first bytes.now) (seen S.disk R.noted R.told self.old) (seen S.disk R.noted R.told self.new) result }
+        ensures free { IsTrue R.takes_none → result ≡ Err ChainRefusal.NoRoom → ⊥ }
+        ensures room { HasRoom (calls.Write first bytes.now) (seen S.disk R.noted R.told self.old) result }
+        ensures told { AnswersTold who (calls.Write first bytes.now) (seen S.disk R.noted R.told self.old) (seen S.disk R.noted R.told self.new) result }
+    {
+        self.accept(who, CallRef::Write { first, bytes })?;
+        let done = self.layers.put(&mut self.store, first, bytes);
+        self.conclude(done)
+    }
+
+    /// Makes sectors zeros. Answers the call's place in the history.
+    pub fn trim(&mut self, who: Caller, first: u64, count: u64) -> Result<u64, ChainRefusal>
+        requires sound { IsSound (seen S.disk R.noted R.told self.old) }
+        ensures sound { IsSound (seen S.disk R.noted R.told self.new) }
+        ensures events { self.new.events ≡ counted self.old.events }
+        ensures geometry { self.new.layers.geometry ≡ self.old.layers.geometry }
+        ensures session { is_some self.new.layers.leaf ≡ is_some self.old.layers.leaf }
+        ensures early { IfRefused (calls.Trim first count) (seen S.disk R.noted R.told self.old) result (IsCounted self.old self.new) }
+        ensures notes { Notes who (calls.Trim first count) (seen S.disk R.noted R.told self.old) (seen S.disk R.noted R.told self.new) result }
+        ensures cause { HasCause (calls.Trim first count) (seen S.disk R.noted R.told self.old) (seen S.disk R.noted R.told self.new) result }
+        ensures free { IsTrue R.takes_none → result ≡ Err ChainRefusal.NoRoom → ⊥ }
+        ensures room { HasRoom (calls.Trim first count) (seen S.disk R.noted R.told self.old) result }
+        ensures told { AnswersTold who (calls.Trim first count) (seen S.disk R.noted R.told self.old) (seen S.disk R.noted R.told self.new) result }
+    {
+        self.accept(who, CallRef::Trim { first, count })?;
+        let done = self.layers.zero(&mut self.store, first, count);
+        self.conclude(done)
+    }
+
+    /// Makes all that was written before outlast a crash. Answers the call's place in the history.
+    pub fn flush(&mut self, who: Caller) -> Result<u64, ChainRefusal>
+        requires sound { IsSound (seen S.disk R.noted R.told self.old) }
+        ensures sound { IsSound (seen S.disk R.noted R.told self.new) }
+        ensures events { self.new.events ≡ counted self.old.events }
+        ensures geometry { self.new.layers.geometry ≡ self.old.layers.geometry }
+        ensures session { is_some self.new.layers.leaf ≡ is_some self.old.layers.leaf }
+        ensures early { IfRefused calls.Flush (seen S.disk R.noted R.told self.old) result (IsCounted self.old self.new) }
+        ensures notes { Notes who calls.Flush (seen S.disk R.noted R.told self.old) (seen S.disk R.noted R.told self.new) result }
+        ensures cause { HasCause calls.Flush (seen S.disk R.noted R.told self.old) (seen S.disk R.noted R.told self.new) result }
+        ensures free { IsTrue R.takes_none → result ≡ Err ChainRefusal.NoRoom → ⊥ }
+        ensures durable { OnOk result (IsDurable (seen S.disk R.noted R.told self.old) (seen S.disk R.noted R.told self.new)) }
+        ensures told { AnswersTold who calls.Flush (seen S.disk R.noted R.told self.old) (seen S.disk R.noted R.told self.new) result }
+    {
+        self.accept(who, CallRef::Flush)?;
+        let done = self.layers.commit(&mut self.store);
+        self.conclude(done)
+    }
+
+    // Reads so many sectors into a buffer of their own, which takes the place of the one that is lent.
+    fn read_count(
+        &mut self,
+        alloc: Global,
+        who: Caller,
+        first: u64,
+        count: u64,
+        out: &mut Vec<u8>,
+    ) -> Result<u64, ChainRefusal>
+        requires sound { IsSound (seen S.disk R.noted R.told self.old) }
+        ensures sound { IsSound (seen S.disk R.noted R.told self.new) }
+        ensures events { self.new.events ≡ counted self.old.events }
+        ensures geometry { self.new.layers.geometry ≡ self.old.layers.geometry }
+        ensures session { is_some self.new.layers.leaf ≡ is_some self.old.layers.leaf }
+        ensures early { IfRefused (calls.Read first count) (seen S.disk R.noted R.told self.old) result (IsCounted self.old self.new) }
+        ensures notes { Notes who (calls.Read first count) (seen S.disk R.noted R.told self.old) (seen S.disk R.noted R.told self.new) result }
+        ensures cause { HasReadCause (calls.Read first count) (seen S.disk R.noted R.told self.old) (seen S.disk R.noted R.told self.new) result }
+        ensures finds { OnOk result (Finds first count out.new.items self.old.layers (S.disk self.old.store)) }
+        ensures told { AnswersTold who (calls.Read first count) (seen S.disk R.noted R.told self.old) (seen S.disk R.noted R.told self.new) result }
+    {
+        self.accept(who, CallRef::Read { first, count })?;
+        let len = u64::from(self.layers.geometry.sector) * count;
+        match buffer(alloc, len as usize) {
+            Ok(bytes) => *out = bytes,
+            Err(NoRoom) => {
+                self.recorder.drop_last();
+                return Err(ChainRefusal::NoRoom);
+            }
+        }
+        let bytes = out.as_mut_slice();
+        let done = unread(self.layers.find(&mut self.store, first, count, bytes));
+        self.conclude(done)
+    }
+
+    /// A guest's call, with its reply.
+    pub fn call(&mut self, alloc: Global, who: Caller, call: &Call) -> Answer
+        requires sound { IsSound (seen S.disk R.noted R.told self.old) }
+        requires whole { HasWholeSectors self.old.layers.geometry.sector call.now }
+        ensures sound { IsSound (seen S.disk R.noted R.told self.new) }
+        ensures events { self.new.events ≡ counted self.old.events }
+        ensures geometry { self.new.layers.geometry ≡ self.old.layers.geometry }
+        ensures session { is_some self.new.layers.leaf ≡ is_some self.old.layers.leaf }
+        ensures early { IfRefused call.now (seen S.disk R.noted R.told self.old) (placed result) (IsCounted self.old self.new) }
+        ensures notes { Notes who call.now (seen S.disk R.noted R.told self.old) (seen S.disk R.noted R.told self.new) (placed result) }
+        ensures cause { IsCaused call.now (seen S.disk R.noted R.told self.old) (seen S.disk R.noted R.told self.new) result }
+        ensures room { HasRoom call.now (seen S.disk R.noted R.told self.old) (placed result) }
+        ensures replies { RepliesBy call.now (seen S.disk R.noted R.told self.old) result }
+        ensures told { AnswersTold who call.now (seen S.disk R.noted R.told self.old) (seen S.disk R.noted R.told self.new) (placed result) }
+    {
+        match call {
+            Call::Read { first, count } => {
+                let mut bytes = Vec::new(alloc);
+                let result = self.read_count(alloc, who, *first, *count, &mut bytes);
+                answered(result, Reply::Bytes(Bytes::from_vec(bytes)))
+            }
+            Call::Write { first, bytes } => {
+                let result = self.write(who, *first, bytes.as_slice());
+                answered(result, Reply::Done)
+            }
+            Call::Trim { first, count } => {
+                let result = self.trim(who, *first, *count);
+                answered(result, Reply::Done)
+            }
+            Call::Flush => {
+                let result = self.flush(who);
+                answered(result, Reply::Done)
+            }
+        }
+    }
+
+    /// Ends the session, and gives store and recorder back. A session that a fault broke answers it, and its files are written no more,
+    /// so that the leaf's log stays named.
+    pub fn close(self) -> (S, R, Result<(), StoreFault>)
+        requires { IsSound (seen S.disk R.noted R.told self) }
+        ensures recorder { result.1 ≡ self.recorder }
+        ensures broken { IfSome self.broken (λ fault. (result.2 ≡ Err fault) × (result.0 ≡ self.store)) }
+        ensures read { self.broken ≡ None → self.layers.leaf ≡ None → (result.2 ≡ Ok tt) × (result.0 ≡ self.store) }
+        ensures counts { self.broken ≡ None → OnOk result.2 (S.disk result.0 ≡ record (S.disk self.store) { told = (S.disk result.0).told }) }
+        ensures err { self.broken ≡ None → IfErr result.2 (FailsToChange 0 (S.disk self.store) (S.disk result.0)) }
+        ensures told { self.broken ≡ None → ClosesTold (seen S.disk R.noted R.told self) (S.disk result.0) result.2 }
+    {
+        let Chain {
+            mut store,
+            recorder,
+            layers,
+            events: _,
+            broken,
+        } = self;
+        if let Some(fault) = broken {
+            return (store, recorder, Err(fault));
+        }
+        let done = layers.end(&mut store);
+        (store, recorder, done)
+    }
+}
+
+// The answer of reads, as that of a layer.
+fn unread(done: Result<(), StoreFault>) -> Result<(), LayerFault>
+    ensures { result ≡ as_read done }
+{
+    match done {
+        Ok(()) => Ok(()),
+        Err(fault) => Err(LayerFault::Read(fault)),
+    }
+}
+
+// So many bytes, to be read into.
+fn buffer(alloc: Global, len: usize) -> Result<Vec<u8>, NoRoom>
+    ensures { IfOk result (λ made. length made.items ≡ len) }
+{
+    Ok(vec![in alloc; 0u8; len]?)
+}
+
+// The answer of a call that is refused, or done with this reply.
+fn answered(done: Result<u64, ChainRefusal>, reply: Reply) -> Answer
+    ensures { result ≡ answer_by done reply }
+{
+    match done {
+        Ok(place) => Answer::Reply { place, reply },
+        Err(refusal) => Answer::Refused(refusal),
+    }
+}

@@ -1,0 +1,206 @@
+//! The layers of a chain's files.
+
+ghost use Rattle.std.specs.Prelude.{◌≡◌, ◌≤◌, ◌+◌, ◌*◌, ◌/◌, ◌%◌, ◌^◌, ℕ, true, false, not, None, Ok, length, is_some, IfErr, OnOk};
+ghost use Rattle.guest_model.specs.declared.call.Call.TheVariants as calls;
+ghost use Rattle.layer_session.specs.declared.file.Layer.{Layer};
+ghost use Rattle.layer_session.specs.Calls.{Fails};
+ghost use Rattle.layer_session.specs.ReadOnly.{SomeReadFailed};
+ghost use Rattle.store_model.specs.Plans.{FailsToChange};
+ghost use Rattle.chain_core.specs.Answering.{EndsTold, LayerRoomIs, LayerTold, UnlessBroken, as_change};
+ghost use Rattle.chain_core.specs.Reading.{AddsPart, Finds, HasOnlyRead, of_read, of_session};
+ghost use Rattle.chain_core.specs.Sessions.{AreReady, IsLow};
+
+use layer_session::{Layer, LayerFault, ReadLayer, own_through};
+use store_model::{Store, StoreFault};
+use vx_base::Geometry;
+
+/// The layers of a chain's files, whose disk has this geometry.
+#[derive(Drop)]
+pub struct Layers {
+    pub(crate) geometry: Geometry,
+    /// The leaf's session; none where the chain is only read.
+    pub(crate) leaf: Option<Layer>,
+    /// The files that are only read, the upper one first: those below the leaf, or all.
+    pub(crate) below: Vec<ReadLayer>,
+}
+
+impl Layers {
+    /// Whether the leaf has a session.
+    pub fn has_session(&self) -> bool
+        ensures { result ≡ is_some self.now.leaf }
+    {
+        self.leaf.is_some()
+    }
+
+    // Adds what the leaf has of sectors to what was found of them, if it has a session.
+    fn own_leaf<S: Store>(
+        &mut self,
+        store: &mut S,
+        first: u64,
+        count: u64,
+        out: &mut [u8],
+        mask: &mut [u8],
+    ) -> Result<(), StoreFault>
+        requires ready { AreReady self.old (S.disk store.old) }
+        requires on_disk { first + count ≤ self.old.geometry.sectors }
+        requires out { length out.old ≡ self.old.geometry.sector * count }
+        requires mask { count ≤ 8 * length mask.old }
+        ensures reads { HasOnlyRead self.old self.new (S.disk store.old) (S.disk store.new) }
+        ensures adds { OnOk result (AddsPart of_session first count self.old (S.disk store.old) mask.old mask.new out.old out.new) }
+        ensures stays { OnOk result (S.disk store.new ≡ S.disk store.old) }
+        ensures err { IfErr result (SomeReadFailed (S.disk store.old) (S.disk store.new)) }
+    {
+        match &mut self.leaf {
+            Some(leaf) => leaf.own(store, first, count, out, mask, 0),
+            None => Ok(()),
+        }
+    }
+
+    // Adds what the files have that are only read.
+    fn own_below<S: Store>(
+        &mut self,
+        store: &mut S,
+        first: u64,
+        count: u64,
+        out: &mut [u8],
+        mask: &mut [u8],
+    ) -> Result<(), StoreFault>
+        requires ready { AreReady self.old (S.disk store.old) }
+        requires on_disk { first + count ≤ self.old.geometry.sectors }
+        requires out { length out.old ≡ self.old.geometry.sector * count }
+        requires mask { count ≤ 8 * length mask.old }
+        ensures reads { HasOnlyRead self.old self.new (S.disk store.old) (S.disk store.new) }
+        ensures adds { OnOk result (AddsPart of_read first count self.old (S.disk store.old) mask.old mask.new out.old out.new) }
+        ensures stays { OnOk result (S.disk store.new ≡ S.disk store.old) }
+        ensures err { IfErr result (SomeReadFailed (S.disk store.old) (S.disk store.new)) }
+    {
+        let below = self.below.as_mut_slice();
+        own_through(below, store, self.geometry, first, count, out, mask, 0)
+    }
+
+    /// Finds sectors of the disk, file by file.
+    pub fn find<S: Store>(
+        &mut self,
+        store: &mut S,
+        first: u64,
+        count: u64,
+        out: &mut [u8],
+    ) -> Result<(), StoreFault>
+        requires ready { AreReady self.old (S.disk store.old) }
+        requires on_disk { first + count ≤ self.old.geometry.sectors }
+        requires out { length out.old ≡ self.old.geometry.sector * count }
+        requires few { count ≤ 2048 }
+        ensures reads { HasOnlyRead self.old self.new (S.disk store.old) (S.disk store.new) }
+        ensures finds { OnOk result (Finds first count out.new self.old (S.disk store.old)) }
+        ensures stays { OnOk result (S.disk store.new ≡ S.disk store.old) }
+        ensures err { IfErr result (SomeReadFailed (S.disk store.old) (S.disk store.new)) }
+    {
+        let mut mask = [0; 256];
+        self.own_leaf(store, first, count, out, &mut mask)?;
+        self.own_below(store, first, count, out, &mut mask)
+    }
+
+    /// Writes sectors into the leaf.
+    pub fn put<S: Store>(
+        &mut self,
+        store: &mut S,
+        first: u64,
+        bytes: &[u8],
+    ) -> Result<(), LayerFault>
+        requires session { is_some self.old.leaf ≡ true }
+        requires ready { AreReady self.old (S.disk store.old) }
+        requires low { IsLow (2 ^ 63 + 1) self.old }
+        requires whole { length bytes.now % self.old.geometry.sector ≡ 0 }
+        requires on_disk { first + length bytes.now / self.old.geometry.sector ≤ self.old.geometry.sectors }
+        requires few { length bytes.now / self.old.geometry.sector ≤ 2048 }
+        ensures told { LayerTold (calls.Write first bytes.now) self.old self.new (S.disk store.old) (S.disk store.new) result }
+        ensures ready { UnlessBroken result (AreReady self.new (S.disk store.new)) }
+        ensures low { (most : ℕ) → IsLow most self.old → IsLow (most + 1) self.new }
+        ensures session { is_some self.new.leaf ≡ true }
+        ensures geometry { self.new.geometry ≡ self.old.geometry }
+        ensures counts { OnOk result (S.disk store.new ≡ record (S.disk store.old) { told = (S.disk store.new).told }) }
+        ensures err { IfErr result (Fails 0 (S.disk store.old) (S.disk store.new)) }
+        ensures room { LayerRoomIs (λ leaf. false) first (length bytes.now / self.old.geometry.sector) self.old (S.disk store.old) result }
+    {
+        match &mut self.leaf {
+            Some(leaf) => leaf.put(store, first, bytes),
+            None => Ok(()),
+        }
+    }
+
+    /// Makes sectors zeros in the leaf.
+    pub fn zero<S: Store>(
+        &mut self,
+        store: &mut S,
+        first: u64,
+        count: u64,
+    ) -> Result<(), LayerFault>
+        requires session { is_some self.old.leaf ≡ true }
+        requires ready { AreReady self.old (S.disk store.old) }
+        requires low { IsLow (2 ^ 63 + 1) self.old }
+        requires on_disk { first + count ≤ self.old.geometry.sectors }
+        requires few { count ≤ 524288 }
+        ensures told { LayerTold (calls.Trim first count) self.old self.new (S.disk store.old) (S.disk store.new) result }
+        ensures ready { UnlessBroken result (AreReady self.new (S.disk store.new)) }
+        ensures low { (most : ℕ) → IsLow most self.old → IsLow (most + 1) self.new }
+        ensures session { is_some self.new.leaf ≡ true }
+        ensures geometry { self.new.geometry ≡ self.old.geometry }
+        ensures counts { OnOk result (S.disk store.new ≡ record (S.disk store.old) { told = (S.disk store.new).told }) }
+        ensures err { IfErr result (Fails 0 (S.disk store.old) (S.disk store.new)) }
+        ensures room { LayerRoomIs (λ (leaf : Layer). not leaf.leave) first count self.old (S.disk store.old) result }
+    {
+        match &mut self.leaf {
+            Some(leaf) => leaf.zero(store, first, count),
+            None => Ok(()),
+        }
+    }
+
+    /// Commits the leaf.
+    pub fn commit<S: Store>(&mut self, store: &mut S) -> Result<(), LayerFault>
+        requires session { is_some self.old.leaf ≡ true }
+        requires ready { AreReady self.old (S.disk store.old) }
+        requires low { IsLow (2 ^ 63 + 1) self.old }
+        ensures told { LayerTold calls.Flush self.old self.new (S.disk store.old) (S.disk store.new) result }
+        ensures ready { UnlessBroken result (AreReady self.new (S.disk store.new)) }
+        ensures low { UnlessBroken result ((most : ℕ) → IsLow most self.old → IsLow (most + 1) self.new) }
+        ensures session { is_some self.new.leaf ≡ true }
+        ensures geometry { self.new.geometry ≡ self.old.geometry }
+        ensures counts { OnOk result (S.disk store.new ≡ record (S.disk store.old) { told = (S.disk store.new).told }) }
+        ensures err { IfErr result (Fails 0 (S.disk store.old) (S.disk store.new)) }
+    {
+        match &mut self.leaf {
+            Some(leaf) => changed(leaf.commit(store)),
+            None => Ok(()),
+        }
+    }
+
+    /// Ends the leaf's session, if it has one.
+    pub fn end<S: Store>(self, store: &mut S) -> Result<(), StoreFault>
+        requires ready { AreReady self (S.disk store.old) }
+        requires low { IsLow (2 ^ 63 + 1) self }
+        ensures told { EndsTold self (S.disk store.old) (S.disk store.new) result }
+        ensures read { self.leaf ≡ None → (result ≡ Ok tt) × (store.new ≡ store.old) }
+        ensures counts { OnOk result (S.disk store.new ≡ record (S.disk store.old) { told = (S.disk store.new).told }) }
+        ensures err { IfErr result (FailsToChange 0 (S.disk store.old) (S.disk store.new)) }
+    {
+        let Layers {
+            geometry: _,
+            leaf,
+            below: _,
+        } = self;
+        match leaf {
+            Some(leaf) => leaf.end(store),
+            None => Ok(()),
+        }
+    }
+}
+
+// The answer of a call whose one fault is a failed change.
+fn changed(done: Result<(), StoreFault>) -> Result<(), LayerFault>
+    ensures { result ≡ as_change done }
+{
+    match done {
+        Ok(()) => Ok(()),
+        Err(fault) => Err(LayerFault::Write(fault)),
+    }
+}

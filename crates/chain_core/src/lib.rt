@@ -1,0 +1,14 @@
+//! A chain of files that serves guest calls.
+#![tactic(auto)]
+
+mod answer;
+mod chain;
+mod laws;
+mod layers;
+mod starting;
+
+pub use answer::Answer;
+pub use chain::Chain;
+pub use laws::sessions_are_held;
+pub use layers::Layers;
+pub use starting::{Mode, NewIds, StartRefusal};
