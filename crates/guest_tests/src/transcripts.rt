@@ -1,7 +1,6 @@
 //! Transcripts, of steps and of guests, with the texts of what refuses a call.
 
 ghost use Rattle.std.specs.Prelude.{◌≡◌, length, IfOk};
-ghost use Rattle.script.specs.Transcript.{NamesFiles};
 
 use guest_model::{Call, ChainRefusal, Entry};
 use script::{Answer, Form, Text, ToldCall, ToldCalls, push_answered, serve_text, steps_text};
@@ -30,9 +29,7 @@ fn sectors(alloc: Global, parts: &[(usize, u8)]) -> Result<Vec<u8>, Fail> {
     Ok(bytes)
 }
 
-fn told(alloc: Global, place: Option<u64>, form: Form, answer: Answer<'_>) -> Result<ToldCall, Fail>
-    requires { NamesFiles 2 answer }
-{
+fn told(alloc: Global, place: Option<u64>, form: Form, answer: Answer<'_>) -> Result<ToldCall, Fail> {
     let mut text = String::new(alloc);
     push_answered(&mut text, &NAMES, form, answer)?;
     Ok(ToldCall {

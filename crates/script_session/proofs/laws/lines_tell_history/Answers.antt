@@ -1,0 +1,5 @@
+use Rattle.script_session.proofs.Telling.{lines_told}
+use Rattle.script_session.proofs.laws.lines_tell_history.Goals as goal
+
+pub returns : goal.returns
+returns c = lines_told

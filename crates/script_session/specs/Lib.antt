@@ -1,0 +1,4 @@
+pub mod Told
+pub mod Answers
+pub mod Histories
+pub mod Faults
