@@ -11,16 +11,18 @@ use Rattle.store_model.specs.Cause.{Rose}
 use Rattle.store_model.specs.Disk.{WhereTold}
 use Rattle.store_model.specs.Folder.{Hosted}
 use Rattle.vhdx_app.specs.Commands.{Ended, MakeEnded}
-use Rattle.vhdx_app.specs.Folders.{AllIdle, IsReplayedIn, OnlyOpens, OpensSafely}
+use Rattle.link_rules.specs.Folders.{AllIdle, contents}
+use Rattle.link_rules.specs.Touches.{IsOnWay, TouchesSafely}
+use Rattle.link_rules.proofs.Safe.{none_safely}
+use Rattle.vhdx_app.specs.Folders.{IsReplayedIn, OnlyFollows}
 use Rattle.vhdx_app.specs.Printed.{Sent, cut, whole}
-use Rattle.vhdx_app.specs.Runs.{Ends, OpensFirst, Runs}
+use Rattle.vhdx_app.specs.Runs.{Ends, FollowsFirst, Runs}
 use Rattle.vhdx_app.specs.Worlds.{World, world}
 use Rattle.vhdx_app.specs.declared.status.Status.{Status}
 use Rattle.vhdx_app.specs.declared.status.Status.TheVariants.{Done, Refused, Usage, Fault, NoMemory}
-use Rattle.vhdx_app.proofs.Home.{home_added, home_opened, home_still}
-use Rattle.vhdx_app.proofs.Lent.{opens_none}
+use Rattle.vhdx_app.proofs.Home.{home_added, home_followed, home_still}
+use Rattle.vhdx_app.proofs.Left.{follows_none}
 use Rattle.vhdx_app.proofs.Made.{adds_none, looks_still, still_making}
-use Rattle.vhdx_app.proofs.Safe.{still_safely}
 use Rattle.vhdx_app.proofs.Said.{asked, asked_none, no_memory_shown}
 
 module _ (words : List (List ℕ)) (told : Option Request) (h : MatchOption told (AsksNothing words) (λ r. Asks words (plain r))) where
@@ -36,14 +38,14 @@ module _ (words : List (List ℕ)) (told : Option Request) (h : MatchOption told
 
 -- ---- the commands
 
-pub opens_first : (leaf : List ℕ) (before now : World) (status : Status) → OnlyOpens leaf before.host.folder now.host.folder → ((status ≡ Done) ⊎ (status ≡ Refused) → IsReplayedIn leaf before.host.folder now.host.folder)
-    → OpensSafely leaf before.host now.host → now.drawn ≡ before.drawn → now.left ≡ before.left → OpensFirst leaf before now status
-opens_first leaf before now status opened replayed moments undrawn unread = record { opened = opened; replayed = replayed; moments = moments; undrawn = undrawn; unread = unread }
+pub follows_first : (leaf : List ℕ) (before now : World) (status : Status) → OnlyFollows leaf before.host.folder now.host.folder → ((status ≡ Done) ⊎ (status ≡ Refused) → IsReplayedIn leaf before.host.folder now.host.folder)
+    → TouchesSafely (λ f. IsOnWay (contents f) leaf) before.host now.host → now.drawn ≡ before.drawn → now.left ≡ before.left → FollowsFirst leaf before now status
+follows_first leaf before now status followed replayed moments undrawn unread = record { followed = followed; replayed = replayed; moments = moments; undrawn = undrawn; unread = unread }
 
 module _ (before now : World) (status : Status) (idle : WhereTold before.host.folder AllIdle) where
-  pub opened_ends : (leaf : List ℕ) (is_text : Status → List ℕ → Type 0) → Ended is_text before.host.faults now.host.faults before.written now.written before.sink_faults now.sink_faults status → OnlyOpens leaf before.host.folder now.host.folder
+  pub followed_ends : (leaf : List ℕ) (is_text : Status → List ℕ → Type 0) → Ended is_text before.host.faults now.host.faults before.written now.written before.sink_faults now.sink_faults status → OnlyFollows leaf before.host.folder now.host.folder
       → (status ≢ Fault → WhereTold before.host.folder (λ folder. WhereTold now.host.folder AllIdle)) → Ends before now status
-  opened_ends leaf is_text ended opened stays_idle = record { rose = ended.rose; quiet = ended.quiet; home = home_opened leaf before.host.folder now.host.folder idle opened; idle = stays_idle }
+  followed_ends leaf is_text ended followed stays_idle = record { rose = ended.rose; quiet = ended.quiet; home = home_followed leaf before.host.folder now.host.folder idle followed; idle = stays_idle }
 
   pub made_ends : (name : List ℕ) (file : File) → MakeEnded name file (outside before.host before.drawn) (outside now.host now.drawn) before.written now.written before.sink_faults now.sink_faults status → Ends before now status
   made_ends name file ended = record { rose = ended.ended.rose; quiet = ended.ended.quiet; home = home_added name file before.host.folder now.host.folder idle ended.others; idle = ended.idle }
@@ -68,9 +70,9 @@ module _ (host : Hosted) (drawn : Option (List (List ℕ))) (left sunk after : O
   }
 
   pub no_memory_runs : Sent sunk after old new NoMemory (codes "no memory\n") status → (w : Wish) → Runs w (world host drawn left sunk old) (world host drawn left after new) status
-  no_memory_runs sent (wish.dump leaf first count) = record { printed = record { meant = NoMemory; text = codes "no memory\n"; said = refl; sent = sent }; opens = opens_first leaf _ _ status (opens_none leaf host.folder host.folder idle refl) (λ shown. absurd (no_memory_shown _ _ _ _ _ _ sent shown)) (still_safely leaf host host idle refl refl) refl refl }
-  no_memory_runs sent (wish.info leaf) = record { printed = record { meant = NoMemory; text = codes "no memory\n"; said = refl; sent = sent }; opens = opens_first leaf _ _ status (opens_none leaf host.folder host.folder idle refl) (λ shown. absurd (no_memory_shown _ _ _ _ _ _ sent shown)) (still_safely leaf host host idle refl refl) refl refl }
-  no_memory_runs sent (wish.make name file) = record { printed = record { meant = NoMemory; text = codes "no memory\n"; said = refl; sent = sent }; kept = λ done fault. looks_still file host.folder idle; others = adds_none name file host.folder idle; moments = still_making name file host idle; unread = refl }
+  no_memory_runs sent (wish.dump leaf first count) = record { printed = record { meant = NoMemory; text = codes "no memory\n"; said = refl; sent = sent }; follows = follows_first leaf _ _ status (follows_none leaf host) (λ shown. absurd (no_memory_shown _ _ _ _ _ _ sent shown)) (none_safely (λ f. IsOnWay (contents f) leaf) host) refl refl }
+  no_memory_runs sent (wish.info leaf) = record { printed = record { meant = NoMemory; text = codes "no memory\n"; said = refl; sent = sent }; follows = follows_first leaf _ _ status (follows_none leaf host) (λ shown. absurd (no_memory_shown _ _ _ _ _ _ sent shown)) (none_safely (λ f. IsOnWay (contents f) leaf) host) refl refl }
+  no_memory_runs sent (wish.make name file) = record { printed = record { meant = NoMemory; text = codes "no memory\n"; said = refl; sent = sent }; kept = λ done fault. looks_still file host; others = adds_none name file host; moments = still_making name file host; unread = refl }
   no_memory_runs sent wish.help = record { printed = record { meant = NoMemory; text = codes "no memory\n"; said = refl; sent = sent }; stays = refl }
   no_memory_runs sent wish.version = record { printed = record { meant = NoMemory; text = codes "no memory\n"; said = refl; sent = sent }; stays = refl }
 

@@ -5,7 +5,9 @@ use Rattle.command_line.specs.Words.{help_text, version_text}
 use Rattle.make_file.specs.Makes.{Outside, outside}
 use Rattle.store_model.specs.Cause.{Rose}
 use Rattle.store_model.specs.Disk.{WhereTold}
-use Rattle.vhdx_app.specs.Folders.{AllHome, AllIdle, IsReplayedIn, OnlyOpens, OpensSafely}
+use Rattle.link_rules.specs.Folders.{AllIdle, contents}
+use Rattle.link_rules.specs.Touches.{IsOnWay, TouchesSafely}
+use Rattle.vhdx_app.specs.Folders.{AllHome, IsReplayedIn, OnlyFollows}
 use Rattle.vhdx_app.specs.Making.{AddsOnly, LooksAt, MakesSafely}
 use Rattle.vhdx_app.specs.Printed.{IsDumpText, IsInfoText, IsMakeText, IsOwnText, Printed, Sent}
 use Rattle.vhdx_app.specs.Worlds.{World}
@@ -20,19 +22,19 @@ Prints is_text before now status = Printed is_text before.written now.written be
 abbrev pub OnlyPrints : World → World → Type 0
 OnlyPrints before now = now ≡ record before { written = now.written; sink_faults = now.sink_faults }
 
--- A file is opened, and beside that nothing is done: its log may be replayed, and it is where no fault ended the run and memory
--- didn't run out. `moments` says so of each moment of the run, of what a crash may leave then.
-pub record OpensFirst (leaf : List ℕ) (before now : World) (status : Status) : Type 0 where
-  pub opened : OnlyOpens leaf before.host.folder now.host.folder
+-- A leaf's name is followed, and beside that nothing is done: the logs of the files on the way may be replayed, and they are where
+-- no fault ended the run and memory didn't run out. `moments` says of each moment of the run what a crash may leave then.
+pub record FollowsFirst (leaf : List ℕ) (before now : World) (status : Status) : Type 0 where
+  pub followed : OnlyFollows leaf before.host.folder now.host.folder
   pub replayed : (status ≡ Done) ⊎ (status ≡ Refused) → IsReplayedIn leaf before.host.folder now.host.folder
-  pub moments : OpensSafely leaf before.host now.host
+  pub moments : TouchesSafely (λ folder. IsOnWay (contents folder) leaf) before.host now.host
   pub undrawn : now.drawn ≡ before.drawn
   pub unread : now.left ≡ before.left
 
--- what a file shows is printed, or what refuses it
+-- what a leaf's files show is printed, or what refuses them
 pub record RunsShowing (leaf : List ℕ) (is_text : Status → List ℕ → Type 0) (before now : World) (status : Status) : Type 0 where
   pub printed : Prints is_text before now status
-  pub opens : OpensFirst leaf before now status
+  pub follows : FollowsFirst leaf before now status
 
 abbrev pub outside_of : World → Outside
 outside_of w = outside w.host w.drawn

@@ -4,7 +4,7 @@ use Rattle.command_line.specs.declared.request.Request.TheVariants.{Dump, Info, 
 use Rattle.vhdx_app.specs.Runs.{no_memory}
 use Rattle.vhdx_app.specs.Worlds.{World, world}
 use Rattle.vhdx_app.specs.declared.status.Status.TheVariants.{Done, NoMemory}
-use Rattle.vhdx_app.proofs.Running.{made_ends, no_memory_runs, opened_ends, opens_first, runs_for, sent_ends, usage_ends}
+use Rattle.vhdx_app.proofs.Running.{made_ends, no_memory_runs, followed_ends, follows_first, runs_for, sent_ends, usage_ends}
 use Rattle.vhdx_app.proofs.Said.{text_sent}
 use Rattle.vhdx_app.proofs.program.run_alone.Goals as goal
 
@@ -13,26 +13,26 @@ returns-in-Ok-Some-Dump-clause-asked g c =
     let before : World = world (g.H.Host.hosted c.args.host.now) (g.I.Ids.drawn c.args.ids.now) (g.S.Source.left c.args.input.now) (g.K.Sink.written c.args.out.now) (g.K.Sink.faults c.args.out.now) in
     let now : World = world (g.H.Host.hosted c.dump.new.host) (g.I.Ids.drawn c.args.ids.now) (g.S.Source.left c.args.input.now) (g.K.Sink.written c.dump.new.out) (g.K.Sink.faults c.dump.new.out) in
     runs_for _ _ c.in-Ok-Some-Dump.ensures (Dump c.in-Ok-Some-Dump.leaf c.in-Ok-Some-Dump.first c.in-Ok-Some-Dump.count) (c.in-Ok-Some-Dump.field-0-is ∙ ap Some c.in-Ok-Some-Dump.field-0-0-is) before now _
-    (record { printed = c.dump.ensures.ended.printed; opens = opens_first c.in-Ok-Some-Dump.leaf.now before now _ c.dump.ensures.stays c.dump.ensures.replayed c.dump.ensures.moments refl refl })
+    (record { printed = c.dump.ensures.ended.printed; follows = follows_first c.in-Ok-Some-Dump.leaf.now before now _ c.dump.ensures.stays c.dump.ensures.replayed c.dump.ensures.moments refl refl })
 
 pub returns-in-Ok-Some-Dump-clause-ends : goal.returns-in-Ok-Some-Dump-clause-ends
 returns-in-Ok-Some-Dump-clause-ends g c =
     let before : World = world (g.H.Host.hosted c.args.host.now) (g.I.Ids.drawn c.args.ids.now) (g.S.Source.left c.args.input.now) (g.K.Sink.written c.args.out.now) (g.K.Sink.faults c.args.out.now) in
     let now : World = world (g.H.Host.hosted c.dump.new.host) (g.I.Ids.drawn c.args.ids.now) (g.S.Source.left c.args.input.now) (g.K.Sink.written c.dump.new.out) (g.K.Sink.faults c.dump.new.out) in
-    opened_ends before now _ c.requires c.in-Ok-Some-Dump.leaf.now _ c.dump.ensures.ended c.dump.ensures.stays c.dump.ensures.idle
+    followed_ends before now _ c.requires c.in-Ok-Some-Dump.leaf.now _ c.dump.ensures.ended c.dump.ensures.stays c.dump.ensures.idle
 
 pub returns-in-Ok-Some-Info-clause-asked : goal.returns-in-Ok-Some-Info-clause-asked
 returns-in-Ok-Some-Info-clause-asked g c =
     let before : World = world (g.H.Host.hosted c.args.host.now) (g.I.Ids.drawn c.args.ids.now) (g.S.Source.left c.args.input.now) (g.K.Sink.written c.args.out.now) (g.K.Sink.faults c.args.out.now) in
     let now : World = world (g.H.Host.hosted c.info.new.host) (g.I.Ids.drawn c.args.ids.now) (g.S.Source.left c.args.input.now) (g.K.Sink.written c.info.new.out) (g.K.Sink.faults c.info.new.out) in
     runs_for _ _ c.in-Ok-Some-Info.ensures (Info c.in-Ok-Some-Info.leaf) (c.in-Ok-Some-Info.field-0-is ∙ ap Some c.in-Ok-Some-Info.field-0-0-is) before now _
-    (record { printed = c.info.ensures.ended.printed; opens = opens_first c.in-Ok-Some-Info.leaf.now before now _ c.info.ensures.stays c.info.ensures.replayed c.info.ensures.moments refl refl })
+    (record { printed = c.info.ensures.ended.printed; follows = follows_first c.in-Ok-Some-Info.leaf.now before now _ c.info.ensures.stays c.info.ensures.replayed c.info.ensures.moments refl refl })
 
 pub returns-in-Ok-Some-Info-clause-ends : goal.returns-in-Ok-Some-Info-clause-ends
 returns-in-Ok-Some-Info-clause-ends g c =
     let before : World = world (g.H.Host.hosted c.args.host.now) (g.I.Ids.drawn c.args.ids.now) (g.S.Source.left c.args.input.now) (g.K.Sink.written c.args.out.now) (g.K.Sink.faults c.args.out.now) in
     let now : World = world (g.H.Host.hosted c.info.new.host) (g.I.Ids.drawn c.args.ids.now) (g.S.Source.left c.args.input.now) (g.K.Sink.written c.info.new.out) (g.K.Sink.faults c.info.new.out) in
-    opened_ends before now _ c.requires c.in-Ok-Some-Info.leaf.now _ c.info.ensures.ended c.info.ensures.stays c.info.ensures.idle
+    followed_ends before now _ c.requires c.in-Ok-Some-Info.leaf.now _ c.info.ensures.ended c.info.ensures.stays c.info.ensures.idle
 
 pub returns-in-Ok-Some-Make-clause-asked : goal.returns-in-Ok-Some-Make-clause-asked
 returns-in-Ok-Some-Make-clause-asked g c =
