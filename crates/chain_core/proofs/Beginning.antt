@@ -38,7 +38,7 @@ use Rattle.layer_session.specs.Keeping.{IsReady, Serves}
 use Rattle.layer_session.specs.ReadOnly.{AreRead, AreReadable, IsRead, IsReadOf}
 use Rattle.layer_session.proofs.Crashes.{layers_are_kept}
 use Rattle.chain_core.specs.declared.layers.Layers.{Layers}
-use Rattle.chain_core.specs.Starting.{AreAsOpened, AreAttached, AreReadOf, CanStart, EachOpensAlike, IsAsOpened, IsOfDisk, JudgesIds, StartsWith, under, opening_disk, placed_from, started}
+use Rattle.chain_core.specs.Starting.{AreAsOpened, AreAttached, AreReadOf, CanStart, EachOpensAlike, IsAsOpened, IsOfDisk, JudgesIds, LeavesOthersFrom, StartsWith, under, opening_disk, placed_from, started}
 use Rattle.chain_core.specs.Starting.{HasBegun as HasBegunSession, IsRead as IsReadOnly}
 use Rattle.chain_core.specs.declared.starting.NewIds.{NewIds}
 use Rattle.chain_core.specs.declared.starting.StartRefusal.{StartRefusal}
@@ -265,6 +265,21 @@ module _ (trace : Trace) (leaf : LinkedFile) (others : List LinkedFile) (attache
       still = λ other ne. phase_others 0 Goes trace now over.phase other ne;
       past = EachMoment-weaken (EachOpens leaf.name clean opening) (OpensToPrefix z opening [] (λ s. false) leaf.name) trace now (λ t opens. prefixes_stay.broken z opening [] (λ s. false) leaf.name t opens) goes.moments;
     }
+
+-- ---- the other files
+
+pub none_changed : (old new : Option Trace) → new ≡ old → LeavesOthersFrom old new
+none_changed old new e = subst (LeavesOthersFrom old) (sym e) (itself old)
+  where
+    itself : (o : Option Trace) → LeavesOthersFrom o o
+    itself None = tt
+    itself (Some t) = λ other ne. refl
+
+pub others_stay : (parts : Parts) (ids : SessionIds) (old new : Option Trace) → WhereBothTold (BeginsOver parts ids 0) old new → LeavesOthersFrom old new
+others_stay parts ids None None over = tt
+others_stay parts ids None (Some y) over = over
+others_stay parts ids (Some x) None over = over
+others_stay parts ids (Some x) (Some y) over = phase_others 0 (λ bytes. ShowsFile (as_found x 0 parts) bytes ⊎ ShowsFile (as_found x 0 (in_session parts ids)) bytes) x y over.phase
 
 -- ---- where the store tells its content
 

@@ -2,6 +2,7 @@
 use Rattle.std.proofs.Common.{◌≡◌, ℕ, ◌/◌, Bool, true, false, cond, ◌||◌, List, refl, sym, ap, subst, ◌∙◌, length}
 use Rattle.std.specs.Prelude.{Option, Some, None, Result, Ok, Err, IsErr, IfSome}
 use Rattle.store_model.specs.Disk.{Disk, WhereBothTold}
+use Rattle.store_model.specs.declared.fault.StoreFault.{StoreFault}
 use Rattle.store_model.specs.Trace.{Trace}
 use Rattle.store_model.proofs.Spans.{EachMoment-now}
 use Rattle.guest_model.specs.declared.call.Call.{Call}
@@ -19,7 +20,7 @@ use Rattle.layer_session.specs.declared.file.LayerFault.TheVariants as layer
 use Rattle.layer_session.specs.Steps.{has_room, is_full}
 use Rattle.chain_core.specs.declared.layers.Layers.{Layers}
 use Rattle.chain_core.specs.States.{State, IsServing, entry, files_of, sector_of, wide}
-use Rattle.chain_core.specs.Answering.{Answers, LayerAnswers, LayerRoomIs, RoomIs, LayerTold, answer_of}
+use Rattle.chain_core.specs.Answering.{Answers, FailsByChange, LayerAnswers, LayerRoomIs, LayerTold, NeedsNoRoom, RoomIs, answer_of, as_change}
 use Rattle.chain_core.proofs.Steps.{HasFailed, all_right, at_rest, failed}
 
 -- ---- where the store tells its content
@@ -117,3 +118,17 @@ room_told trims first count n place old layers before disk answer result same l 
     by_answer (Err (layer.Read fault)) room = tt
     by_answer (Err (layer.FileFull next)) room = room
     by_answer (Err (layer.Write fault)) room = room
+
+-- of a commit
+pub fails_by_change : (done : Result (Unit {0}) StoreFault) → FailsByChange (as_change done)
+fails_by_change (Ok t) = tt
+fails_by_change (Err fault) = tt
+
+pub flush_room : (place : ℕ) (answer : Result (Unit {0}) LayerFault) (result : Result ℕ ChainRefusal) → result ≡ answer_of place answer → FailsByChange answer → NeedsNoRoom result
+flush_room place answer result is change = subst NeedsNoRoom (sym is) (by_answer answer change)
+  where
+    by_answer : (answer : Result (Unit {0}) LayerFault) → FailsByChange answer → NeedsNoRoom (answer_of place answer)
+    by_answer (Ok t) change = tt
+    by_answer (Err (layer.Read fault)) change = absurd change
+    by_answer (Err (layer.FileFull next)) change = absurd change
+    by_answer (Err (layer.Write fault)) change = tt

@@ -44,14 +44,18 @@ pub record Stays (before after : Disk) : Type 0 where
   pub files : after.files ≡ before.files
   pub told : after.told ≡ before.told
 
-stays_by : (before after : Disk) (answer : Result (Unit {0}) StoreFault) → OnOk answer (after ≡ before) → IfErr answer (SomeReadFailed before after) → Stays before after
+stays_by : (before after : Disk) (answer : Result (Unit {0}) StoreFault) → OnOk answer (after ≡ before) → IfErr answer (λ fault. ReadFailed fault.file before after fault) → Stays before after
 stays_by before after (Ok t) done failed = record { files = ap (λ (d : Disk). d.files) done; told = ap (λ (d : Disk). d.told) done }
 stays_by before after (Err fault) done failed = record { files = ap (λ (d : Disk). d.files) failed.stays; told = ap (λ (d : Disk). d.told) failed.stays }
 
--- a failed read of one file is one of some file
-some_failed : (file : ℕ) (before after : Disk) (answer : Result (Unit {0}) StoreFault) → IfErr answer (ReadFailed file before after) → IfErr answer (SomeReadFailed before after)
-some_failed file before after (Ok t) failed = tt
-some_failed file before after (Err fault) failed = subst (λ (f : ℕ). ReadFailed f before after fault) (sym failed.of_file) failed
+-- a failed read of one file is one of the file that the fault names
+its_own : (file : ℕ) (before after : Disk) (answer : Result (Unit {0}) StoreFault) → IfErr answer (ReadFailed file before after) → IfErr answer (λ fault. ReadFailed fault.file before after fault)
+its_own file before after (Ok t) failed = tt
+its_own file before after (Err fault) failed = subst (λ (f : ℕ). ReadFailed f before after fault) (sym failed.of_file) failed
+
+of_some : (before after : Disk) (answer : Result (Unit {0}) StoreFault) → IfErr answer (SomeReadFailed before after) → IfErr answer (λ fault. ReadFailed fault.file before after fault)
+of_some before after (Ok t) failed = tt
+of_some before after (Err fault) failed = failed.1
 
 same_beside : (other : ℕ) (a b : Option Trace) → b ≡ a → WhereBothTold (IsBeside other) a b
 same_beside other a b e = subst (λ o. WhereBothTold (IsBeside other) a o) (sym e) (itself a)
@@ -85,7 +89,7 @@ swapped old new v trace g held s = record { once = s.once; geometry = g ∙ s.ge
 pub leaf_reads : (old new : Layers) (leaf next : Layer) (file : ℕ) (before after : Disk) (answer : Result (Unit {0}) StoreFault) → LeafStep old new leaf next → IsSame leaf next before
     → OnOk answer (after ≡ before) → IfErr answer (ReadFailed file before after) → AreReady old before → HasOnlyRead old new before after
 leaf_reads old new leaf next file before after answer step same done failed ready =
-    let s = stays_by before after answer done (some_failed file before after answer failed) in
+    let s = stays_by before after answer done (its_own file before after answer failed) in
     let l = leaf_of old leaf before step.was ready in
     let made : IsReadyLeaf old.geometry old.below.items before next = record {
       ready = same.ready l.ready;
@@ -150,7 +154,7 @@ held_beside (Some leaf) was now trace v reads held = (held.0, reads v.others hel
 pub below_reads : (old new : Layers) (was now : List ReadLayer) (before after : Disk) (answer : Result (Unit {0}) StoreFault) → was ≡ old.below.items → new.geometry ≡ old.geometry → new.leaf ≡ old.leaf → new.below.items ≡ now
     → AreSameRead old.geometry was now before → OnOk answer (after ≡ before) → IfErr answer (SomeReadFailed before after) → AreReady old before → HasOnlyRead old new before after
 below_reads old new was now before after answer w g l n same done failed ready =
-    let s = stays_by before after answer done failed in
+    let s = stays_by before after answer done (of_some before after answer failed) in
     let same' : AreSameRead old.geometry old.below.items now before = subst (λ (b : List ReadLayer). AreSameRead old.geometry b now before) w same in
     let leaf : IfSome old.leaf (IsReadyLeaf old.geometry now after) = leaf_beside old.leaf old.geometry old.below.items now before after s same' ready.below ready.leaf in
     let leaf' : IfSome new.leaf (IsReadyLeaf new.geometry new.below.items after) =

@@ -61,6 +61,12 @@ RoomIs trims first count layers disk (Err (FileFull next)) = IfSome layers.leaf 
 RoomIs trims first count layers disk (Err (Broken file number)) = IfSome layers.leaf (λ leaf. has_room (trims leaf) first count leaf disk)
 RoomIs trims first count layers disk (Err other) = Unit {0}
 
+-- a call that asks for no room isn't refused for want of it
+abbrev pub NeedsNoRoom : Result ℕ ChainRefusal → Type 0
+NeedsNoRoom (Ok place) = Unit {0}
+NeedsNoRoom (Err (FileFull next)) = ⊥
+NeedsNoRoom (Err other) = Unit {0}
+
 -- Once a call isn't refused before it reaches the files: what it notes, the cause of its answer, and its room in the leaf.
 abbrev pub Notes : Caller → Call → Session → Session → Result ℕ ChainRefusal → Type 0
 Notes who call old new result = refused call old ≡ None → IsNoted (entry who call) old new result
@@ -77,7 +83,7 @@ HasRoom (calls.Write first bytes) old result =
     refused (calls.Write first bytes) old ≡ None → RoomIs (λ leaf. false) first (length bytes / old.layers.geometry.sector) old.layers old.disk result
 HasRoom (calls.Trim first count) old result =
     refused (calls.Trim first count) old ≡ None → RoomIs (λ (leaf : Layer). not leaf.leave) first count old.layers old.disk result
-HasRoom calls.Flush old result = Unit {0}
+HasRoom calls.Flush old result = refused calls.Flush old ≡ None → NeedsNoRoom result
 
 -- ---- where content is told
 
@@ -174,6 +180,13 @@ abbrev pub LayerTold : Call → Layers → Layers → Disk → Disk → Result (
 LayerTold call layers new_layers old new result =
     WhereBothTold (λ trace now. (who : Caller) (v : State) → IsServing layers v trace
     → LayerAnswers (entry who call) v new_layers trace now result) old.told new.told
+
+-- the one fault that an answer may tell is a failed change
+abbrev pub FailsByChange : Result (Unit {0}) LayerFault → Type 0
+FailsByChange (Ok done) = Unit {0}
+FailsByChange (Err (layer.Read fault)) = ⊥
+FailsByChange (Err (layer.FileFull next)) = ⊥
+FailsByChange (Err (layer.Write fault)) = Unit {0}
 
 -- P of an answer that tells no failed change
 abbrev pub UnlessBroken : Result (Unit {0}) LayerFault → Type 0 → Type 0

@@ -1,5 +1,5 @@
 -- How a session starts.
-use Rattle.std.specs.Prelude.{◌≡◌, ◌⊎◌, ⊤, ◌+◌, ◌-◌, ◌^◌, ◌≤◌, ◌<◌, ℕ, Bool, true, false, is_some, List, [], ◌∷◌, ◌++◌, length, All, Option, Some, None}
+use Rattle.std.specs.Prelude.{◌≡◌, ◌≢◌, ◌⊎◌, ⊤, ◌+◌, ◌-◌, ◌^◌, ◌≤◌, ◌<◌, ℕ, Bool, true, false, is_some, List, [], ◌∷◌, ◌++◌, length, All, Option, Some, None}
 use Rattle.vx_base.specs.declared.parts.Geometry.{Geometry}
 use Rattle.vx_base.specs.declared.parts.Parts.{Parts}
 use Rattle.store_model.specs.Disk.{Disk, WhereBothTold, WhereTold}
@@ -109,6 +109,10 @@ abbrev pub EachOpensAlike : List LinkedFile → Option Trace → Option Trace �
 EachOpensAlike [] old new = ⊤
 EachOpensAlike (leaf ∷ others) old new =
     WhereBothTold (λ trace now. EachMoment (EachOpens leaf.name (λ s. false) (opening_disk trace (leaf ∷ others))) trace now) old new
+
+-- no file but the first was changed
+abbrev pub LeavesOthersFrom : Option Trace → Option Trace → Type 0
+LeavesOthersFrom old new = WhereBothTold (λ trace now. (other : ℕ) → other ≢ 0 → file_of now other ≡ file_of trace other) old new
 
 -- layers serve the state that starts, the leaf having these numbers
 abbrev pub StartsWith : (Parts → Parts) → List LinkedFile → Layers → Option Trace → Option Trace → Type 0

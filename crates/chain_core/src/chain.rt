@@ -8,7 +8,7 @@ ghost use Rattle.chain_core.specs.Answering.{AnswersTold, ClosesTold, HasCause, 
 ghost use Rattle.chain_core.specs.Events.{HasWholeSectors, IsCaused, RepliesBy, answer_by, placed};
 ghost use Rattle.chain_core.specs.Reading.{Finds};
 ghost use Rattle.chain_core.specs.Refusing.{IfRefused, counted, is_read, misplaced, range_of, fill, refused, unfit};
-ghost use Rattle.chain_core.specs.Starting.{CanStart, EachOpensAlike, HasStarted, IsOfDisk, RefusesStart};
+ghost use Rattle.chain_core.specs.Starting.{CanStart, EachOpensAlike, HasStarted, IsOfDisk, LeavesOthersFrom, RefusesStart};
 ghost use Rattle.chain_core.specs.Sessions.{IsCounted, IsSound, seen};
 
 use crate::answer::Answer;
@@ -43,7 +43,8 @@ pub struct Chain<S: Store, R: Recorder> {
 
 impl<S: Store, R: Recorder> Chain<S, R> {
     /// A session over these files of the store, with no call yet. For guests the leaf's session begins, under new identifiers. A
-    /// refused one gives the store back; whatever is answered, the files open to the disk that they had.
+    /// refused one gives the store back; whatever is answered, the files open to the disk that they had, and only the leaf's was
+    /// changed.
     pub fn start<I: Ids>(
         alloc: Global,
         mut store: S,
@@ -60,6 +61,7 @@ impl<S: Store, R: Recorder> Chain<S, R> {
         ensures started { IfOk result (λ c. HasStarted mode files.now c.layers (S.disk store) (S.disk c.store) (I.drawn ids.old) (I.drawn ids.new)) }
         ensures moments { IfOk result (λ chain. EachOpensAlike files.now (S.disk store).told (S.disk chain.store).told) }
         ensures kept { IfErr result (λ refused. EachOpensAlike files.now (S.disk store).told (S.disk refused.0).told) }
+        ensures still { IfErr result (λ refused. LeavesOthersFrom (S.disk store).told (S.disk refused.0).told) }
         ensures err { IfErr result (λ refused. RefusesStart mode files.now (S.disk store) (S.disk refused.0) (I.drawn ids.old) (I.drawn ids.new) refused.1) }
     {
         match Layers::start(alloc, &mut store, files, mode, ids) {
@@ -258,6 +260,7 @@ impl<S: Store, R: Recorder> Chain<S, R> {
         ensures notes { Notes who calls.Flush (seen S.disk R.noted R.told self.old) (seen S.disk R.noted R.told self.new) result }
         ensures cause { HasCause calls.Flush (seen S.disk R.noted R.told self.old) (seen S.disk R.noted R.told self.new) result }
         ensures free { IsTrue R.takes_none → result ≡ Err ChainRefusal.NoRoom → ⊥ }
+        ensures room { HasRoom calls.Flush (seen S.disk R.noted R.told self.old) result }
         ensures durable { OnOk result (IsDurable (seen S.disk R.noted R.told self.old) (seen S.disk R.noted R.told self.new)) }
         ensures told { AnswersTold who calls.Flush (seen S.disk R.noted R.told self.old) (seen S.disk R.noted R.told self.new) result }
     {

@@ -6,7 +6,7 @@ ghost use Rattle.layer_session.specs.declared.file.Layer.{Layer};
 ghost use Rattle.layer_session.specs.Calls.{Fails};
 ghost use Rattle.layer_session.specs.ReadOnly.{SomeReadFailed};
 ghost use Rattle.store_model.specs.Plans.{FailsToChange};
-ghost use Rattle.chain_core.specs.Answering.{EndsTold, LayerRoomIs, LayerTold, UnlessBroken, as_change};
+ghost use Rattle.chain_core.specs.Answering.{EndsTold, FailsByChange, LayerRoomIs, LayerTold, UnlessBroken, as_change};
 ghost use Rattle.chain_core.specs.Reading.{AddsPart, Finds, HasOnlyRead, of_read, of_session};
 ghost use Rattle.chain_core.specs.Sessions.{AreReady, IsLow};
 
@@ -167,6 +167,7 @@ impl Layers {
         ensures geometry { self.new.geometry ≡ self.old.geometry }
         ensures counts { OnOk result (S.disk store.new ≡ record (S.disk store.old) { told = (S.disk store.new).told }) }
         ensures err { IfErr result (Fails 0 (S.disk store.old) (S.disk store.new)) }
+        ensures change { FailsByChange result }
     {
         match &mut self.leaf {
             Some(leaf) => changed(leaf.commit(store)),

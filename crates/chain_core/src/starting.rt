@@ -10,7 +10,7 @@ ghost use Rattle.make_file.specs.Identifiers as identifiers;
 ghost use Rattle.make_file.specs.Identifiers.{Draws};
 ghost use Rattle.layer_session.specs.Begins.{CanServe};
 ghost use Rattle.chain_core.specs.Sessions.{AreReady, IsLow};
-ghost use Rattle.chain_core.specs.Starting.{AreAsOpened, AreReadOf, BeginsHigh, BeginsLow, BeginsNot, CanStart, CollectFails, EachOpensAlike, HasBegun, HasStarted, IsOfDisk, JudgesIds, RefusesGuests, RefusesSession, RefusesStart, StartsWith, drawn_ids, session_ids, shown_from, under};
+ghost use Rattle.chain_core.specs.Starting.{AreAsOpened, AreReadOf, BeginsHigh, BeginsLow, BeginsNot, CanStart, CollectFails, EachOpensAlike, HasBegun, HasStarted, IsOfDisk, JudgesIds, LeavesOthersFrom, RefusesGuests, RefusesSession, RefusesStart, StartsWith, drawn_ids, session_ids, shown_from, under};
 
 use crate::layers::Layers;
 use layer_session::{Layer, ReadLayer};
@@ -267,6 +267,7 @@ impl Layers {
         requires low { BeginsLow (leaf.now ∷ others.now) }
         requires fresh { WhereTold (S.disk store.old).told (CanServe leaf.now.parts ids.now.log 0) }
         ensures moments { EachOpensAlike (leaf.now ∷ others.now) (S.disk store.old).told (S.disk store.new).told }
+        ensures still { LeavesOthersFrom (S.disk store.old).told (S.disk store.new).told }
         ensures serving { IfOk result (λ layers. StartsWith (under ids.now) (leaf.now ∷ others.now) layers (S.disk store.old).told (S.disk store.new).told) }
         ensures ready { IfOk result (λ layers. AreReady layers (S.disk store.new)) }
         ensures low { IfOk result (IsLow 1) }
@@ -294,6 +295,7 @@ impl Layers {
         requires files { CanStart files.now (S.disk store.old) }
         requires low { BeginsLow files.now }
         ensures moments { EachOpensAlike files.now (S.disk store.old).told (S.disk store.new).told }
+        ensures still { LeavesOthersFrom (S.disk store.old).told (S.disk store.new).told }
         ensures begun { IfOk result (λ layers. HasBegun files.now layers (S.disk store.old) (S.disk store.new) (I.drawn ids.old) (I.drawn ids.new)) }
         ensures ready { IfOk result (λ layers. AreReady layers (S.disk store.new)) }
         ensures low { IfOk result (IsLow 1) }
@@ -335,6 +337,7 @@ impl Layers {
     ) -> Result<Layers, StartRefusal>
         requires files { CanStart files.now (S.disk store.old) }
         ensures moments { EachOpensAlike files.now (S.disk store.old).told (S.disk store.new).told }
+        ensures still { LeavesOthersFrom (S.disk store.old).told (S.disk store.new).told }
         ensures begun { IfOk result (λ layers. HasStarted Mode.Guests files.now layers (S.disk store.old) (S.disk store.new) (I.drawn ids.old) (I.drawn ids.new)) }
         ensures ready { IfOk result (λ layers. AreReady layers (S.disk store.new)) }
         ensures low { IfOk result (IsLow 1) }
@@ -357,6 +360,7 @@ impl Layers {
     ) -> Result<Layers, StartRefusal>
         requires files { CanStart files.now (S.disk store.old) }
         ensures moments { EachOpensAlike files.now (S.disk store.old).told (S.disk store.new).told }
+        ensures still { LeavesOthersFrom (S.disk store.old).told (S.disk store.new).told }
         ensures started { IfOk result (λ layers. HasStarted mode files.now layers (S.disk store.old) (S.disk store.new) (I.drawn ids.old) (I.drawn ids.new)) }
         ensures ready { IfOk result (λ layers. AreReady layers (S.disk store.new)) }
         ensures low { IfOk result (IsLow 1) }

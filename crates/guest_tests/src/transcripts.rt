@@ -29,7 +29,12 @@ fn sectors(alloc: Global, parts: &[(usize, u8)]) -> Result<Vec<u8>, Fail> {
     Ok(bytes)
 }
 
-fn told(alloc: Global, place: Option<u64>, form: Form, answer: Answer<'_>) -> Result<ToldCall, Fail> {
+fn told(
+    alloc: Global,
+    place: Option<u64>,
+    form: Form,
+    answer: Answer<'_>,
+) -> Result<ToldCall, Fail> {
     let mut text = String::new(alloc);
     push_answered(&mut text, &NAMES, form, answer)?;
     Ok(ToldCall {

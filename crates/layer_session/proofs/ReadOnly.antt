@@ -156,8 +156,9 @@ adds_through upper below t [] z first count at m0 m1 m2 a b c one two h = absurd
 adds_through upper below t (file ∷ files) z first count at m0 m1 m2 a b c one two h = adds_over file.member.layer (chain.through (layers_of (members_of files))) z first count at m0 m1 m2 a b c (one file h.0) (two files h.1)
 
 -- a fault names the file whose read failed
-pub some_failed : (file : ℕ) (old new : Disk) (fault : StoreFault) → ReadFailed file old new fault → SomeReadFailed old new fault
-some_failed file old new fault h = subst (λ n. ReadFailed n old new fault) (sym h.of_file) h
+pub some_failed : (file : ℕ) (old new : Disk) (result : Result (Unit {0}) StoreFault) → file < old.files → IfErr result (ReadFailed file old new) → IfErr result (SomeReadFailed old new)
+some_failed file old new (Ok done) there h = tt
+some_failed file old new (Err fault) there h = (subst (λ n. n < old.files) (sym h.of_file) there, subst (λ n. ReadFailed n old new fault) (sym h.of_file) h)
 
 -- a file of the lower ones is one of all
 pub later_number : (upper : ReadLayer) (below : List ReadLayer) (n : ℕ) → Contains (numbers_of below) n → Contains (numbers_of (upper ∷ below)) n

@@ -81,7 +81,7 @@ HaveSameParts old new = map (λ l. l.tables.parts) new ≡ map (λ l. l.tables.p
 
 -- a read of one of the store's files failed
 abbrev pub SomeReadFailed : Disk → Disk → StoreFault → Type 0
-SomeReadFailed old new fault = ReadFailed fault.file old new fault
+SomeReadFailed old new fault = (fault.file < old.files) × ReadFailed fault.file old new fault
 
 -- What a layer reads, by itself.
 pub record ReadLayersStand : Type 0 where

@@ -1,6 +1,6 @@
 //! Reading a script from a source.
 
-ghost use Rattle.std.specs.Prelude.{◌≡◌, ◌≤◌, ◌<◌, ◌+◌, ◌++◌, ℕ, List, false, true, length, IfErr, IfOk, IfSome, OnErr, OnOk};
+ghost use Rattle.std.specs.Prelude.{◌≡◌, ◌≤◌, ◌<◌, ◌+◌, ◌++◌, ◌^◌, ℕ, List, false, true, length, IfErr, IfOk, IfSome, OnErr, OnOk};
 ghost use Rattle.std.specs.Io.KnownBytes.{Consumes, IsAtEnd};
 ghost use Rattle.script.specs.declared.form.Line.{Line};
 ghost use Rattle.script.specs.Grammar.{IsScript, most_bytes};
@@ -75,6 +75,8 @@ pub fn script_from<S: Source>(
     ensures read { IfSome (S.left source.old) (λ bytes. ReadsScript kind bytes result) }
     // Bytes that are a script are read as it, unless the source fails or memory runs out.
     ensures only { IfSome (S.left source.old) (λ bytes. (script : List Line) → IsScript kind bytes script → AnswersFrom script result) }
+    // Whatever the source tells, a script has at most so many lines.
+    ensures few { IfOk result (λ script. length script ≤ 2 ^ 20) }
     ensures left { IfSome (S.left source.old) (λ bytes. LeavesOf bytes (S.left source.new) result) }
     ensures count { CountsFault (S.faults source.old) (S.faults source.new) result }
 {

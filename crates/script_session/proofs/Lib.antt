@@ -1,6 +1,11 @@
+pub mod Content
 pub mod Counting
+pub mod Ending
+pub mod Full
 pub mod Long
 pub mod Many
+pub mod Room
 pub mod Running
+pub mod Scripts
 pub mod Seen
 pub mod Telling

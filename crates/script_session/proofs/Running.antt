@@ -1,13 +1,24 @@
 -- One more line of a script.
-use Rattle.std.proofs.Common.{◌≡◌, ◌<◌, ◌+◌, ◌||◌, ℕ, Bool, true, false, List, [], ◌∷◌, ◌++◌, get_or, length, take, Result, Ok, Err, refl, sym, ap, subst, ◌∙◌, arith, append_assoc, append-nil}
-use Rattle.std.proofs.lemmas.List.{length-take-le, take_more}
+use Rattle.std.proofs.Common.{◌≡◌, ◌<◌, ◌≤◌, ◌+◌, ℕ, List, [], ◌∷◌, ◌++◌, get_or, length, take, Option, Some, None, Result, Ok, Err, refl, sym, ap, subst, ◌∙◌, arith, append_assoc, append-nil}
+use Rattle.std.specs.Prelude.{IfOk, string_bytes}
+use Rattle.std.proofs.lemmas.List.{length-take-le, take_all, take_more}
+use Rattle.std.proofs.lemmas.Result.{IfOk-weaker}
+use Rattle.store_model.specs.declared.fault.StoreFault.{StoreFault}
 use Rattle.guest_model.specs.declared.call.Reply.{Reply}
 use Rattle.guest_model.specs.declared.refusal.ChainRefusal.{ChainRefusal}
 use Rattle.script.specs.declared.form.Form.{Form}
 use Rattle.script.specs.declared.form.Line.{Line}
 use Rattle.chain_core.specs.Sessions.{Session}
-use Rattle.script_session.specs.Answers.{Answers, AnswersLine, AnswersLines, HasRun, HasRunSome, with_reply}
-use Rattle.script_session.specs.Told.{Told, any_faulted, call_of, caller, is_faulted, line_text, transcript}
+use Rattle.script_session.specs.Answers.{Answers, AnswersLine, AnswersLines, HasRun, with_reply}
+use Rattle.script_session.specs.declared.lines.LinesRun.{LinesRun}
+use Rattle.script_session.specs.Told.{Told, call_of, caller, fault_of, last_fault, later_of, line_text, transcript}
+
+-- All of some lines were answered: this text is their transcript, and this the last fault that refused one.
+pub record HasRunAll (names : List (List ℕ)) (lines : List Line) (old new : Session) (text : List ℕ) (fault : Option StoreFault) : Type 0 where
+  pub told : List Told
+  pub answers : AnswersLines 1 lines told old new
+  pub text_is : text ≡ transcript names lines told
+  pub fault_is : fault ≡ last_fault told
 
 pub line_answered : (number : ℕ) (form : Form) (answer : Result ℕ ChainRefusal) (reply : Reply) (old new : Session) → Answers (caller number) (call_of form) answer reply old new → AnswersLine number form (with_reply reply answer) old new
 line_answered number form (Ok place) reply old new h = h
@@ -40,25 +51,29 @@ transcript_more names number (l ∷ lines) (x ∷ told) line t old mid is =
     ap (λ rest. line_text names l.form x ++ rest) (transcript_more names (number + 1) lines told line t is.0 mid is.2)
     ∙ sym (append_assoc (line_text names l.form x) (transcript names lines told) (line_text names line.form t))
 
-or_none : (b : Bool) → (b || false) ≡ b
-or_none true = refl
-or_none false = refl
+-- ---- the last fault
 
-or_assoc : (a b c : Bool) → (a || (b || c)) ≡ ((a || b) || c)
-or_assoc true b c = refl
-or_assoc false b c = refl
+pub later_than_none : (o : Option StoreFault) → later_of None o ≡ o
+later_than_none None = refl
+later_than_none (Some fault) = refl
 
-any_more : (told : List Told) (t : Told) → any_faulted (told ++ t ∷ []) ≡ (any_faulted told || is_faulted t)
-any_more [] t = or_none (is_faulted t)
-any_more (x ∷ told) t = ap (λ b. is_faulted x || b) (any_more told t) ∙ or_assoc (is_faulted x) (any_faulted told) (is_faulted t)
+later_twice : (a b c : Option StoreFault) → later_of a (later_of b c) ≡ later_of (later_of a b) c
+later_twice a b None = refl
+later_twice a b (Some fault) = refl
 
-pub run_more : (names : List (List ℕ)) (lines : List Line) (line : Line) (t : Told) (old mid new : Session) (text after : List ℕ) (was now : Bool) → HasRun names lines old mid text was
-    → AnswersLine (1 + length lines) line.form t mid new → after ≡ text ++ line_text names line.form t → now ≡ (was || is_faulted t) → HasRun names (lines ++ line ∷ []) old new after now
+last_more : (told : List Told) (t : Told) → last_fault (told ++ t ∷ []) ≡ later_of (last_fault told) (fault_of t)
+last_more [] t = sym (later_than_none (fault_of t))
+last_more (x ∷ told) t = ap (later_of (fault_of x)) (last_more told t) ∙ later_twice (fault_of x) (last_fault told) (fault_of t)
+
+-- ---- one more
+
+pub run_more : (names : List (List ℕ)) (lines : List Line) (line : Line) (t : Told) (old mid new : Session) (text after : List ℕ) (was now : Option StoreFault) → HasRunAll names lines old mid text was
+    → AnswersLine (1 + length lines) line.form t mid new → after ≡ text ++ line_text names line.form t → now ≡ later_of was (fault_of t) → HasRunAll names (lines ++ line ∷ []) old new after now
 run_more names lines line t old mid new text after was now h next e f = record {
   told = h.told ++ t ∷ [];
   answers = answers_more 1 lines h.told line t old mid new h.answers next;
   text_is = e ∙ ap (λ x. x ++ line_text names line.form t) h.text_is ∙ sym (transcript_more names 1 lines h.told line t old mid h.answers);
-  faulted = f ∙ ap (λ b. b || is_faulted t) h.faulted ∙ sym (any_more h.told t);
+  fault_is = f ∙ ap (λ o. later_of o (fault_of t)) h.fault_is ∙ sym (last_more h.told t);
 }
 
 -- ---- in the script
@@ -72,18 +87,23 @@ module _ (lines : List Line) (i number : ℕ) (d : Line) (inside : i < length li
       let same : number + 1 ≡ 1 + length (take i lines) = omega (arith, numbered, length-take-le i lines (omega (arith, inside))) in
       subst (λ n. AnswersLine n form (with_reply reply answer) mid new) same (line_answered (number + 1) form answer reply mid new h)
 
-  pub run_next : (names : List (List ℕ)) (answer : Result ℕ ChainRefusal) (reply : Reply) (old mid new : Session) (text after : List ℕ) (was now : Bool) → HasRun names (take i lines) old mid text was
-      → Answers (caller (number + 1)) (call_of form) answer reply mid new → after ≡ text ++ line_text names form (with_reply reply answer) → now ≡ (was || is_faulted (with_reply reply answer))
-      → HasRun names (take (i + 1) lines) old new after now
+  pub run_next : (names : List (List ℕ)) (answer : Result ℕ ChainRefusal) (reply : Reply) (old mid new : Session) (text after : List ℕ) (was now : Option StoreFault) → HasRunAll names (take i lines) old mid text was
+      → Answers (caller (number + 1)) (call_of form) answer reply mid new → after ≡ text ++ line_text names form (with_reply reply answer) → now ≡ later_of was (fault_of (with_reply reply answer))
+      → HasRunAll names (take (i + 1) lines) old new after now
   run_next names answer reply old mid new text after was now h next e f =
-      subst (λ ls. HasRun names ls old new after now) (sym (take_more lines i d inside))
+      subst (λ ls. HasRunAll names ls old new after now) (sym (take_more lines i d inside))
       (run_more names (take i lines) (get_or lines i d) (with_reply reply answer) old mid new text after was now h (next_answered answer reply mid new next) e f)
 
-  pub some_next : (names : List (List ℕ)) (answer : Result ℕ ChainRefusal) (reply : Reply) (old mid new : Session) (text : List ℕ) (was : Bool) → HasRun names (take i lines) old mid text was
-      → Answers (caller (number + 1)) (call_of form) answer reply mid new → HasRunSome lines old new
-  some_next names answer reply old mid new text was h next = record {
-    many = i + 1;
-    told = h.told ++ with_reply reply answer ∷ [];
-    answers = subst (λ ls. AnswersLines 1 ls (h.told ++ with_reply reply answer ∷ []) old new) (sym (take_more lines i d inside))
-        (answers_more 1 (take i lines) h.told (get_or lines i d) (with_reply reply answer) old mid new h.answers (next_answered answer reply mid new next));
-  }
+-- ---- the outcome
+
+-- the first n lines have run, and these are all where there is a transcript
+pub run_of : (names : List (List ℕ)) (lines : List Line) (n : ℕ) (old new : Session) (text : List ℕ) (fault : Option StoreFault) (run : LinesRun) → HasRunAll names (take n lines) old new text fault
+    → IfOk run.transcript (λ s. (take n lines ≡ lines) × (string_bytes s ≡ text)) → run.fault ≡ fault → HasRun names lines old new run
+run_of names lines n old new text fault run h whole same = record {
+  many = n;
+  told = h.told;
+  answers = h.answers;
+  whole = IfOk-weaker run.transcript (λ s. (take n lines ≡ lines) × (string_bytes s ≡ text)) (λ s. (take n lines ≡ lines) × (string_bytes s ≡ transcript names lines h.told))
+      (λ s w. (w.0, w.1 ∙ h.text_is ∙ ap (λ ls. transcript names ls h.told) w.0)) whole;
+  fault_is = same ∙ h.fault_is;
+}

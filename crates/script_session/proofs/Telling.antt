@@ -16,7 +16,7 @@ use Rattle.guest_model.specs.declared.refusal.ChainRefusal.{ChainRefusal}
 use Rattle.guest_model.specs.declared.refusal.ChainRefusal.TheVariants.{Abandoned, Broken, EmptyRange, FileFull, NoMerge, NoPiece, NoRoom, NoStripe, NotYet, OutOfRange, ReadFault, ReadOnly, Spent, Stale, TooLong}
 use Rattle.guest_model.specs.Calls.{Disk, reply}
 use Rattle.guest_model.specs.History.{History, replay}
-use Rattle.chain_core.specs.Answering.{HasBroken, IsCausedBy, IsCausedByRead, IsDone, IsRefused, fault_of}
+use Rattle.chain_core.specs.Answering.{HasBroken, HasRoom, IsCausedBy, IsCausedByRead, IsDone, IsRefused, fault_of}
 use Rattle.chain_core.specs.Answering as chain
 use Rattle.chain_core.specs.Refusing.{barred, broken_by, counted, is_read, misplaced, or_else, out_of, range_of, refused}
 use Rattle.chain_core.specs.Sessions.{Session}
@@ -24,12 +24,13 @@ use Rattle.chain_core.specs.States.{State, IsServing, disk_now, entry, sector_of
 use Rattle.script.specs.declared.form.Form.{Form}
 use Rattle.script.specs.declared.form.Line.{Line}
 use Rattle.script_session.specs.Answers.{Answers, AnswersLine, AnswersLines, HasCauseOf}
-use Rattle.script_session.specs.Histories.{AreTold, Drive, IsLater, IsOver, IsTold, LinesTellHistory, Stands, Stops, TellsHistory, breaks, cause_of, disk_after, is_broken, is_done, is_refused, is_stopped, line_told, none_left, serves, with_line}
+use Rattle.script_session.specs.Histories.{AreTold, Break, Drive, IsLater, IsOver, IsTold, LinesTellHistory, Stands, Stops, TellsHistory, breaks, cause_of, disk_after, fault_in, is_broken, is_done, is_refused, is_stopped, line_told, none_left, serves, with_line}
 use Rattle.script_session.specs.Told.{Told, call_of, caller}
+use Rattle.script_session.proofs.Room.{call_is_far}
 
 -- ---- small steps
 
-both_told : (R : Trace → Trace → Type 0) (before after : Option Trace) (trace : Trace) → before ≡ Some trace → WhereBothTold R before after → (now : Trace) × (after ≡ Some now) × R trace now
+pub both_told : (R : Trace → Trace → Type 0) (before after : Option Trace) (trace : Trace) → before ≡ Some trace → WhereBothTold R before after → (now : Trace) × (after ≡ Some now) × R trace now
 both_told R before after trace e h = go after (subst (λ o. WhereBothTold R o after) e h)
   where
     go : (after : Option Trace) → WhereBothTold R (Some trace) after → (now : Trace) × (after ≡ Some now) × R trace now
@@ -41,13 +42,18 @@ cause_same drive v s call over few =
     ap (λ b. or_else (if b then broken_by s.broken else Some (Spent s.events)) (misplaced call s.layers)) (lt-ltb s.events (2 ^ 63) few)
     ∙ ap₂ (λ (g : Geometry) (c : Bool). or_else (broken_by s.broken) (out_of (range_of g call) (barred call c))) over.geometry over.change
 
-no_cause_whole : (drive : Drive) (broken : Option StoreFault) (call : Call) → cause_of drive broken call ≡ None → broken ≡ None
-no_cause_whole drive None call h = refl
-no_cause_whole drive (Some fault) call h = cc
+no_cause_none : (drive : Drive) (broken : Option Break) (call : Call) → cause_of drive (fault_in broken) call ≡ None → broken ≡ None
+no_cause_none drive None call h = refl
+no_cause_none drive (Some b) call h = cc
 
-serving_of : (v : State) (s : Session) (trace : Trace) → Stands v s trace → s.broken ≡ None → IsServing s.layers v trace
-serving_of v s trace (serves whole h) e = h
-serving_of v s trace (is_broken fault call b others past) e = let bad : Some fault ≡ None = sym b ∙ e in absurd (cc)
+-- the fault of a session is the one by which it was broken
+pub broken_is : (v : State) (s : Session) (trace : Trace) (broken : Option Break) → Stands v s trace broken → s.broken ≡ fault_in broken
+broken_is v s trace None (serves whole h) = whole
+broken_is v s trace (Some b) (is_broken _ e others past) = e
+
+serving_of : (v : State) (s : Session) (trace : Trace) (broken : Option Break) → Stands v s trace broken → broken ≡ None → IsServing s.layers v trace
+serving_of v s trace None (serves whole h) e = h
+serving_of v s trace (Some b) (is_broken _ is others past) e = let bad : ◌≡◌ {A = Option Break} (Some b) None = e in absurd (cc)
 
 pub same_err : (x e : ChainRefusal) → ◌≡◌ {A = Result ℕ ChainRefusal} (Err x) (Err e) → x ≡ e
 same_err x e h = IfErr-at_err (λ y. x ≡ y) h refl
@@ -57,6 +63,10 @@ same_err x e h = IfErr-at_err (λ y. x ≡ y) h refl
 data Outcome (reads : Bool) (e : Entry) (v : State) (s : Session) (trace now : Trace) : ChainRefusal → Type 0 where
   stays : (x : ChainRefusal) → Stops reads x → s.broken ≡ None → IsRefused v s.layers trace now → Outcome reads e v s trace now x
   ends : (file count : ℕ) → reads ≡ false → s.broken ≡ Some (fault_of file count) → HasBroken e v trace now → Outcome reads e v s trace now (Broken file count)
+
+-- a change that is stopped for want of room is near the file's last place
+abbrev IsFar : ChainRefusal → Type 0
+IsFar x = (next : ℕ) → x ≡ FileFull next → 2 ^ 43 < next + 1024
 
 module _ (e : Entry) (v : State) (old new : Session) (trace now : Trace) where
   read_outcome : (x : ChainRefusal) → IsCausedByRead old new (Err x) → chain.Answers e v new.layers trace now (Err x) → Outcome true e v new trace now x
@@ -76,28 +86,28 @@ module _ (e : Entry) (v : State) (old new : Session) (trace now : Trace) where
   read_outcome NoPiece c a = absurd c
   read_outcome NoRoom c a = stays NoRoom tt c.1 a
 
-  change_outcome : (x : ChainRefusal) → IsCausedBy old new (Err x) → chain.Answers e v new.layers trace now (Err x) → Outcome false e v new trace now x
-  change_outcome EmptyRange c a = absurd c
-  change_outcome (OutOfRange first count sectors) c a = absurd c
-  change_outcome (TooLong count limit) c a = absurd c
-  change_outcome ReadOnly c a = absurd c
-  change_outcome (Broken file count) c a = ends file count refl c.1 a
-  change_outcome (Spent t) c a = absurd c
-  change_outcome (FileFull next) c a = stays (FileFull next) tt c.1 a
-  change_outcome (ReadFault file count) c a = stays (ReadFault file count) tt c.1 a
-  change_outcome NoMerge c a = absurd c
-  change_outcome (Stale taken at) c a = absurd c
-  change_outcome (NotYet stripe) c a = absurd c
-  change_outcome (Abandoned file count) c a = absurd c
-  change_outcome (NoStripe stripe stripes) c a = absurd c
-  change_outcome NoPiece c a = absurd c
-  change_outcome NoRoom c a = stays NoRoom tt c.1 a
+  change_outcome : (x : ChainRefusal) → IsFar x → IsCausedBy old new (Err x) → chain.Answers e v new.layers trace now (Err x) → Outcome false e v new trace now x
+  change_outcome EmptyRange far c a = absurd c
+  change_outcome (OutOfRange first count sectors) far c a = absurd c
+  change_outcome (TooLong count limit) far c a = absurd c
+  change_outcome ReadOnly far c a = absurd c
+  change_outcome (Broken file count) far c a = ends file count refl c.1 a
+  change_outcome (Spent t) far c a = absurd c
+  change_outcome (FileFull next) far c a = stays (FileFull next) (far next refl) c.1 a
+  change_outcome (ReadFault file count) far c a = stays (ReadFault file count) tt c.1 a
+  change_outcome NoMerge far c a = absurd c
+  change_outcome (Stale taken at) far c a = absurd c
+  change_outcome (NotYet stripe) far c a = absurd c
+  change_outcome (Abandoned file count) far c a = absurd c
+  change_outcome (NoStripe stripe stripes) far c a = absurd c
+  change_outcome NoPiece far c a = absurd c
+  change_outcome NoRoom far c a = stays NoRoom tt c.1 a
 
-  outcome : (call : Call) (x : ChainRefusal) → HasCauseOf call old new (Err x) → refused call old ≡ None → chain.Answers e v new.layers trace now (Err x) → Outcome (is_read call) e v new trace now x
-  outcome (calls.Read first count) x c fit a = read_outcome x (c fit) a
-  outcome (calls.Write first bytes) x c fit a = change_outcome x (c fit) a
-  outcome (calls.Trim first count) x c fit a = change_outcome x (c fit) a
-  outcome calls.Flush x c fit a = change_outcome x (c fit) a
+  outcome : (call : Call) (x : ChainRefusal) → (is_read call ≡ false → IsFar x) → HasCauseOf call old new (Err x) → refused call old ≡ None → chain.Answers e v new.layers trace now (Err x) → Outcome (is_read call) e v new trace now x
+  outcome (calls.Read first count) x far c fit a = read_outcome x (c fit) a
+  outcome (calls.Write first bytes) x far c fit a = change_outcome x (far refl) (c fit) a
+  outcome (calls.Trim first count) x far c fit a = change_outcome x (far refl) (c fit) a
+  outcome calls.Flush x far c fit a = change_outcome x (far refl) (c fit) a
 
 done_whole : (call : Call) (place : ℕ) (old new : Session) → HasCauseOf call old new (Ok place) → refused call old ≡ None → new.broken ≡ None
 done_whole (calls.Read first count) place old new c fit = (c fit).1
@@ -108,15 +118,16 @@ done_whole calls.Flush place old new c fit = (c fit).1
 -- ---- one line
 
 -- what one line was told, and where the session stands behind it
-record LineTold (drive : Drive) (number : ℕ) (form : Form) (t : Told) (v : State) (old new : Session) : Type 0 where
+record LineTold (drive : Drive) (number : ℕ) (form : Form) (t : Told) (v : State) (broken : Option Break) (new : Session) : Type 0 where
   state : State
   now : Trace
-  told_so : IsTold drive v.history old.broken (call_of form) t new.broken
+  after : Option Break
+  told_so : IsTold drive v.history broken (call_of form) t after
   history : with_line number form t v.history ≡ state.history
   same : (h : History) (later : State) → IsLater state h later → IsLater v h later
   over : IsOver drive state new
   seen : new.disk.told ≡ Some now
-  stands : Stands state new now
+  stands : Stands state new now after
 
 kept_same : (before after : Option (List Entry)) (h : History) → IfSome before (λ t. t ≡ h) → after ≡ before → IfSome after (λ t. t ≡ h)
 kept_same before after h is e = subst (λ o. IfSome o (λ t. t ≡ h)) (sym e) is
@@ -139,11 +150,11 @@ over_events drive v s n over = record {
   kept = over.kept;
 }
 
-stands_events : (v : State) (s : Session) (now : Trace) (n : ℕ) → Stands v s now → Stands v (record s { events = n }) now
-stands_events v s now n (serves whole h) = serves whole h
-stands_events v s now n (is_broken fault call b others past) = is_broken fault call b others past
+stands_events : (v : State) (s : Session) (now : Trace) (n : ℕ) (broken : Option Break) → Stands v s now broken → Stands v (record s { events = n }) now broken
+stands_events v s now n None (serves whole h) = serves whole h
+stands_events v s now n (Some b) (is_broken _ is others past) = is_broken b is others past
 
-module _ (drive : Drive) (number : ℕ) (form : Form) (v : State) (old new : Session) (trace : Trace) (seen : old.disk.told ≡ Some trace) (stands : Stands v old trace) (over : IsOver drive v old) (few : old.events < 2 ^ 63) where
+module _ (drive : Drive) (number : ℕ) (form : Form) (v : State) (old new : Session) (over : IsOver drive v old) where
   abbrev call : Call
   call = call_of form
 
@@ -151,25 +162,28 @@ module _ (drive : Drive) (number : ℕ) (form : Form) (v : State) (old new : Ses
   by_line = entry (caller number) call
 
   -- it is refused before it reaches the files
-  early_line : (x : ChainRefusal) → cause_of drive old.broken call ≡ Some x → new ≡ record old { events = counted old.events } → LineTold drive number form (Err x) v old new
-  early_line x cause only = subst (λ s. LineTold drive number form (Err x) v old s) (sym only) (record {
+  early_line : (x : ChainRefusal) (trace : Trace) (broken : Option Break) → old.disk.told ≡ Some trace → Stands v old trace broken → cause_of drive (fault_in broken) call ≡ Some x → new ≡ record old { events = counted old.events }
+      → LineTold drive number form (Err x) v broken new
+  early_line x trace broken seen stands cause only = subst (λ s. LineTold drive number form (Err x) v broken s) (sym only) (record {
     state = v;
     now = trace;
+    after = broken;
     told_so = is_refused x cause;
     history = refl;
     same = λ h later is. is;
     over = over_events drive v old (counted old.events) over;
     seen = seen;
-    stands = stands_events v old trace (counted old.events) stands;
+    stands = stands_events v old trace (counted old.events) broken stands;
   })
 
   -- it stops, or breaks the session
-  stopped_line : (x : ChainRefusal) (r : Reply) (now : Trace) → new.disk.told ≡ Some now → cause_of drive old.broken call ≡ None → old.broken ≡ None → Answers (caller number) call (Err x) r old new → refused call old ≡ None
-      → Outcome (is_read call) by_line v new trace now x → LineTold drive number form (Err x) v old new
-  stopped_line x r now told cause whole h fit (stays _ stops b is) = record {
+  stopped_line : (x : ChainRefusal) (r : Reply) (trace now : Trace) → new.disk.told ≡ Some now → cause_of drive None call ≡ None → Answers (caller number) call (Err x) r old new → refused call old ≡ None
+      → Outcome (is_read call) by_line v new trace now x → LineTold drive number form (Err x) v None new
+  stopped_line x r trace now told cause h fit (stays _ stops b is) = record {
     state = v;
     now = now;
-    told_so = subst (λ o. IsTold drive v.history old.broken call (Err x) o) (whole ∙ sym b) (is_stopped x cause stops);
+    after = None;
+    told_so = is_stopped x cause stops;
     history = refl;
     same = λ h later is. is;
     over = record {
@@ -183,10 +197,11 @@ module _ (drive : Drive) (number : ℕ) (form : Form) (v : State) (old new : Ses
     seen = told;
     stands = serves b is.serving;
   }
-  stopped_line _ r now told cause whole h fit (ends file count reads b is) = record {
+  stopped_line _ r trace now told cause h fit (ends file count reads b is) = record {
     state = v;
     now = now;
-    told_so = subst (λ o. IsTold drive v.history old.broken call (Err (Broken file count)) o) (sym b) (breaks (fault_of file count) cause reads);
+    after = Some (record { fault = fault_of file count; call = call });
+    told_so = breaks (fault_of file count) cause reads;
     history = refl;
     same = λ h later is. is;
     over = record {
@@ -198,72 +213,83 @@ module _ (drive : Drive) (number : ℕ) (form : Form) (v : State) (old new : Ses
       kept = kept_same old.told new.told v.history over.kept (h.notes fit).0;
     };
     seen = told;
-    stands = is_broken (fault_of file count) call b is.still is.past;
+    stands = is_broken (record { fault = fault_of file count; call = call }) b is.still is.past;
   }
 
-  refused_line : (x : ChainRefusal) (r : Reply) → Answers (caller number) call (Err x) r old new → LineTold drive number form (Err x) v old new
-  refused_line x r h = go (refused call old) refl
-    where
-      go : (o : Option ChainRefusal) → refused call old ≡ o → LineTold drive number form (Err x) v old new
-      go (Some e) is =
-          let early = subst (λ o. IfSome o (λ e. (◌≡◌ {A = Result ℕ ChainRefusal} (Err x) (Err e)) × (new ≡ record old { events = counted old.events }))) is h.early in
-          let same : x ≡ e = same_err x e early.0 in
-          early_line x (sym (cause_same drive v old call over few) ∙ is ∙ ap Some (sym same)) early.1
-      go None is =
-          let cause : cause_of drive old.broken call ≡ None = sym (cause_same drive v old call over few) ∙ is in
-          let whole : old.broken ≡ None = no_cause_whole drive old.broken call cause in
-          let after = both_told _ old.disk.told new.disk.told trace seen (h.told whole) in
-          stopped_line x r after.0 after.1 cause whole h is (outcome by_line v old new trace after.0 call x h.cause is (after.2 v (serving_of v old trace stands whole)))
+  -- it is done
+  done_line : (d : ℕ × Reply) (trace now : Trace) → old.disk.told ≡ Some trace → new.disk.told ≡ Some now → cause_of drive None call ≡ None → IsServing old.layers v trace → Answers (caller number) call (Ok d.0) d.1 old new
+      → refused call old ≡ None → IsDone by_line v new.layers trace now → LineTold drive number form (Ok d) v None new
+  done_line d trace now seen told cause serving h fit done =
+      let notes = h.notes fit in
+      let b : new.broken ≡ None = done_whole call d.0 old new h.cause fit in
+      let place : length v.history + 1 ≡ d.0 = ap (λ n. n + 1) (sym over.noted) ∙ sym notes.1 ∙ sym notes.2 in
+      let disk : disk_after drive v.history ≡ disk_now v = ap₂ (λ (z : ℕ) (o : Disk). replay z o v.history) (sym over.sector) (sym over.opening) in
+      let replied : reply (disk_after drive v.history) call ≡ d.1 = ap (λ k. reply k call) disk ∙ h.replies.1 trace seen v serving in
+      record {
+        state = with_entry by_line v;
+        now = now;
+        after = None;
+        told_so = subst (λ t. IsTold drive v.history None call t None) (ap₂ (λ (p : ℕ) (r : Reply). Ok (p, r)) place replied) (is_done cause);
+        history = refl;
+        same = λ h later is. record {
+          leaf = is.leaf;
+          retired = is.retired;
+          others = is.others;
+          number = is.number;
+          opening = is.opening;
+          began = is.began;
+          history = is.history;
+        };
+        over = record {
+          geometry = h.geometry ∙ over.geometry;
+          change = h.session ∙ over.change;
+          opening = over.opening;
+          sector = over.sector;
+          noted = notes.1 ∙ ap (λ n. n + 1) over.noted ∙ sym (length-append v.history (by_line ∷ []));
+          kept = kept_more old.told new.told v.history by_line over.kept notes.0;
+        };
+        seen = told;
+        stands = serves b done.serving;
+      }
 
-  done_line : (d : ℕ × Reply) → Answers (caller number) call (Ok d.0) d.1 old new → LineTold drive number form (Ok d) v old new
-  done_line d h = go (refused call old) refl
-    where
-      go : (o : Option ChainRefusal) → refused call old ≡ o → LineTold drive number form (Ok d) v old new
-      go (Some e) is =
-          let early = subst (λ o. IfSome o (λ e. (◌≡◌ {A = Result ℕ ChainRefusal} (Ok d.0) (Err e)) × (new ≡ record old { events = counted old.events }))) is h.early in
-          let bad : ◌≡◌ {A = Result ℕ ChainRefusal} (Ok d.0) (Err e) = early.0 in
-          absurd (cc)
-      go None is =
-          let cause : cause_of drive old.broken call ≡ None = sym (cause_same drive v old call over few) ∙ is in
-          let whole : old.broken ≡ None = no_cause_whole drive old.broken call cause in
-          let after = both_told _ old.disk.told new.disk.told trace seen (h.told whole) in
-          let serving = serving_of v old trace stands whole in
-          let done = after.2 v serving in
-          let notes = h.notes is in
-          let b : new.broken ≡ None = done_whole call d.0 old new h.cause is in
-          let place : length v.history + 1 ≡ d.0 = ap (λ n. n + 1) (sym over.noted) ∙ sym notes.1 ∙ sym notes.2 in
-          let disk : disk_after drive v.history ≡ disk_now v = ap₂ (λ (z : ℕ) (o : Disk). replay z o v.history) (sym over.sector) (sym over.opening) in
-          let replied : reply (disk_after drive v.history) call ≡ d.1 = ap (λ k. reply k call) disk ∙ h.replies.1 trace seen v serving in
-          record {
-            state = with_entry by_line v;
-            now = after.0;
-            told_so = subst (λ o. IsTold drive v.history old.broken call (Ok d) o) (whole ∙ sym b)
-                (subst (λ t. IsTold drive v.history old.broken call t old.broken) (ap₂ (λ (p : ℕ) (r : Reply). Ok (p, r)) place replied) (is_done cause));
-            history = refl;
-            same = λ h later is. record {
-              leaf = is.leaf;
-              retired = is.retired;
-              others = is.others;
-              number = is.number;
-              opening = is.opening;
-              began = is.began;
-              history = is.history;
-            };
-            over = record {
-              geometry = h.geometry ∙ over.geometry;
-              change = h.session ∙ over.change;
-              opening = over.opening;
-              sector = over.sector;
-              noted = notes.1 ∙ ap (λ n. n + 1) over.noted ∙ sym (length-append v.history (by_line ∷ []));
-              kept = kept_more old.told new.told v.history by_line over.kept notes.0;
-            };
-            seen = after.1;
-            stands = serves b done.serving;
-          }
+  module _ (trace : Trace) (broken : Option Break) (seen : old.disk.told ≡ Some trace) (stands : Stands v old trace broken) (few : old.events < 2 ^ 63) where
+    cause_is : (o : Option ChainRefusal) → refused call old ≡ o → cause_of drive (fault_in broken) call ≡ o
+    cause_is o is = ap (λ b. cause_of drive b call) (sym (broken_is v old trace broken stands)) ∙ sym (cause_same drive v old call over few) ∙ is
 
-  one_line : (t : Told) → AnswersLine number form t old new → LineTold drive number form t v old new
-  one_line (Ok d) h = done_line d h
-  one_line (Err x) h = refused_line x _ h
+    refused_line : (x : ChainRefusal) (r : Reply) → Answers (caller number) call (Err x) r old new → LineTold drive number form (Err x) v broken new
+    refused_line x r h = go (refused call old) refl
+      where
+        go : (o : Option ChainRefusal) → refused call old ≡ o → LineTold drive number form (Err x) v broken new
+        go (Some e) is =
+            let early = subst (λ o. IfSome o (λ e. (◌≡◌ {A = Result ℕ ChainRefusal} (Err x) (Err e)) × (new ≡ record old { events = counted old.events }))) is h.early in
+            early_line x trace broken seen stands (cause_is (Some e) is ∙ ap Some (sym (same_err x e early.0))) early.1
+        go None is =
+            let none : broken ≡ None = no_cause_none drive broken call (cause_is None is) in
+            let after = both_told _ old.disk.told new.disk.told trace seen (h.told (broken_is v old trace broken stands ∙ ap fault_in none)) in
+            let serving = serving_of v old trace broken stands none in
+            let far : is_read call ≡ false → IsFar x = λ changes next e. call_is_far call next v old trace serving over.sector seen changes is (subst (λ y. HasRoom call old (Err y)) e h.room) in
+            subst (λ o. LineTold drive number form (Err x) v o new) (sym none)
+            (stopped_line x r trace after.0 after.1 (subst (λ o. cause_of drive (fault_in o) call ≡ None) none (cause_is None is)) h is
+            (outcome by_line v old new trace after.0 call x far h.cause is (after.2 v serving)))
+
+    told_done : (d : ℕ × Reply) → Answers (caller number) call (Ok d.0) d.1 old new → LineTold drive number form (Ok d) v broken new
+    told_done d h = go (refused call old) refl
+      where
+        go : (o : Option ChainRefusal) → refused call old ≡ o → LineTold drive number form (Ok d) v broken new
+        go (Some e) is =
+            let early = subst (λ o. IfSome o (λ e. (◌≡◌ {A = Result ℕ ChainRefusal} (Ok d.0) (Err e)) × (new ≡ record old { events = counted old.events }))) is h.early in
+            let bad : ◌≡◌ {A = Result ℕ ChainRefusal} (Ok d.0) (Err e) = early.0 in
+            absurd (cc)
+        go None is =
+            let none : broken ≡ None = no_cause_none drive broken call (cause_is None is) in
+            let after = both_told _ old.disk.told new.disk.told trace seen (h.told (broken_is v old trace broken stands ∙ ap fault_in none)) in
+            let serving = serving_of v old trace broken stands none in
+            subst (λ o. LineTold drive number form (Ok d) v o new) (sym none)
+            (done_line d trace after.0 seen after.1 (subst (λ o. cause_of drive (fault_in o) call ≡ None) none (cause_is None is)) serving h is (after.2 v serving))
+
+    one_line : (t : Told) → AnswersLine number form t old new → LineTold drive number form t v broken new
+    one_line (Ok d) h = told_done d h
+    one_line (Err x) h = refused_line x _ h
 
 events_line : (number : ℕ) (form : Form) (t : Told) (old new : Session) → AnswersLine number form t old new → new.events ≡ counted old.events
 events_line number form (Ok d) old new h = h.events
@@ -275,29 +301,31 @@ one_more n few = ap (λ b. if b then n + 1 else n) (lt-ltb n (2 ^ 63) few)
 -- ---- all lines
 
 pub lines_told : LinesTellHistory
-lines_told drive number [] [] v old new trace seen stands over few is = subst (λ s. TellsHistory drive number [] [] v old s) (sym is) (record {
+lines_told drive number [] [] v broken old new trace seen stands over few is = subst (λ s. TellsHistory drive number [] [] v broken s) (sym is) (record {
   later = v;
   now = trace;
+  broken = broken;
   same = record { leaf = refl; retired = refl; others = refl; number = refl; opening = refl; began = refl; history = refl };
-  told_so = none_left number v.history old.broken;
+  told_so = none_left number v.history broken;
   over = over;
   seen = seen;
   stands = stands;
 })
-lines_told drive number [] (t ∷ told) v old new trace seen stands over few is = absurd is
-lines_told drive number (line ∷ lines) [] v old new trace seen stands over few is = absurd is
-lines_told drive number (line ∷ lines) (t ∷ told) v old new trace seen stands over few is =
+lines_told drive number [] (t ∷ told) v broken old new trace seen stands over few is = absurd is
+lines_told drive number (line ∷ lines) [] v broken old new trace seen stands over few is = absurd is
+lines_told drive number (line ∷ lines) (t ∷ told) v broken old new trace seen stands over few is =
     let inside : old.events < 2 ^ 63 = omega (arith, few) in
     let mid = is.0 in
-    let one = one_line drive number line.form v old mid trace seen stands over inside t is.1 in
+    let one = one_line drive number line.form v old mid over trace broken seen stands inside t is.1 in
     let events : mid.events ≡ old.events + 1 = events_line number line.form t old mid is.1 ∙ one_more old.events inside in
-    let rest = lines_told drive (number + 1) lines told one.state mid new one.now one.seen one.stands one.over (omega (arith, few, events)) is.2 in
+    let rest = lines_told drive (number + 1) lines told one.state one.after mid new one.now one.seen one.stands one.over (omega (arith, few, events)) is.2 in
     record {
       later = rest.later;
       now = rest.now;
+      broken = rest.broken;
       same = one.same rest.later.history rest.later rest.same;
-      told_so = line_told number v.history rest.later.history old.broken mid.broken new.broken line lines t told one.told_so
-          (subst (λ h. AreTold drive (number + 1) h mid.broken lines told rest.later.history new.broken) (sym one.history) rest.told_so);
+      told_so = line_told number v.history rest.later.history broken one.after rest.broken line lines t told one.told_so
+          (subst (λ h. AreTold drive (number + 1) h one.after lines told rest.later.history rest.broken) (sym one.history) rest.told_so);
       over = rest.over;
       seen = rest.seen;
       stands = rest.stands;

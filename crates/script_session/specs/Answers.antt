@@ -1,5 +1,5 @@
 -- How a session answers the lines of a script, for every store.
-use Rattle.std.specs.Prelude.{◌≡◌, ◌≤◌, ◌+◌, ◌*◌, ⊤, ℕ, Bool, List, [], ◌∷◌, length, take, is_some, Option, Some, None, Result, Ok, Err, IfSome, OnOk}
+use Rattle.std.specs.Prelude.{◌≡◌, ◌≤◌, ◌+◌, ◌*◌, ⊤, ℕ, List, [], ◌∷◌, length, take, is_some, Option, Some, None, Result, Ok, Err, IfOk, IfSome, OnOk, string_bytes}
 use Rattle.store_model.specs.Disk.{WhereTold}
 use Rattle.guest_model.specs.declared.call.Call.{Call}
 use Rattle.guest_model.specs.declared.call.Call.TheVariants as calls
@@ -16,7 +16,8 @@ use Rattle.chain_core.specs.Answering.{AnswersTold, HasCause, HasReadCause, HasR
 use Rattle.chain_core.specs.Refusing.{counted, refused}
 use Rattle.chain_core.specs.Sessions.{Session}
 use Rattle.chain_core.specs.States.{State, IsServing, disk_now}
-use Rattle.script_session.specs.Told.{Told, any_faulted, call_of, caller, sector_size, transcript}
+use Rattle.script_session.specs.Told.{Told, call_of, caller, last_fault, sector_size, transcript}
+use Rattle.script_session.specs.declared.lines.LinesRun.{LinesRun}
 
 -- a reply that a call may have: a read's bytes are those of its sectors
 abbrev pub IsReplyTo : Call → Reply → Type 0
@@ -63,18 +64,14 @@ AnswersLines number [] (told ∷ later) old new = ⊥
 AnswersLines number (line ∷ lines) [] old new = ⊥
 AnswersLines number (line ∷ lines) (told ∷ later) old new = (mid : Session) × AnswersLine number line.form told old mid × AnswersLines (number + 1) lines later mid new
 
--- All lines were answered, and the text is the transcript; it is told whether a fault of the store refused one.
-pub record HasRun (names : List (List ℕ)) (lines : List Line) (old new : Session) (text : List ℕ) (is_faulted : Bool) : Type 0 where
-  pub told : List Told
-  pub answers : AnswersLines 1 lines told old new
-  pub text_is : text ≡ transcript names lines told
-  pub faulted : is_faulted ≡ any_faulted told
-
--- The first lines were answered, so many of them.
-pub record HasRunSome (lines : List Line) (old new : Session) : Type 0 where
+-- Lines were answered, all of them where a text was given, which is their transcript; it is told which fault of the store was the last
+-- that refused one.
+pub record HasRun (names : List (List ℕ)) (lines : List Line) (old new : Session) (run : LinesRun) : Type 0 where
   pub many : ℕ
   pub told : List Told
   pub answers : AnswersLines 1 (take many lines) told old new
+  pub whole : IfOk run.transcript (λ text. (take many lines ≡ lines) × (string_bytes text ≡ transcript names lines told))
+  pub fault_is : run.fault ≡ last_fault told
 
 -- ---- of the small functions
 

@@ -1,5 +1,6 @@
 -- What the lines of a script are told, and how a transcript of `steps` tells it (profile).
-use Rattle.std.specs.Prelude.{ℕ, Bool, true, false, ◌*◌, List, [], ◌∷◌, ◌++◌, ◌||◌, replicate, Some, None, Result, Ok, Err}
+use Rattle.std.specs.Prelude.{ℕ, ◌*◌, List, [], ◌∷◌, ◌++◌, replicate, Option, Some, None, Result, Ok, Err}
+use Rattle.store_model.specs.declared.fault.StoreFault.{StoreFault}
 use Rattle.guest_model.specs.declared.call.Call.{Call}
 use Rattle.guest_model.specs.declared.call.Call.TheVariants as calls
 use Rattle.guest_model.specs.declared.call.Caller.{Caller}
@@ -41,14 +42,19 @@ transcript names [] told = []
 transcript names (line ∷ lines) [] = []
 transcript names (line ∷ lines) (told ∷ later) = line_text names line.form told ++ transcript names lines later
 
--- a fault of the store refused the line
-abbrev pub is_faulted : Told → Bool
-is_faulted (Ok done) = false
-is_faulted (Err (refusals.Broken file count)) = true
-is_faulted (Err (refusals.ReadFault file count)) = true
-is_faulted (Err other) = false
+-- the fault of the store that refused the line, if one did
+abbrev pub fault_of : Told → Option StoreFault
+fault_of (Ok done) = None
+fault_of (Err (refusals.Broken file count)) = Some (record { file = file; count = count })
+fault_of (Err (refusals.ReadFault file count)) = Some (record { file = file; count = count })
+fault_of (Err other) = None
 
--- one of them was
-abbrev pub any_faulted : List Told → Bool
-any_faulted [] = false
-any_faulted (told ∷ later) = is_faulted told || any_faulted later
+-- the later of two, if there is one
+abbrev pub later_of : Option StoreFault → Option StoreFault → Option StoreFault
+later_of earlier None = earlier
+later_of earlier (Some fault) = Some fault
+
+-- the last one that refused a line
+abbrev pub last_fault : List Told → Option StoreFault
+last_fault [] = None
+last_fault (told ∷ later) = later_of (fault_of told) (last_fault later)

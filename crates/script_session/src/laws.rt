@@ -9,7 +9,8 @@ pub fn lines_tell_history()
     ensures { LinesTellHistory }
 {}
 
-/// A line that a fault refused is one where a count of the store rose; else the counts stay.
+/// The store counts the last fault that refused a line, which is the one that broke the session if one did; where none refused
+/// one the counts stay.
 pub fn lines_count_faults()
     ensures { LinesCountFaults }
 {}

@@ -4,6 +4,8 @@
 mod calls;
 mod laws;
 mod lines;
+mod session;
 
 pub use laws::{lines_count_faults, lines_tell_history};
-pub use lines::{Transcript, run_lines, sector_room};
+pub use lines::{LinesRun, run_lines, sector_room};
+pub use session::{ScriptRun, run_script};

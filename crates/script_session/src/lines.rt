@@ -1,11 +1,11 @@
 //! The lines of a script, one after the other, and their transcript.
 
-ghost use Rattle.std.specs.Prelude.{◌≡◌, ◌++◌, ◌||◌, Ok, length, map, IfOk, OnErr, OnOk, string_bytes};
+ghost use Rattle.std.specs.Prelude.{◌≡◌, ◌++◌, Ok, length, map, IfOk, OnOk, string_bytes};
 ghost use Rattle.guest_model.specs.declared.call.Reply.{Reply};
 ghost use Rattle.script.specs.Transcript.{outcome_of};
 ghost use Rattle.chain_core.specs.Sessions.{IsSound, seen};
-ghost use Rattle.script_session.specs.Answers.{HasRoomFor, HasRun, HasRunSome, reply_in, with_reply};
-ghost use Rattle.script_session.specs.Told.{call_of, is_faulted, line_text};
+ghost use Rattle.script_session.specs.Answers.{HasRoomFor, HasRun, reply_in, with_reply};
+ghost use Rattle.script_session.specs.Told.{call_of, fault_of, later_of, line_text};
 
 use crate::calls::{MOST_MOVED, SECTOR, make_call};
 use chain_core::Chain;
@@ -13,7 +13,7 @@ use guest_model::{ChainRefusal, Recorder};
 use script::{Answer, Form, Line, push_step};
 use std::alloc::{AllocError, Global};
 use std::convert::AsStr;
-use store_model::Store;
+use store_model::{Store, StoreFault};
 use vx_base::NoRoom;
 
 /// Bytes of as many sectors as one read or write may name.
@@ -21,11 +21,11 @@ const ROOM_LEN: usize = MOST_MOVED as usize * SECTOR;
 
 /// What running a script's lines gave.
 #[derive(Debug, Drop)]
-pub struct Transcript {
-    /// A line for each of the script's, in its order.
-    pub text: String,
-    /// Whether a fault of the store refused one of them.
-    pub is_faulted: bool,
+pub struct LinesRun {
+    /// A line for each of the script's, in its order; or memory ran out for it, or in a call, and no further line was run.
+    pub transcript: Result<String, NoRoom>,
+    /// The last fault of the store that refused a line.
+    pub fault: Option<StoreFault>,
 }
 
 /// Room for the sectors of a call, which is made once for all lines.
@@ -47,7 +47,7 @@ fn answer_of<'a>(form: Form, room: &'a [u8]) -> Answer<'a>
     }
 }
 
-// Adds a line of the transcript to the text.
+// Adds a line of the transcript to the text, unless memory ran out in the call.
 fn push_line<N: AsStr>(
     out: &mut String,
     names: &[N],
@@ -61,17 +61,23 @@ fn push_line<N: AsStr>(
 {
     match answer {
         Ok(place) => push_step(out, names, Some(place), form, answer_of(form, room)),
+        Err(ChainRefusal::NoRoom) => Err(NoRoom),
         Err(refusal) => push_step(out, names, None, form, Answer::Refused(refusal)),
     }
 }
 
-// Whether a fault of the store refused this call, or one before it.
-fn or_faulted(before: bool, answer: Result<u64, ChainRefusal>) -> bool
-    ensures { (reply : Reply) → result ≡ (before || is_faulted (with_reply reply answer)) }
+// The fault of the store that refused this call, or else the one before it.
+fn later_of(
+    earlier: Option<StoreFault>,
+    answer: Result<u64, ChainRefusal>,
+) -> Option<StoreFault>
+    ensures { (reply : Reply) → result ≡ later_of earlier (fault_of (with_reply reply answer)) }
 {
     match answer {
-        Err(ChainRefusal::Broken { .. } | ChainRefusal::ReadFault { .. }) => true,
-        _ => before,
+        Err(ChainRefusal::Broken { file, count } | ChainRefusal::ReadFault { file, count }) => {
+            Some(StoreFault { file, count })
+        }
+        _ => earlier,
     }
 }
 
@@ -84,31 +90,30 @@ pub fn run_lines<S: Store, R: Recorder, N: AsStr>(
     names: &[N],
     lines: &[Line],
     room: &mut [u8],
-) -> Result<Transcript, NoRoom>
+) -> LinesRun
     requires sound { IsSound (seen S.disk R.noted R.told chain.old) }
     requires room { length room.old ≡ 1048576 }
     ensures sound { IsSound (seen S.disk R.noted R.told chain.new) }
     ensures ran { let before = seen S.disk R.noted R.told chain.old in
         let now = seen S.disk R.noted R.told chain.new in
-        IfOk result (λ t. HasRun (map N.text names.now) lines.now before now (string_bytes t.text) t.is_faulted) }
-    ensures part { let before = seen S.disk R.noted R.told chain.old in
-        let now = seen S.disk R.noted R.told chain.new in
-        OnErr result (HasRunSome lines.now before now) }
+        HasRun (map N.text names.now) lines.now before now result }
 {
     let mut text = String::new(alloc);
-    let mut is_any_faulted = false;
+    let mut fault = None;
     let mut number = 0;
     for line in lines {
         number += 1;
         let answer = make_call(chain, number, line.form, room);
-        if let Err(ChainRefusal::NoRoom) = answer {
-            return Err(NoRoom);
+        fault = later_of(fault, answer);
+        if let Err(NoRoom) = push_line(&mut text, names, line.form, answer, room) {
+            return LinesRun {
+                transcript: Err(NoRoom),
+                fault,
+            };
         }
-        push_line(&mut text, names, line.form, answer, room)?;
-        is_any_faulted = or_faulted(is_any_faulted, answer);
     }
-    Ok(Transcript {
-        text,
-        is_faulted: is_any_faulted,
-    })
+    LinesRun {
+        transcript: Ok(text),
+        fault,
+    }
 }

@@ -1,5 +1,5 @@
 -- What a host is left with that lent the files of a chain, which were only read.
-use Rattle.std.proofs.Common.{◌≡◌, ◌≢◌, ◌⊎◌, ℕ, ◌+◌, ◌<◌, ◌≤◌, true, List, [], ◌∷◌, map, length, Option, Some, None, Result, Ok, Err, refl, sym, ap, subst, ◌∙◌, arith, inl}
+use Rattle.std.proofs.Common.{◌≡◌, ℕ, ◌+◌, ◌<◌, ◌≤◌, true, List, [], ◌∷◌, map, length, Option, Some, None, Result, Ok, Err, refl, sym, ap, subst, ◌∙◌, arith, inl}
 use Rattle.std.specs.Prelude.{IfOk, drop, option_map, take, unwrap_or}
 use Rattle.std.specs.List.{AllByRecursion}
 use Rattle.std.specs.Result.{IsErrAnd}
@@ -8,8 +8,8 @@ use Rattle.std.proofs.lemmas.Option.{same_Some}
 use Rattle.store_model.specs.Cause.{Rose}
 use Rattle.store_model.specs.Disk.{Disk, ReadFailed, WhereTold}
 use Rattle.store_model.specs.File.{seen}
-use Rattle.store_model.specs.Folder.{AreAway, HasFailed, Held, Hosted, IsKept, KeepsStore, Returned, RoseWhere, attached_trace, come_back, file_named, folder_at, fresh, given_back, has_name, seen_named, without}
-use Rattle.store_model.specs.Moments.{IsHealthy, Throughout}
+use Rattle.store_model.specs.Folder.{AreAway, HasFailed, Held, Hosted, IsKept, KeepsStore, RoseWhere, attached_trace, come_back, given_back, has_name, seen_named, without}
+use Rattle.store_model.specs.Moments.{IsHealthy}
 use Rattle.store_model.specs.Trace.{NamedBytes, Trace, at_moment, bytes_of, file_of, moment}
 use Rattle.store_model.specs.declared.fault.StoreFault.{StoreFault}
 use Rattle.store_model.proofs.Spans.{at_moment-now}
@@ -39,11 +39,11 @@ use Rattle.vhdx_app.proofs.Lent.{AreAt, all_back, anew_contents, anew_idle, are_
 -- ---- a store that tells what it was attached with
 
 -- what a read then gives of a file
-seen_at : (names : List (List ℕ)) (folder : List Held) (i : ℕ) → seen (file_of (attached_trace names folder) i) ≡ bytes_of (attached_trace names folder).attached i
+pub seen_at : (names : List (List ℕ)) (folder : List Held) (i : ℕ) → seen (file_of (attached_trace names folder) i) ≡ bytes_of (attached_trace names folder).attached i
 unfolding file_of
 seen_at names folder i = refl
 
-abbrev attached_as : List Held → List LinkedFile → List NamedBytes
+abbrev pub attached_as : List Held → List LinkedFile → List NamedBytes
 attached_as folder files = map (λ name. record { name = name; bytes = seen_named name folder }) (names_of files)
 
 seen_bytes : (folder : List Held) (name bytes : List ℕ) → contents folder name ≡ Some bytes → seen_named name folder ≡ bytes
@@ -53,7 +53,7 @@ module _ (names : List (List ℕ)) (folder : List Held) where
   abbrev trace : Trace
   trace = attached_trace names folder
 
-  bytes_there : (i : ℕ) (name bytes : List ℕ) → bytes_of trace.attached i ≡ seen_named name folder → contents folder name ≡ Some bytes → seen (file_of trace i) ≡ bytes
+  pub bytes_there : (i : ℕ) (name bytes : List ℕ) → bytes_of trace.attached i ≡ seen_named name folder → contents folder name ≡ Some bytes → seen (file_of trace i) ≡ bytes
   bytes_there i name bytes at had = seen_at names folder i ∙ at ∙ seen_bytes folder name bytes had
 
   pub opened_from : (i : ℕ) (files : List LinkedFile) → AreAt trace.attached i (attached_as folder files) → AreOpened (contents folder) files → AreOpenedFrom i files trace
@@ -142,16 +142,16 @@ told_kept lent disk (Err refusal) h = by_meaning (meaning_of_chain refusal) h
 
 module _ (files : List LinkedFile) (old mid : Hosted) (lent : Disk) (idle : WhereTold old.folder AllIdle) (once : NoneTwice (names_of files)) (opened : WhereTold old.folder (λ f. AreOpened (contents f) files))
     (lends : Lends (names_of files) old mid lent) where
-  abbrev trace_of : List Held → Trace
+  abbrev pub trace_of : List Held → Trace
   trace_of f = attached_trace (names_of files) f
 
-  lent_told : (f : List Held) → old.folder ≡ Some f → lent.told ≡ Some (trace_of f)
+  pub lent_told : (f : List Held) → old.folder ≡ Some f → lent.told ≡ Some (trace_of f)
   lent_told f told = ap (λ (d : Disk). d.told) lends.disk_is ∙ ap (option_map (attached_trace (names_of files))) told
 
-  mid_folder : (f : List Held) → old.folder ≡ Some f → mid.folder ≡ Some (without (names_of files) f)
+  pub mid_folder : (f : List Held) → old.folder ≡ Some f → mid.folder ≡ Some (without (names_of files) f)
   mid_folder f told = ap (λ (h : Hosted). h.folder) lends.host_is ∙ ap (option_map (without (names_of files))) told
 
-  told_before : (t : Trace) → lent.told ≡ Some t → (f : List Held) × (old.folder ≡ Some f) × (t ≡ trace_of f)
+  pub told_before : (t : Trace) → lent.told ≡ Some t → (f : List Held) × (old.folder ≡ Some f) × (t ≡ trace_of f)
   told_before t told = by_folder old.folder refl
     where
       by_folder : (folder : Option (List Held)) → old.folder ≡ folder → (f : List Held) × (old.folder ≡ Some f) × (t ≡ trace_of f)
@@ -166,11 +166,11 @@ module _ (files : List LinkedFile) (old mid : Hosted) (lent : Disk) (idle : Wher
       let b = told_before t told in
       subst (AreOpenedFrom 0 files) (sym b.2) (opened_from (names_of files) b.0 0 files (each_at (trace_of b.0).attached) (opened b.0 b.1))
 
-  names_told : (f : List Held) → names_in (trace_of f).attached ≡ names_of files
+  pub names_told : (f : List Held) → names_in (trace_of f).attached ≡ names_of files
   unfolding names_in
   names_told f = names_attached (names_of files) f
 
-  there_in : (f : List Held) → old.folder ≡ Some f → AllByRecursion (λ name. has_name name f ≡ true) (names_of files)
+  pub there_in : (f : List Held) → old.folder ≡ Some f → AllByRecursion (λ name. has_name name f ≡ true) (names_of files)
   there_in f told = opened_there f files (opened f told)
 
   module _ (disk : Disk) (kept : disk.told ≡ lent.told) where

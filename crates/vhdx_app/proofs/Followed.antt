@@ -1,5 +1,5 @@
 -- A leaf's name that was followed, and what its files then show.
-use Rattle.std.proofs.Common.{◌≡◌, ◌≢◌, ◌||◌, ℕ, Bool, true, false, zero, ◌+◌, ◌*◌, ◌^◌, ◌<◌, ◌≤◌, List, [], ◌∷◌, ◌++◌, length, take, drop, Option, Some, None, Result, Ok, Err, refl, sym, ap, subst, ◌∙◌, arith}
+use Rattle.std.proofs.Common.{◌≡◌, ◌||◌, ℕ, Bool, true, false, zero, ◌+◌, ◌*◌, ◌^◌, ◌<◌, ◌≤◌, List, [], ◌∷◌, ◌++◌, length, take, drop, Option, Some, None, Result, Ok, Err, refl, sym, ap, subst, ◌∙◌, arith}
 use Rattle.std.specs.Prelude.{All, option_map}
 use Rattle.std.specs.Result.{IsErrAnd}
 use Rattle.std.specs.List.{AllByRecursion}
@@ -10,13 +10,11 @@ use Rattle.std.proofs.lemmas.Slice.Eq.{bytes_eq-Decides}
 use Rattle.std.proofs.lemmas.Option.{same_Some}
 use Rattle.store_model.specs.Disk.{WhereTold}
 use Rattle.store_model.specs.Folder.{Held, Hosted}
-use Rattle.store_model.specs.Moments.{Throughout}
 use Rattle.store_model.proofs.Throughout.{throughout_join, throughout_weaken}
 use Rattle.vx_base.specs.declared.parts.Geometry.{Geometry}
 use Rattle.vx_base.specs.declared.parts.Parts.{Parts}
 use Rattle.guest_model.specs.Calls.{Disk, bytes_of}
-use Rattle.chain_model.specs.Files.{Files, HasParts, IsIn, IsLinked, OpensTo, at_rest}
-use Rattle.chain_model.specs.Layers.{flat}
+use Rattle.chain_model.specs.Files.{Files, IsIn, OpensTo, at_rest}
 use Rattle.chain_model.specs.Members.{Member, NoneTwice, Ties, disk_of, layers_of}
 use Rattle.chain_model.proofs.Layering.{length-flat}
 use Rattle.chain_model.proofs.Linking.{one_member}
@@ -24,27 +22,22 @@ use Rattle.chain_model.proofs.NewFiles.{opened_parts}
 use Rattle.file_open.specs.Causes.{IfCause, Meaning, refuses, host_failed, store_failed, no_memory, cause_in}
 use Rattle.file_open.specs.Opening.{Opens}
 use Rattle.file_open.specs.Opening as opening
-use Rattle.file_open.specs.Effects.{OpensAlike}
 use Rattle.file_open.proofs.Again.{opens_again}
 use Rattle.vhdx_format.specs.OpenedFiles.{OpensFile}
 use Rattle.vhdx_format.specs.SettledFiles.{StandsFor}
-use Rattle.link_rules.specs.Causes.{AnswersLinking}
-use Rattle.link_rules.specs.Causes as link
 use Rattle.link_rules.specs.Chains.{Links, OpensIn, ParentIs, ParentsAre, present, names_of, is_among}
 use Rattle.link_rules.specs.Chains as chains
-use Rattle.link_rules.specs.Effects.{HasReplayed, IsKept, IsServed, Leaves, LeavesBy, Replays, linked_names, replayed, untouched}
+use Rattle.link_rules.specs.Effects.{HasReplayed, IsKept, IsServed, LeavesBy, Replays, linked_names, replayed, untouched}
 use Rattle.link_rules.specs.Folders.{AllIdle, Contents, contents}
-use Rattle.link_rules.specs.Laws.{AreMembers, IsTheChain, at_rest_all}
+use Rattle.link_rules.specs.Laws.{AreMembers, at_rest_all}
 use Rattle.link_rules.specs.Lines.{BeginsWith}
 use Rattle.link_rules.specs.Touches.{AreSafe, IsOnWay, TouchesSafely}
 use Rattle.link_rules.specs.Touches as way
 use Rattle.link_rules.specs.declared.linked.Linked.{Linked}
 use Rattle.link_rules.specs.declared.linked.LinkedFile.{LinkedFile}
-use Rattle.link_rules.specs.declared.refusal.LinkRefusal.{LinkRefusal}
-use Rattle.link_rules.specs.declared.retired.Found.{Found}
-use Rattle.link_rules.proofs.Alike.{AlikeIn, members_alike}
+use Rattle.link_rules.proofs.Alike.{members_alike}
 use Rattle.link_rules.proofs.Chained.{links_are_chains}
-use Rattle.link_rules.proofs.Composing.{among_append, left_then, replayed_then, replays_keep, still_idle}
+use Rattle.link_rules.proofs.Composing.{among_append, left_then, replayed_then, replays_keep}
 use Rattle.link_rules.proofs.OneLinking.{one_linking}
 use Rattle.link_rules.proofs.Ways.{found_way}
 use Rattle.vhdx_app.specs.Causes.{AnswersBy, of_chain}
@@ -54,7 +47,6 @@ use Rattle.vhdx_app.specs.Dump.{Finds}
 use Rattle.vhdx_app.specs.Dump as dump
 use Rattle.shown_ids.specs.Shown.{shown}
 use Rattle.vhdx_format.proofs.FileLemmas.{stands_once}
-use Rattle.vhdx_app.specs.Folders.{files_of}
 use Rattle.vhdx_app.specs.Making.{ShowIds, more, none}
 use Rattle.vhdx_app.specs.Refusals.{Refusal, OfChain, OutOfRange}
 use Rattle.vhdx_app.proofs.Lent.{anew_safe}
@@ -146,7 +138,7 @@ has_disk files leaf linked geometry links has =
     record { disk = disk_of c.chain; opens = record { retired = c.retired; chain = c.chain; linked = c.linked; is = refl }; sectors = disk_sectors c.chain linked.files geometry c.members has }
 
 -- files of one name and place among these are one
-same_members : (files : Files) (a b : List Member) (linked : List LinkedFile) → AllByRecursion (IsIn files) a → AllByRecursion (IsIn files) b → AreMembers a linked → AreMembers b linked → a ≡ b
+pub same_members : (files : Files) (a b : List Member) (linked : List LinkedFile) → AllByRecursion (IsIn files) a → AllByRecursion (IsIn files) b → AreMembers a linked → AreMembers b linked → a ≡ b
 same_members files [] [] linked h k x y = refl
 same_members files [] (n ∷ b) [] h k x y = absurd y
 same_members files [] (n ∷ b) (f ∷ linked) h k x y = absurd x
@@ -156,7 +148,7 @@ same_members files (m ∷ a) (n ∷ b) [] h k x y = absurd x
 same_members files (m ∷ a) (n ∷ b) (f ∷ linked) h k x y =
     ap (λ z. z ∷ a) (one_member files m n h.0 k.0 (x.0.name ∙ sym y.0.name)) ∙ ap (λ zs. n ∷ zs) (same_members files a b linked h.1 k.1 x.1 y.1)
 
-last_in : (P : Member → Type 0) (a b : List Member) → AllByRecursion P (a ++ b) → AllByRecursion P b
+pub last_in : (P : Member → Type 0) (a b : List Member) → AllByRecursion P (a ++ b) → AllByRecursion P b
 last_in P [] b h = h
 last_in P (m ∷ a) b h = last_in P a b h.1
 

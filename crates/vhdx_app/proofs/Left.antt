@@ -22,7 +22,7 @@ use Rattle.vhdx_app.specs.Dump.{Finds}
 use Rattle.vhdx_app.specs.Folders.{IsReplayedIn, OnlyFollows}
 use Rattle.vhdx_app.specs.Info.{info_lines}
 use Rattle.vhdx_app.specs.Printed.{RefusesDump, RefusesLeaf, ShowsFiles, ShowsSectors, unlinked}
-use Rattle.vhdx_app.specs.Refusals.{Refusal, OfChain}
+use Rattle.vhdx_app.specs.Refusals.{Refusal}
 use Rattle.vhdx_app.specs.declared.status.Status.{Status}
 use Rattle.vhdx_app.specs.declared.status.Status.TheVariants.{Done, Refused, Fault}
 use Rattle.vhdx_app.proofs.Said.{CountsIn, UnlessStoreFailed, WhereRefused, idle_reported, replayed_reported}

@@ -1,31 +1,29 @@
 -- Sectors that are read through the layers of a chain's files.
-use Rattle.std.proofs.Common.{◌≡◌, ℕ, zero, suc, ◌+◌, ◌*◌, ◌/◌, ◌%◌, ◌^◌, ◌<◌, ◌≤◌, false, List, [], ◌∷◌, ◌++◌, take, drop, length, map, Option, Some, None, Result, Ok, Err, refl, sym, ap, subst, ◌∙◌, arith, add-zero}
+use Rattle.std.proofs.Common.{◌≡◌, ℕ, zero, suc, ◌+◌, ◌*◌, ◌/◌, ◌%◌, ◌<◌, ◌≤◌, List, [], ◌∷◌, ◌++◌, take, drop, length, Result, Ok, Err, refl, sym, ap, subst, ◌∙◌, arith, add-zero}
 use Rattle.std.specs.Int.{bit_at}
 use Rattle.std.specs.Prelude.{All, Contains, replicate, slice_index, unwrap_or}
-use Rattle.std.specs.List.{AllByRecursion, flat_map}
-use Rattle.std.proofs.lemmas.List.{append-nil, drop-drop, drop_more, length-drop, take_all, length-replicate, take-append-drop, take_more}
+use Rattle.std.specs.List.{AllByRecursion}
+use Rattle.std.proofs.lemmas.List.{append-nil, drop-drop, drop_more, length-drop, take_all, length-replicate, take-append-drop}
 use Rattle.std.proofs.lemmas.List.Elements.{All-contains}
 use Rattle.std.proofs.lemmas.Nat.Bits.{bit_at-zero}
 use Rattle.std.proofs.Math.Nat.{mul-le-mul_left}
 use Rattle.vx_base.specs.Fields.{bytes_at, zeros}
 use Rattle.vx_base.specs.declared.parts.Geometry.{Geometry}
-use Rattle.vx_base.specs.declared.parts.Parts.{Parts}
 use Rattle.vhdx_format.specs.SectorBitmaps.{bit_of}
 use Rattle.vhdx_format.proofs.MadeOpen.{zeros_within}
 use Rattle.store_model.specs.Disk.{Disk, ReadFailed, WhereTold}
 use Rattle.store_model.specs.declared.fault.StoreFault.{StoreFault}
 use Rattle.std.specs.Result.{IsErrAnd}
-use Rattle.store_model.specs.File.{seen}
-use Rattle.store_model.specs.Trace.{Trace, file_of}
+use Rattle.store_model.specs.Trace.{Trace}
 use Rattle.guest_model.specs.Calls.{bytes_of}
 use Rattle.guest_model.specs.Calls as guest
 use Rattle.guest_model.specs.History.{sector_at}
-use Rattle.chain_model.specs.Images.{Placed, members_of}
+use Rattle.chain_model.specs.Images.{members_of}
 use Rattle.chain_model.specs.Layers.{Layer, flat, through}
 use Rattle.chain_model.specs.Members.{disk_of, layers_of}
 use Rattle.chain_model.proofs.Layering.{length-flat, sector_at-flat}
 use Rattle.layer_session.specs.Calls.{AddsOwned}
-use Rattle.layer_session.specs.ReadOnly.{AreRead, AreReadable, CanRead, IsReadOf, IsReadableBy, SomeReadFailed, numbers_of}
+use Rattle.layer_session.specs.ReadOnly.{AreRead, AreReadable, CanRead, IsReadOf, numbers_of}
 use Rattle.layer_session.specs.declared.read_layer.ReadLayer.{ReadLayer}
 use Rattle.layer_session.proofs.Owned.{layers_are_added}
 use Rattle.link_rules.specs.Effects.{IsServed}

@@ -1,5 +1,5 @@
 -- What a run does, from what its commands do.
-use Rattle.std.proofs.Common.{◌≡◌, ◌≢◌, ◌⊎◌, ℕ, List, Option, Some, None, refl, inr, sym, subst, ◌∙◌}
+use Rattle.std.proofs.Common.{◌≡◌, ◌≢◌, ◌⊎◌, ℕ, List, Option, Some, None, refl, inl, inr, sym, subst, ◌∙◌}
 use Rattle.std.specs.Prelude.{MatchOption, codes}
 use Rattle.command_line.specs.Requests.{File, Wish, plain}
 use Rattle.command_line.specs.Requests as wish
@@ -24,6 +24,7 @@ use Rattle.vhdx_app.proofs.Home.{home_added, home_followed, home_still}
 use Rattle.vhdx_app.proofs.Left.{follows_none}
 use Rattle.vhdx_app.proofs.Made.{adds_none, looks_still, still_making}
 use Rattle.vhdx_app.proofs.Said.{asked, asked_none, no_memory_shown}
+use Rattle.vhdx_app.proofs.Stepped.{none_taken, unread_runs}
 
 module _ (words : List (List ℕ)) (told : Option Request) (h : MatchOption told (AsksNothing words) (λ r. Asks words (plain r))) where
   -- the words have one wish, and it is the one that was told
@@ -42,13 +43,17 @@ pub follows_first : (leaf : List ℕ) (before now : World) (status : Status) →
     → TouchesSafely (λ f. IsOnWay (contents f) leaf) before.host now.host → now.drawn ≡ before.drawn → now.left ≡ before.left → FollowsFirst leaf before now status
 follows_first leaf before now status followed replayed moments undrawn unread = record { followed = followed; replayed = replayed; moments = moments; undrawn = undrawn; unread = unread }
 
-module _ (before now : World) (status : Status) (idle : WhereTold before.host.folder AllIdle) where
+-- the source's count stays
+not_of_source : {A B C : Type 0} → A ⊎ C → A ⊎ (B ⊎ C)
+not_of_source h = elim h [ inl a ↦ inl a | inr c ↦ inr (inr c) ]
+
+module _ (before now : World) (status : Status) (idle : WhereTold before.host.folder AllIdle) (unread : now.source_faults ≡ before.source_faults) where
   pub followed_ends : (leaf : List ℕ) (is_text : Status → List ℕ → Type 0) → Ended is_text before.host.faults now.host.faults before.written now.written before.sink_faults now.sink_faults status → OnlyFollows leaf before.host.folder now.host.folder
       → (status ≢ Fault → WhereTold before.host.folder (λ folder. WhereTold now.host.folder AllIdle)) → Ends before now status
-  followed_ends leaf is_text ended followed stays_idle = record { rose = ended.rose; quiet = ended.quiet; home = home_followed leaf before.host.folder now.host.folder idle followed; idle = stays_idle }
+  followed_ends leaf is_text ended followed stays_idle = record { rose = λ fault. not_of_source (ended.rose fault); quiet = λ fault. ((ended.quiet fault).0, unread, (ended.quiet fault).1); home = home_followed leaf before.host.folder now.host.folder idle followed; idle = stays_idle }
 
   pub made_ends : (name : List ℕ) (file : File) → MakeEnded name file (outside before.host before.drawn) (outside now.host now.drawn) before.written now.written before.sink_faults now.sink_faults status → Ends before now status
-  made_ends name file ended = record { rose = ended.ended.rose; quiet = ended.ended.quiet; home = home_added name file before.host.folder now.host.folder idle ended.others; idle = ended.idle }
+  made_ends name file ended = record { rose = λ fault. not_of_source (ended.ended.rose fault); quiet = λ fault. ((ended.ended.quiet fault).0, unread, (ended.ended.quiet fault).1); home = home_added name file before.host.folder now.host.folder idle ended.others; idle = ended.idle }
 
 -- ---- where nothing is done but that a text is printed
 
@@ -60,21 +65,22 @@ sent_quiet : (meant : Status) (before after : Option (List ℕ)) (old new : ℕ)
 sent_quiet meant before after old new text status (whole is sent same) fault = same
 sent_quiet meant before after old new text status (cut is n sent rose) fault = absurd (fault is)
 
-module _ (host : Hosted) (drawn : Option (List (List ℕ))) (left sunk after : Option (List ℕ)) (old new : ℕ) (status : Status) (idle : WhereTold host.folder AllIdle) where
-  pub sent_ends : (meant : Status) (text : List ℕ) → (meant ≡ Fault → ⊥) → Sent sunk after old new meant text status → Ends (world host drawn left sunk old) (world host drawn left after new) status
+module _ (host : Hosted) (drawn : Option (List (List ℕ))) (left : Option (List ℕ)) (rises : ℕ) (sunk after : Option (List ℕ)) (old new : ℕ) (status : Status) (idle : WhereTold host.folder AllIdle) where
+  pub sent_ends : (meant : Status) (text : List ℕ) → (meant ≡ Fault → ⊥) → Sent sunk after old new meant text status → Ends (world host drawn left rises sunk old) (world host drawn left rises after new) status
   sent_ends meant text none sent = record {
-    rose = λ fault. inr (sent_rose meant sunk after old new text status none sent fault);
-    quiet = λ fault. (refl, sent_quiet meant sunk after old new text status sent fault);
+    rose = λ fault. inr (inr (sent_rose meant sunk after old new text status none sent fault));
+    quiet = λ fault. (refl, refl, sent_quiet meant sunk after old new text status sent fault);
     home = home_still host.folder host.folder idle refl;
     idle = λ fault f told. idle;
   }
 
-  pub no_memory_runs : Sent sunk after old new NoMemory (codes "no memory\n") status → (w : Wish) → Runs w (world host drawn left sunk old) (world host drawn left after new) status
+  pub no_memory_runs : Sent sunk after old new NoMemory (codes "no memory\n") status → (w : Wish) → Runs w (world host drawn left rises sunk old) (world host drawn left rises after new) status
   no_memory_runs sent (wish.dump leaf first count) = record { printed = record { meant = NoMemory; text = codes "no memory\n"; said = refl; sent = sent }; follows = follows_first leaf _ _ status (follows_none leaf host) (λ shown. absurd (no_memory_shown _ _ _ _ _ _ sent shown)) (none_safely (λ f. IsOnWay (contents f) leaf) host) refl refl }
   no_memory_runs sent (wish.info leaf) = record { printed = record { meant = NoMemory; text = codes "no memory\n"; said = refl; sent = sent }; follows = follows_first leaf _ _ status (follows_none leaf host) (λ shown. absurd (no_memory_shown _ _ _ _ _ _ sent shown)) (none_safely (λ f. IsOnWay (contents f) leaf) host) refl refl }
   no_memory_runs sent (wish.make name file) = record { printed = record { meant = NoMemory; text = codes "no memory\n"; said = refl; sent = sent }; kept = λ done fault. looks_still file host; others = adds_none name file host; moments = still_making name file host; unread = refl }
+  no_memory_runs sent (wish.steps leaf read_only) = unread_runs leaf read_only (world host drawn left rises sunk old) (world host drawn left rises after new) status idle refl refl NoMemory (codes "no memory\n") sent refl (none_taken left)
   no_memory_runs sent wish.help = record { printed = record { meant = NoMemory; text = codes "no memory\n"; said = refl; sent = sent }; stays = refl }
   no_memory_runs sent wish.version = record { printed = record { meant = NoMemory; text = codes "no memory\n"; said = refl; sent = sent }; stays = refl }
 
-pub usage_ends : (host : Hosted) (drawn : Option (List (List ℕ))) (left sunk : Option (List ℕ)) (old : ℕ) (status : Status) → WhereTold host.folder AllIdle → status ≡ Usage → Ends (world host drawn left sunk old) (world host drawn left sunk old) status
-usage_ends host drawn left sunk old status idle is = record { rose = λ fault. let e : Usage ≡ Fault = sym is ∙ fault in cc; quiet = λ fault. (refl, refl); home = home_still host.folder host.folder idle refl; idle = λ fault f told. idle }
+pub usage_ends : (host : Hosted) (drawn : Option (List (List ℕ))) (left : Option (List ℕ)) (rises : ℕ) (sunk : Option (List ℕ)) (old : ℕ) (status : Status) → WhereTold host.folder AllIdle → status ≡ Usage → Ends (world host drawn left rises sunk old) (world host drawn left rises sunk old) status
+usage_ends host drawn left rises sunk old status idle is = record { rose = λ fault. let e : Usage ≡ Fault = sym is ∙ fault in cc; quiet = λ fault. (refl, refl, refl); home = home_still host.folder host.folder idle refl; idle = λ fault f told. idle }

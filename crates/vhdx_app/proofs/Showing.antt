@@ -1,25 +1,21 @@
 -- The identifiers that the files of a chain show.
-use Rattle.std.proofs.Common.{◌≡◌, ℕ, zero, suc, ◌+◌, ◌<◌, ◌≤◌, ◌^◌, ◌||◌, Bool, true, false, not, List, [], ◌∷◌, ◌++◌, length, drop, get_or, Option, Some, None, Result, Ok, Err, refl, sym, ap, subst, ◌∙◌, arith, add-zero, append_assoc, zero-add}
-use Rattle.std.specs.Prelude.{IfOk, nat_lt}
+use Rattle.std.proofs.Common.{◌≡◌, ℕ, zero, suc, ◌+◌, ◌<◌, ◌≤◌, ◌^◌, ◌||◌, Bool, true, false, not, List, [], ◌∷◌, ◌++◌, length, drop, get_or, Result, Ok, refl, sym, ap, subst, ◌∙◌, arith, add-zero, append_assoc, zero-add}
+use Rattle.std.specs.Prelude.{nat_lt}
 use Rattle.std.specs.Option.{ok_or}
 use Rattle.std.proofs.lemmas.Bool.{leb-true}
 use Rattle.std.proofs.lemmas.List.{drop_more}
 use Rattle.vx_base.specs.Fields.{bytes_at}
 use Rattle.vx_base.specs.declared.parts.Header.{Header}
 use Rattle.vx_base.specs.declared.parts.Parts.{Parts}
-use Rattle.vhdx_format.specs.Fields.{is_whole_megabytes, is_within, megabyte}
+use Rattle.vhdx_format.specs.Fields.{megabyte}
 use Rattle.vhdx_format.specs.FileParts.{LieWithin, read_head}
 use Rattle.vhdx_format.specs.Headers.{current_header, has_bad_log_place, has_bad_version, read_headers}
 use Rattle.vhdx_format.specs.Identifiers.{has_signature, identified}
-use Rattle.vhdx_format.specs.Rules.{BadLogPlace, BadVersion, BrokenRule, NoHeader, NotVhdx, TooShort, ◌>>=◌, unless}
-use Rattle.vhdx_format.specs.SettledFiles as settling
-use Rattle.chain_model.specs.Files.{HasParts, at_rest, with_pages}
-use Rattle.chain_model.proofs.NewFiles.{parts_stand}
+use Rattle.vhdx_format.specs.Rules.{BadLogPlace, BadVersion, BrokenRule, NoHeader, NotVhdx, TooShort, unless}
+use Rattle.chain_model.specs.Files.{HasParts, at_rest}
 use Rattle.layer_session.proofs.Numbers.{are_numbers, of_bind}
-use Rattle.link_rules.specs.Folders.{Contents, contents}
 use Rattle.link_rules.specs.declared.linked.LinkedFile.{LinkedFile}
 use Rattle.shown_ids.specs.Shown.{shown}
-use Rattle.store_model.specs.Disk.{WhereTold}
 use Rattle.store_model.specs.File.{seen}
 use Rattle.store_model.specs.Trace.{Trace, file_of}
 use Rattle.vhdx_app.specs.Commands.{AreOpenedFrom, AreShort, IsOpenedAt, shown_from}

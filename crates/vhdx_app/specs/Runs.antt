@@ -1,6 +1,6 @@
 -- What a run does, by what the words ask for.
 use Rattle.std.specs.Prelude.{◌≡◌, ◌≢◌, ◌⊎◌, ℕ, List, codes}
-use Rattle.command_line.specs.Requests.{File as NewFile, Wish, dump, help, info, make, version}
+use Rattle.command_line.specs.Requests.{File as NewFile, Wish, dump, help, info, make, steps, version}
 use Rattle.command_line.specs.Words.{help_text, version_text}
 use Rattle.make_file.specs.Makes.{Outside, outside}
 use Rattle.store_model.specs.Cause.{Rose}
@@ -9,14 +9,11 @@ use Rattle.link_rules.specs.Folders.{AllIdle, contents}
 use Rattle.link_rules.specs.Touches.{IsOnWay, TouchesSafely}
 use Rattle.vhdx_app.specs.Folders.{AllHome, IsReplayedIn, OnlyFollows}
 use Rattle.vhdx_app.specs.Making.{AddsOnly, LooksAt, MakesSafely}
-use Rattle.vhdx_app.specs.Printed.{IsDumpText, IsInfoText, IsMakeText, IsOwnText, Printed, Sent}
+use Rattle.vhdx_app.specs.Printed.{IsDumpText, IsInfoText, IsMakeText, IsOwnText, Prints, Sent}
+use Rattle.vhdx_app.specs.Steps.{RunsSteps}
 use Rattle.vhdx_app.specs.Worlds.{World}
 use Rattle.vhdx_app.specs.declared.status.Status.{Status}
 use Rattle.vhdx_app.specs.declared.status.Status.TheVariants.{Done, Refused, Usage, Fault, NoMemory}
-
--- the text of the status that was meant went to the sink
-abbrev pub Prints : (Status → List ℕ → Type 0) → World → World → Status → Type 0
-Prints is_text before now status = Printed is_text before.written now.written before.sink_faults now.sink_faults status
 
 -- nothing was done but that
 abbrev pub OnlyPrints : World → World → Type 0
@@ -57,6 +54,7 @@ abbrev pub Runs : Wish → World → World → Status → Type 0
 Runs (dump leaf first count) before now status = RunsShowing leaf (IsDumpText before.host now.host leaf first count) before now status
 Runs (info leaf) before now status = RunsShowing leaf (IsInfoText before.host now.host leaf) before now status
 Runs (make name file) before now status = RunsMake name file before now status
+Runs (steps leaf read_only) before now status = RunsSteps leaf read_only before now status
 Runs help before now status = RunsText help_text before now status
 Runs version before now status = RunsText version_text before now status
 
@@ -66,10 +64,12 @@ pub data RunsNothing (before now : World) (status : Status) : Type 0 where
   no_memory : OnlyPrints before now → Sent before.written now.written before.sink_faults now.sink_faults NoMemory (codes "no memory\n") status
       → RunsNothing before now status
 
--- However it ends: a fault is answered only where a count rose, the host's or the sink's, and none is passed over. No file is
+-- However it ends: a fault is answered only where a count rose, the host's, the source's or the sink's, and none is passed over. No file is
 -- away, and nothing of any is unsynced but after a fault.
 pub record Ends (before now : World) (status : Status) : Type 0 where
-  pub rose : status ≡ Fault → Rose before.host.faults now.host.faults ⊎ Rose before.sink_faults now.sink_faults
-  pub quiet : status ≢ Fault → (now.host.faults ≡ before.host.faults) × (now.sink_faults ≡ before.sink_faults)
+  pub rose : status ≡ Fault
+      → Rose before.host.faults now.host.faults ⊎ (Rose before.source_faults now.source_faults ⊎ Rose before.sink_faults now.sink_faults)
+  pub quiet : status ≢ Fault
+      → (now.host.faults ≡ before.host.faults) × (now.source_faults ≡ before.source_faults) × (now.sink_faults ≡ before.sink_faults)
   pub home : WhereTold before.host.folder (λ folder. WhereTold now.host.folder AllHome)
   pub idle : status ≢ Fault → WhereTold before.host.folder (λ folder. WhereTold now.host.folder AllIdle)

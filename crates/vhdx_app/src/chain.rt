@@ -29,8 +29,8 @@ pub fn leaf_of(files: &[LinkedFile]) -> &LinkedFile
     }
 }
 
-// The names of files.
-fn names_of(alloc: Global, files: &[LinkedFile]) -> Result<Names, NoRoom>
+/// The names of files.
+pub fn names_of(alloc: Global, files: &[LinkedFile]) -> Result<Names, NoRoom>
     ensures { IfOk result (λ names. names ≡ chains.names_of files.now) }
 {
     let mut names = Names::new(alloc);

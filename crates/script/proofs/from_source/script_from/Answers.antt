@@ -1,4 +1,5 @@
 use Rattle.std.proofs.lemmas.Result.{err_from_is_err_and}
+use Rattle.script.proofs.ReadingLaws.{few_lines}
 use Rattle.script.proofs.Taken.{is_seen, left_found, left_refused, only_refused, read_refused, unread_left}
 use Rattle.script.proofs.from_source.script_from.Goals as goal
 
@@ -27,3 +28,6 @@ returns-in_err-script-clause-left g c =
 
 pub returns-clause-left : goal.returns-clause-left
 returns-clause-left g c = left_found c.args.kind _ _ _ (is_seen _ _ _ c.in_ok-text.ensures.taken c.in_ok-text.ensures.most c.in_ok-text.ensures.end)
+
+pub returns-clause-few : goal.returns-clause-few
+returns-clause-few g c = few_lines c.args.kind _ _ c.in_ok-script.ensures.found

@@ -1,4 +1,4 @@
-use Rattle.std.proofs.Common.{◌≡◌, take, map}
+use Rattle.std.proofs.Common.{◌≡◌, take}
 use Rattle.link_rules.specs.Chains as chains
 use Rattle.vhdx_app.proofs.chain.names_of.Given as goal
 

@@ -1,6 +1,5 @@
-use Rattle.std.proofs.Common.{arith, subst, sym}
-use Rattle.vhdx_app.specs.Causes.{meaning_of_dump}
-use Rattle.vhdx_app.specs.Commands.{IsRefusedRange, empty_range, out_of_range, too_long}
+use Rattle.std.proofs.Common.{arith}
+use Rattle.vhdx_app.specs.Commands.{empty_range, out_of_range, too_long}
 use Rattle.vhdx_app.proofs.dump.check_range.Goals as goal
 
 pub returns-then-count-eq0-clause-err : goal.returns-then-count-eq0-clause-err

@@ -1,9 +1,5 @@
-use Rattle.std.proofs.Common.{Some, Ok, Err, ap, subst, sym, ◌∙◌}
-use Rattle.store_model.specs.Folder.{attached_trace}
-use Rattle.chain_model.specs.Images.{members_of}
 use Rattle.link_rules.specs.Chains.{names_of}
 use Rattle.vhdx_app.specs.Causes.{meaning_of_chain}
-use Rattle.vhdx_app.specs.Commands.{HasRead, placed_from}
 use Rattle.vhdx_app.proofs.Back.{all_files, back_attaches, back_left, back_requires, has_read, lent_opened, told_kept, unlent_attaches, unlent_leaves}
 use Rattle.vhdx_app.proofs.dump.read.Goals as goal
 

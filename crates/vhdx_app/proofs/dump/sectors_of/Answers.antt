@@ -1,10 +1,10 @@
-use Rattle.std.proofs.Common.{◌≡◌, ◌*◌, List, length, sym, ap, subst, ◌∙◌, arith}
+use Rattle.std.proofs.Common.{◌*◌, length, sym, ap, subst, ◌∙◌, arith}
 use Rattle.store_model.specs.Disk.{Disk}
 use Rattle.vx_base.specs.Fields.{zeros}
 use Rattle.layer_session.specs.ReadOnly.{AreRead}
 use Rattle.vhdx_app.specs.Causes.{LeavesStore}
 use Rattle.vhdx_app.specs.Commands.{placed_from}
-use Rattle.vhdx_app.proofs.Reading.{are_read, failed_there, lent_whole, read_failed, readable_then, sectors_read, served_sector}
+use Rattle.vhdx_app.proofs.Reading.{are_read, lent_whole, read_failed, readable_then, sectors_read, served_sector}
 use Rattle.vhdx_app.proofs.dump.sectors_of.Goals as goal
 
 pub own_through-requires-clause-readable : goal.own_through-requires-clause-readable
@@ -18,13 +18,9 @@ own_through-requires-clause-out g c =
 
 pub returns-in_err-own_through-clause-store : goal.returns-in_err-own_through-clause-store
 returns-in_err-own_through-clause-store g c =
-    let same : g.S.Store.disk c.check_lengths.new.store ≡ g.S.Store.disk c.args.store.now = c.in_ok-check_lengths.ensures.store in
-    let readable =
-    readable_then (g.S.Store.disk c.args.store.now) (g.S.Store.disk c.check_lengths.new.store) c.args.geometry c.args.files.now _ _ c.in_ok-check_lengths.ensures.store c.as_mut_slice.ensures.value c.requires.all c.in_ok-layers.ensures
-    c.requires.opened c.in_ok-check_lengths.ensures.short c.requires.line c.requires.geometry in
-    subst (λ (d : Disk). LeavesStore d (g.S.Store.disk c.own_through.new.store) c.from_residual-in_err-own_through.result) same
+    subst (λ (d : Disk). LeavesStore d (g.S.Store.disk c.own_through.new.store) c.from_residual-in_err-own_through.result) c.in_ok-check_lengths.ensures.store
     (read_failed (g.S.Store.disk c.check_lengths.new.store) (g.S.Store.disk c.own_through.new.store) c.from_residual-in_err-own_through.result c.in_err-own_through.field-0.0 c.from_residual-in_err-own_through.ensures.1
-    (failed_there c.args.geometry (g.S.Store.disk c.check_lengths.new.store) c.as_mut_slice.result.now c.in_err-own_through.field-0.0.file readable c.in_err-own_through.ensures.whose) c.in_err-own_through.ensures.err)
+    c.in_err-own_through.ensures.err.0 c.in_err-own_through.ensures.err.1)
 
 pub returns-clause-bytes : goal.returns-clause-bytes
 returns-clause-bytes g c t told =

@@ -1,4 +1,4 @@
-use Rattle.std.proofs.Common.{Ok, Err, ap, subst, sym, ◌∙◌}
+use Rattle.std.proofs.Common.{subst, sym}
 use Rattle.link_rules.specs.Causes.{meaning_of}
 use Rattle.link_rules.specs.Chains.{names_of}
 use Rattle.link_rules.specs.Effects.{linked_names}

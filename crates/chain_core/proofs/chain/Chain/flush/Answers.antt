@@ -2,7 +2,7 @@ use Rattle.std.proofs.Common.{◌/◌, ap, false, length, not}
 use Rattle.guest_model.specs.declared.call.Call.TheVariants as calls
 use Rattle.layer_session.specs.declared.file.Layer.{Layer}
 use Rattle.chain_core.specs.States.{entry}
-use Rattle.chain_core.proofs.Concluding.{answered, refused_told, room_told}
+use Rattle.chain_core.proofs.Concluding.{answered, flush_room, refused_told}
 use Rattle.chain_core.proofs.Holding.{flush_durable}
 use Rattle.chain_core.proofs.chain.Chain.flush.Goals as goal
 
@@ -21,3 +21,6 @@ returns-clause-told g c =
 pub returns-clause-durable : goal.returns-clause-durable
 returns-clause-durable g c =
     flush_durable c.args.who c.args.self.now.layers c.conclude.new.self.layers (g.S.Store.disk c.args.self.now.store) (g.S.Store.disk c.conclude.new.self.store) c.conclude.result (returns-clause-told g c)
+
+pub returns-clause-room : goal.returns-clause-room
+returns-clause-room g c fit = flush_room (g.R.Recorder.noted c.accept.new.self.recorder) c.commit-done.result c.conclude.result c.conclude.ensures.answer c.commit-done.ensures.change

@@ -5,7 +5,7 @@ use Rattle.layer_session.specs.Begins.{in_session}
 use Rattle.chain_core.specs.declared.layers.Layers.{Layers}
 use Rattle.chain_core.specs.Starting.{StartsWith, session_ids}
 use Rattle.std.specs.Prelude.{◌∷◌}
-use Rattle.chain_core.proofs.Beginning.{begun_moments, begun_ready, begun_serving, rest_moments}
+use Rattle.chain_core.proofs.Beginning.{begun_moments, begun_ready, begun_serving, none_changed, others_stay, rest_moments}
 use Rattle.chain_core.proofs.layers.Layers.begin.Goals as goal
 
 pub returns-in_err-below-clause-moments : goal.returns-in_err-below-clause-moments
@@ -18,6 +18,17 @@ returns-in_err-session-clause-moments g c =
 pub returns-clause-moments : goal.returns-clause-moments
 returns-clause-moments g c =
     begun_moments c.args.leaf.now c.args.others.now c.of_session.result (g.S.Store.disk c.args.store.now) (g.S.Store.disk c.begin.new.store) c.requires.files c.begin.ensures.moments
+
+pub returns-in_err-below-clause-still : goal.returns-in_err-below-clause-still
+returns-in_err-below-clause-still g c = none_changed (g.S.Store.disk c.args.store.now).told _ refl
+
+pub returns-in_err-session-clause-still : goal.returns-in_err-session-clause-still
+returns-in_err-session-clause-still g c =
+    others_stay c.args.leaf.now.parts c.of_session.result (g.S.Store.disk c.args.store.now).told (g.S.Store.disk c.begin.new.store).told c.begin.ensures.moments
+
+pub returns-clause-still : goal.returns-clause-still
+returns-clause-still g c =
+    others_stay c.args.leaf.now.parts c.of_session.result (g.S.Store.disk c.args.store.now).told (g.S.Store.disk c.begin.new.store).told c.begin.ensures.moments
 
 pub returns-clause-serving : goal.returns-clause-serving
 returns-clause-serving g c =

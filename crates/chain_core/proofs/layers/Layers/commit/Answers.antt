@@ -2,8 +2,9 @@ use Rattle.std.proofs.Common.{◌≡◌, refl, sym, subst}
 use Rattle.std.specs.Prelude.{Result, Some}
 use Rattle.layer_session.specs.declared.file.LayerFault.{LayerFault}
 use Rattle.chain_core.specs.declared.layers.Layers.{Layers}
-use Rattle.chain_core.specs.Answering.{LayerTold, UnlessBroken}
+use Rattle.chain_core.specs.Answering.{FailsByChange, LayerTold, UnlessBroken}
 use Rattle.chain_core.specs.Sessions.{AreReady}
+use Rattle.chain_core.proofs.Concluding.{fails_by_change}
 use Rattle.chain_core.proofs.Leafs.{commit_told}
 use Rattle.chain_core.proofs.Standing.{commit_leaves, ready_committed}
 use Rattle.guest_model.specs.declared.call.Call.TheVariants as calls
@@ -23,3 +24,6 @@ returns-in-Some-clause-ready g c =
     (ready_committed c.args.self.now new c.in-Some.leaf c.commit.new.self (g.S.Store.disk c.args.store.now) (g.S.Store.disk c.commit.new.store) c.commit.result
     (record { geometry = refl; below = refl; was = c.in-Some.is; now = refl }) c.commit.ensures.parts c.requires.ready
     (commit_leaves c.in-Some.leaf (g.S.Store.disk c.args.store.now).told (g.S.Store.disk c.commit.new.store).told c.commit.ensures.moments) c.commit.ensures.counts c.commit.ensures.ready)
+
+pub returns-in-Some-clause-change : goal.returns-in-Some-clause-change
+returns-in-Some-clause-change g c = subst FailsByChange (sym c.changed.ensures) (fails_by_change c.commit.result)

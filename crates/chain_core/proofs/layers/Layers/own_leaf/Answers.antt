@@ -1,5 +1,7 @@
 use Rattle.std.proofs.Common.{refl}
+use Rattle.layer_session.proofs.ReadOnly.{some_failed}
 use Rattle.chain_core.proofs.Finding.{leaf_adds, leaf_reads}
+use Rattle.chain_core.proofs.Standing.{leaf_of}
 use Rattle.chain_core.proofs.layers.Layers.own_leaf.Goals as goal
 
 pub returns-in-Some-clause-reads : goal.returns-in-Some-clause-reads
@@ -10,3 +12,8 @@ returns-in-Some-clause-reads g c =
 pub returns-in-Some-clause-adds : goal.returns-in-Some-clause-adds
 returns-in-Some-clause-adds g c =
     leaf_adds c.args.self.now c.in-Some.leaf (g.S.Store.disk c.args.store.now) c.args.first c.args.count c.args.mask.now c.own.new.mask c.args.out.now c.own.new.out c.own.result c.in-Some.is c.requires.ready c.own.ensures.owned
+
+pub returns-in-Some-clause-err : goal.returns-in-Some-clause-err
+returns-in-Some-clause-err g c =
+    let leaf = leaf_of c.args.self.now c.in-Some.leaf (g.S.Store.disk c.args.store.now) c.in-Some.is c.requires.ready in
+    some_failed c.in-Some.leaf.tables.parts.file (g.S.Store.disk c.args.store.now) (g.S.Store.disk c.own.new.store) c.own.result leaf.ready.readable.there c.own.ensures.err

@@ -4,7 +4,7 @@ use Rattle.store_model.specs.Disk.{Disk}
 use Rattle.store_model.specs.Trace.{Trace}
 use Rattle.link_rules.specs.declared.linked.LinkedFile.{LinkedFile}
 use Rattle.chain_core.specs.Starting.{EachOpensAlike}
-use Rattle.chain_core.proofs.Beginning.{files_rest, of_disk, parted, session_answers}
+use Rattle.chain_core.proofs.Beginning.{files_rest, none_changed, of_disk, parted, session_answers}
 use Rattle.chain_core.proofs.Fresh.{fresh}
 use Rattle.chain_core.proofs.layers.Layers.start_session.Goals as goal
 
@@ -12,6 +12,9 @@ pub returns-in_err-new-clause-moments : goal.returns-in_err-new-clause-moments
 returns-in_err-new-clause-moments g c =
     subst (λ (o : Option Trace). EachOpensAlike c.args.files.now (g.S.Store.disk c.args.store.now).told o) (sym c.choose_ids.ensures.told)
     (files_rest c.args.files.now (g.S.Store.disk c.args.store.now) c.requires.files)
+
+pub returns-in_err-new-clause-still : goal.returns-in_err-new-clause-still
+returns-in_err-new-clause-still g c = none_changed (g.S.Store.disk c.args.store.now).told _ c.choose_ids.ensures.told
 
 pub begin-requires-clause-fresh : goal.begin-requires-clause-fresh
 begin-requires-clause-fresh g c t told =

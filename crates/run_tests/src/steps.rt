@@ -1,0 +1,273 @@
+//! Scripts over files in memory: what they are told, what they leave in the files, and what a crash or a failing call leaves.
+
+ghost use Rattle.std.specs.Prelude.{IfOk};
+ghost use Rattle.link_rules.specs.Folders.{AllIdle};
+ghost use Rattle.mem_store.specs.HostTold.{hosted_by};
+ghost use Rattle.store_model.specs.Disk.{WhereTold};
+
+use crate::common::{
+    Case, PLAIN, bytes_of, each_ends, empty_host, host_after, host_with, ids_of, line_of, prepare,
+    run_line, run_script,
+};
+use mem_store::{Crash, MemHost, MemSink, Pick};
+use std::alloc::Global;
+use std::sync::Wait;
+use std::test::Fail;
+use std::thread::Threads;
+use vhdx_app::Status;
+
+const BASE: &str = "make dynamic b.vhdx --sectors 2097152";
+
+const SMALL_BLOCKS: &str = "make dynamic d.vhdx --sectors 2097152 --block 1";
+
+const CHILD: &str = "make child c.vhdx --parent b.vhdx";
+
+static TOLD: [Case; 9] = [
+    Case {
+        before: &[BASE],
+        line: "steps b.vhdx",
+        script: "read 2095104 2048\nread 0 2049\nread 2097152 1\nread 0 0\n",
+        text: "1 read 2095104 2048 = 1048576*00\n- read 0 2049 = refused 33 TooLong count 2049 limit 2048\n- read 2097152 1 = refused 32 OutOfRange first 2097152 count 1 sectors 2097152\n- read 0 0 = refused 31 EmptyRange\n",
+        ..PLAIN
+    },
+    Case {
+        before: &[BASE],
+        line: "steps b.vhdx",
+        ..PLAIN
+    },
+    // The script is read before a file is looked for.
+    Case {
+        line: "steps b.vhdx",
+        script: "flush\nwrite 0 1 g1\nread 0 1\n",
+        status: Status::Usage,
+        text: "line 2\n",
+        ..PLAIN
+    },
+    Case {
+        line: "steps b.vhdx",
+        script: "flush\n",
+        status: Status::Refused,
+        text: "refused 21 FileMissing b.vhdx\n",
+        ..PLAIN
+    },
+    Case {
+        before: &[SMALL_BLOCKS],
+        line: "steps d.vhdx --read-only",
+        script: "read 0 1\nwrite 0 1 aa\nflush\n",
+        text: "1 read 0 1 = 512*00\n- write 0 1 aa = refused 34 ReadOnly\n- flush = refused 34 ReadOnly\n",
+        ..PLAIN
+    },
+    Case {
+        before: &[BASE, CHILD],
+        line: "steps c.vhdx",
+        script: "write 4095 2 aa\nread 4094 4\n",
+        text: "1 write 4095 2 aa = done\n2 read 4094 4 = 512*00 1024*aa 512*00\n",
+        ..PLAIN
+    },
+    Case {
+        before: &[BASE],
+        line: "steps b.vhdx",
+        script: "write 0 2049 aa\ntrim 0 524289\ntrim 4096 2048\nflush\n",
+        text: "- write 0 2049 aa = refused 33 TooLong count 2049 limit 2048\n- trim 0 524289 = refused 33 TooLong count 524289 limit 524288\n1 trim 4096 2048 = done\n2 flush = done\n",
+        ..PLAIN
+    },
+    // Of the base's identifiers two are drawn again for the session.
+    Case {
+        before: &[BASE],
+        drawn: &[[1; 16], [2; 16], [3; 16], [1; 16]],
+        line: "steps b.vhdx",
+        script: "flush\n",
+        status: Status::Refused,
+        text: "refused 44 IdUnfit {01010101-0101-0101-0101-010101010101}\n",
+        ..PLAIN
+    },
+    Case {
+        before: &[BASE],
+        drawn: &[[1; 16], [2; 16], [3; 16], [0; 16]],
+        line: "steps b.vhdx",
+        status: Status::Refused,
+        text: "refused 44 IdUnfit {00000000-0000-0000-0000-000000000000}\n",
+        ..PLAIN
+    },
+];
+
+#[test]
+fn what_scripts_are_told(rt: HostRuntime) -> Result<(), Fail> {
+    each_ends(&rt, rt.alloc(), &TOLD)
+}
+
+const NO_FLUSH: &str = "write 0 1 aa\ntrim 0 2048\nwrite 2047 1 bb\nread 2046 2\n";
+
+const WITH_FLUSH: &str = "write 0 1 aa\ntrim 0 2048\nflush\nwrite 2047 1 bb\nread 2046 2\n";
+
+// A block that was trimmed leaves its place, which is given again once that is committed.
+#[test]
+fn places_of_blocks(rt: HostRuntime) -> Result<(), Fail> {
+    let rows = [
+        (
+            NO_FLUSH,
+            "1 write 0 1 aa = done\n2 trim 0 2048 = done\n3 write 2047 1 bb = done\n4 read 2046 2 = 512*00 512*bb\n",
+            0x50,
+            6_291_456,
+        ),
+        (
+            WITH_FLUSH,
+            "1 write 0 1 aa = done\n2 trim 0 2048 = done\n3 flush = done\n4 write 2047 1 bb = done\n5 read 2046 2 = 512*00 512*bb\n",
+            0x40,
+            5_242_880,
+        ),
+    ];
+    for (script, text, place, len) in rows {
+        let case = Case {
+            before: &[SMALL_BLOCKS],
+            line: "steps d.vhdx",
+            script,
+            text,
+            ..PLAIN
+        };
+        let host = host_after(&rt, rt.alloc(), &case)?.ok_or("not told so")?;
+        let file = bytes_of(&host, "d.vhdx").ok_or("no file")?;
+        assert_eq!(rt; file.len(), len);
+        assert_eq!(rt; file[3_145_728..3_145_736], [6, 0, place, 0, 0, 0, 0, 0]);
+    }
+    Ok(())
+}
+
+// A child's block becomes partly present, with its bitmap block.
+#[test]
+fn blocks_of_a_child(rt: HostRuntime) -> Result<(), Fail> {
+    let host = host_after(&rt, rt.alloc(), &TOLD[5])?.ok_or("not told so")?;
+    let file = bytes_of(&host, "c.vhdx").ok_or("no file")?;
+    assert_eq!(rt; file.len(), 9_437_184);
+    let entries: [(usize, [u8; 8]); 3] = [
+        (3_145_728, [7, 0, 0x50, 0, 0, 0, 0, 0]),
+        (3_145_736, [7, 0, 0x70, 0, 0, 0, 0, 0]),
+        (3_162_112, [6, 0, 0x40, 0, 0, 0, 0, 0]),
+    ];
+    for (at, entry) in entries {
+        assert_eq!(rt; file[at..at + 8], entry, "{at}");
+    }
+    Ok(())
+}
+
+// The first bytes of sectors 0 and 1 of the disk of d.vhdx, as a dump has them.
+fn first_sectors<R: Threads + Wait>(
+    rt: &R,
+    alloc: Global,
+    host: &mut MemHost,
+) -> Result<[u8; 2], Fail>
+    requires { WhereTold (hosted_by host.old).folder AllIdle }
+{
+    let mut ids = ids_of(alloc, &[])?;
+    let (status, out) = run_line(rt, alloc, "dump d.vhdx 0 2", host, &mut ids)?;
+    if status != Status::Done {
+        return Err(Fail::from("not dumped"));
+    }
+    for (zero, one, shown) in [
+        ("00", "00", [0, 0]),
+        ("aa", "00", [0xAA, 0]),
+        ("aa", "bb", [0xAA, 0xBB]),
+        ("00", "bb", [0, 0xBB]),
+    ] {
+        let mut text = line_of(alloc, "0", zero)?;
+        let second = line_of(alloc, "1", one)?;
+        text.push_str(second.as_str())?;
+        if out.bytes.as_slice() == text.as_bytes() {
+            return Ok(shown);
+        }
+    }
+    Err(Fail::from("other bytes"))
+}
+
+const FLUSHED: &str = "write 0 1 aa\nflush\nwrite 1 1 bb\n";
+
+// What a crash at this moment of the session leaves of the disk; None behind its end.
+fn crashed<R: Threads + Wait>(
+    rt: &R,
+    alloc: Global,
+    moment: u64,
+    pick: Pick,
+) -> Result<Option<[u8; 2]>, Fail> {
+    let mut host = empty_host(alloc)?;
+    let mut ids = ids_of(alloc, &[])?;
+    prepare(rt, alloc, &[SMALL_BLOCKS], &mut host, &mut ids)?;
+    // The opening's store comes back first.
+    host.crash = Some(Crash {
+        store: host.returned + 1,
+        moment,
+        pick,
+    });
+    let (status, _out) = run_script(rt, alloc, "steps d.vhdx", FLUSHED, &mut host, &mut ids)?;
+    if status != Status::Done {
+        return Err(Fail::from("not done"));
+    }
+    let Some(left) = host.take_crashed()? else {
+        return Ok(None);
+    };
+    let bytes = bytes_of(&left, "d.vhdx").ok_or("no file")?;
+    let mut again = host_with(alloc, "d.vhdx", bytes)?;
+    Ok(Some(first_sectors(rt, alloc, &mut again)?))
+}
+
+#[test]
+fn crashes_of_a_session(rt: HostRuntime) -> Result<(), Fail> {
+    for pick in [Pick::Nothing, Pick::Everything, Pick::EverySecond] {
+        let mut shown = [0, 0];
+        let mut moment = 0;
+        while let Some(now) = crashed(&rt, rt.alloc(), moment, pick)? {
+            // What was flushed stays.
+            assert!(rt; now[0] >= shown[0], "{moment} {pick:?}");
+            shown = now;
+            moment += 1;
+        }
+        assert!(rt; moment > 10);
+        assert_eq!(rt; shown, [0xAA, 0xBB]);
+    }
+    Ok(())
+}
+
+const TO_BREAK: &str = "write 0 1 aa\nflush\nread 0 1\n";
+
+const BROKEN: &str =
+    "1 write 0 1 aa = done\n- flush = refused 35 Broken d.vhdx count 1\n- read 0 1 = refused 35 Broken d.vhdx count 1\n";
+
+// A host after a script over d.vhdx in which this call of a store fails, and what was printed.
+fn failed<R: Threads + Wait>(
+    rt: &R,
+    alloc: Global,
+    call: u64,
+) -> Result<(MemHost, Status, MemSink), Fail> {
+    let mut host = empty_host(alloc)?;
+    let mut ids = ids_of(alloc, &[])?;
+    prepare(rt, alloc, &[SMALL_BLOCKS], &mut host, &mut ids)?;
+    host.failing_in_store = [call].to_vec(alloc)?;
+    let (status, out) = run_script(rt, alloc, "steps d.vhdx", TO_BREAK, &mut host, &mut ids)?;
+    Ok((host, status, out))
+}
+
+#[test]
+fn failing_calls(rt: HostRuntime) -> Result<(), Fail> {
+    let alloc = rt.alloc();
+    let mut broken = 0;
+    let mut call = 1;
+    loop {
+        let (host, status, out) = failed(&rt, alloc, call)?;
+        if status == Status::Done {
+            break;
+        }
+        assert_eq!(rt; status, Status::Fault, "{call}");
+        if out.bytes.as_slice() == BROKEN.as_bytes() {
+            broken += 1;
+        }
+        // The file opens, and holds the sector or not.
+        let bytes = bytes_of(&host, "d.vhdx").ok_or("no file")?;
+        let mut again = host_with(alloc, "d.vhdx", bytes)?;
+        let shown = first_sectors(&rt, alloc, &mut again)?;
+        assert_eq!(rt; shown[1], 0, "{call}");
+        call += 1;
+    }
+    assert!(rt; call > 20);
+    // Where a write or a sync of the flush fails it breaks the session, for all calls behind it.
+    assert!(rt; broken > 2);
+    Ok(())
+}

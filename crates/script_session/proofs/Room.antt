@@ -1,0 +1,79 @@
+-- A call that is refused for want of room, in a session.
+use Rattle.std.proofs.Common.{◌≡◌, ◌<◌, ◌≤◌, ◌+◌, ◌/◌, ◌^◌, ◌==◌, ◌||◌, ℕ, Bool, true, false, length, Option, Some, None, Result, Ok, Err, refl, sym, ap, subst, ◌∙◌, arith}
+use Rattle.std.specs.Prelude.{IfSome, if◌then◌else◌, is_some, nat_lt, not}
+use Rattle.std.proofs.lemmas.Bool.{ltb-false}
+use Rattle.vhdx_format.specs.Layers.{Shape}
+use Rattle.store_model.specs.Trace.{Trace}
+use Rattle.guest_model.specs.declared.call.Call.{Call}
+use Rattle.guest_model.specs.declared.call.Call.TheVariants as calls
+use Rattle.guest_model.specs.declared.refusal.ChainRefusal.{ChainRefusal}
+use Rattle.guest_model.specs.declared.refusal.ChainRefusal.TheVariants.{EmptyRange, FileFull, OutOfRange, ReadOnly, TooLong}
+use Rattle.guest_model.specs.Ranges.{range_refusal}
+use Rattle.chain_model.specs.Members.{Ties}
+use Rattle.layer_session.specs.declared.file.Layer.{Layer}
+use Rattle.layer_session.specs.Keeping.{Serves}
+use Rattle.layer_session.specs.Steps.{is_full}
+use Rattle.chain_core.specs.Answering.{HasRoom}
+use Rattle.chain_core.specs.Refusing.{barred, is_read, or_else, out_of, range_of, refused, unfit}
+use Rattle.chain_core.specs.Sessions.{Session}
+use Rattle.chain_core.specs.States.{AreHeld, IsServing, State, sector_of}
+use Rattle.script_session.proofs.Full.{full_is_far}
+
+-- ---- what isn't refused before it reaches the files
+
+-- a change is one of a session of the leaf
+no_change : (first : Option ChainRefusal) (range : Result (Unit {0}) ChainRefusal) → or_else first (out_of range (Some ReadOnly)) ≡ None → ⊥
+no_change None (Ok done) h = cc
+no_change None (Err e) h = cc
+no_change (Some e) range h = cc
+
+pub changes_none : (s : Session) (call : Call) → is_some s.layers.leaf ≡ false → is_read call ≡ false → refused call s ≡ None → ⊥
+changes_none s call read_only changes fit =
+    let bars : barred call (is_some s.layers.leaf) ≡ Some ReadOnly = ap (λ b. if is_read call || b then None else Some ReadOnly) read_only ∙ ap (λ b. if b || false then None else Some ReadOnly) changes in
+    no_change (unfit s.events s.broken) (range_of s.layers.geometry call) (sym (ap (λ o. or_else (unfit s.events s.broken) (out_of (range_of s.layers.geometry call) o)) bars) ∙ fit)
+
+-- its range is one of the disk
+in_range : (first later : Option ChainRefusal) (range : Result (Unit {0}) ChainRefusal) → or_else first (out_of range later) ≡ None → range ≡ Ok tt
+in_range None later (Ok done) h = refl
+in_range None later (Err e) h = cc
+in_range (Some e) later range h = cc
+
+few_in_range : (first count limit sectors : ℕ) → range_refusal first count limit sectors ≡ Ok tt → count ≤ limit
+few_in_range first count limit sectors h = go (count == 0) (nat_lt limit count) refl h
+  where
+    go : (a b : Bool) → nat_lt limit count ≡ b → ◌≡◌ {A = Result (Unit {0}) ChainRefusal} (if a then Err EmptyRange else if b then Err (TooLong count limit) else if nat_lt sectors (first + count) then Err (OutOfRange first count sectors) else Ok tt) (Ok tt) → count ≤ limit
+    go true b e h = cc
+    go false true e h = cc
+    go false false e h = ltb-false limit count e
+
+-- ---- want of room
+
+full_leaf : (o : Option Layer) (v : State) (s : Session) (trace : Trace) (trims : Layer → Bool) (first count next : ℕ) → s.layers.leaf ≡ o → is_some s.layers.leaf ≡ true → IsServing s.layers v trace → sector_of v ≡ 512 → s.disk.told ≡ Some trace
+    → count ≤ 524288 → IfSome s.layers.leaf (λ leaf. is_full (trims leaf) first count next leaf s.disk) → 2 ^ 43 < next + 1024
+full_leaf None v s trace trims first count next is some serving sector told few full = absurd (let never : false ≡ true = sym (ap is_some is) ∙ some in cc)
+full_leaf (Some leaf) v s trace trims first count next is some serving sector told few full =
+    let serves : Serves leaf trace v.top = (subst (λ o. AreHeld o s.layers.below.items trace v.top v.others) is serving.held).0 in
+    let size : leaf.tables.parts.sector ≡ 512 = ap (λ (p : Shape). p.sector) serves.as_held.shape ∙ sym (ap (λ (t : Ties). t.geometry.sector) serves.ties) ∙ sector in
+    full_is_far (trims leaf) first count next leaf s.disk trace serves.as_held.sizes size few told (subst (λ o. IfSome o (λ leaf. is_full (trims leaf) first count next leaf s.disk)) is full)
+
+pub call_is_far : (call : Call) (next : ℕ) (v : State) (s : Session) (trace : Trace) → IsServing s.layers v trace → sector_of v ≡ 512 → s.disk.told ≡ Some trace → is_read call ≡ false → refused call s ≡ None → HasRoom call s (Err (FileFull next))
+    → 2 ^ 43 < next + 1024
+call_is_far call next v s trace serving sector told changes fit room = go call changes fit room
+  where
+    some : (call : Call) → is_read call ≡ false → refused call s ≡ None → is_some s.layers.leaf ≡ true
+    some call changes fit = by_leaf (is_some s.layers.leaf) refl
+      where
+        by_leaf : (b : Bool) → is_some s.layers.leaf ≡ b → is_some s.layers.leaf ≡ true
+        by_leaf true e = e
+        by_leaf false e = absurd (changes_none s call e changes fit)
+
+    go : (call : Call) → is_read call ≡ false → refused call s ≡ None → HasRoom call s (Err (FileFull next)) → 2 ^ 43 < next + 1024
+    go (calls.Read first count) changes fit room = absurd (let never : true ≡ false = changes in cc)
+    go (calls.Write first bytes) changes fit room =
+        let z = s.layers.geometry.sector in
+        let few = few_in_range first (length bytes / z) 2048 s.layers.geometry.sectors (in_range (unfit s.events s.broken) _ (range_of s.layers.geometry (calls.Write first bytes)) fit) in
+        full_leaf s.layers.leaf v s trace (λ leaf. false) first (length bytes / z) next refl (some (calls.Write first bytes) changes fit) serving sector told (omega (arith, few)) (room fit)
+    go (calls.Trim first count) changes fit room =
+        let few = few_in_range first count 524288 s.layers.geometry.sectors (in_range (unfit s.events s.broken) _ (range_of s.layers.geometry (calls.Trim first count)) fit) in
+        full_leaf s.layers.leaf v s trace (λ (leaf : Layer). not leaf.leave) first count next refl (some (calls.Trim first count) changes fit) serving sector told few (room fit)
+    go calls.Flush changes fit room = absurd (room fit)

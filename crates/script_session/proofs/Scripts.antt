@@ -1,0 +1,233 @@
+-- A script's session, from its start to its end.
+use Rattle.std.proofs.Common.{◌≡◌, ◌≢◌, ◌<◌, ◌≤◌, ◌+◌, ◌^◌, ℕ, Bool, true, false, List, [], ◌∷◌, length, take, Option, Some, None, Result, Ok, Err, refl, sym, ap, ap₂, subst, ◌∙◌, arith}
+use Rattle.std.specs.Prelude.{IfOk, IfSome, OnOk, is_some}
+use Rattle.std.proofs.lemmas.List.{length-take}
+use Rattle.std.proofs.lemmas.Option.{same_Some}
+use Rattle.std.proofs.lemmas.Result.{on_ok_weaker}
+use Rattle.vx_base.specs.declared.parts.Geometry.{Geometry}
+use Rattle.vx_base.specs.declared.parts.Parts.{Parts}
+use Rattle.store_model.specs.declared.fault.StoreFault.{StoreFault}
+use Rattle.store_model.specs.Disk.{Disk, WhereBothTold}
+use Rattle.store_model.specs.File.{is_synced}
+use Rattle.store_model.specs.Trace.{Trace, file_of}
+use Rattle.guest_model.specs.Calls.{Disk as GuestDisk, is_named}
+use Rattle.guest_model.specs.History.{History, replay}
+use Rattle.chain_model.specs.Moments.{EachOpens, EachOpensToPrefix}
+use Rattle.link_rules.specs.declared.linked.LinkedFile.{LinkedFile}
+use Rattle.layer_session.specs.declared.file.Layer.{Layer}
+use Rattle.chain_core.specs.Answering.{HasClosed, HasEnded}
+use Rattle.chain_core.specs.Sessions.{Session}
+use Rattle.chain_core.specs.Starting.{CanStart, HasStarted, IsOfDisk, StartsWith, opening_disk, started, under}
+use Rattle.chain_core.specs.States.{IsServing, State, disk_now, sector_of}
+use Rattle.chain_core.specs.declared.starting.Mode.{Mode}
+use Rattle.chain_core.specs.declared.starting.Mode.TheVariants.{Guests, ReadOnly}
+use Rattle.script.specs.declared.form.Line.{Line}
+use Rattle.script_session.specs.Answers.{AnswersLines}
+use Rattle.script_session.specs.Faults.{Counts}
+use Rattle.script_session.specs.Histories.{Break, Drive, IsLater, IsOver, Stands, TellsHistory, disk_after, is_broken, serves}
+use Rattle.script_session.specs.Running.{DrawsFor, HasHistory, HasRunScript, HasRunToEnd, HaveHistory, IsAtRest, IsEnded, can_change, drive_of, open_by}
+use Rattle.script_session.specs.Told.{Told, sector_size}
+use Rattle.script_session.specs.declared.session.ScriptRun.{ScriptRun}
+use Rattle.script_session.proofs.Content.{lines_stay, lines_untold}
+use Rattle.script_session.proofs.Counting.{lines_counted, same_told, told_both}
+use Rattle.script_session.proofs.Ending.{end_counted, end_untold, last_counted, quiet_end}
+use Rattle.script_session.proofs.Telling.{both_told, lines_told}
+
+-- ---- the start
+
+-- How a session of a chain with this leaf started.
+record HasBegunAs (mode : Mode) (leaf : LinkedFile) (others : List LinkedFile) (before : Session) (old : Disk) (drawn now : Option (List (List ℕ))) : Type 0 where
+  in_it : Parts → Parts
+  serving : StartsWith in_it (leaf ∷ others) before.layers old.told before.disk.told
+  session : is_some before.layers.leaf ≡ can_change mode
+  draws : DrawsFor mode (leaf ∷ others) old drawn now
+  counts : before.disk ≡ record old { told = before.disk.told }
+  same : can_change mode ≡ false → before.disk ≡ old
+
+begun_as : (mode : Mode) (leaf : LinkedFile) (others : List LinkedFile) (before : Session) (old : Disk) (drawn now : Option (List (List ℕ))) → HasStarted mode (leaf ∷ others) before.layers old before.disk drawn now
+    → HasBegunAs mode leaf others before old drawn now
+begun_as Guests leaf others before old drawn now h = record {
+  in_it = under h.1.ids;
+  serving = h.1.serving;
+  session = h.1.session;
+  draws = (h.1.ids, h.1.fit);
+  counts = h.1.counts;
+  same = λ e. let bad : true ≡ false = e in absurd (cc);
+}
+begun_as ReadOnly leaf others before old drawn now h = record {
+  in_it = λ parts. parts;
+  serving = h.serving;
+  session = h.session;
+  draws = h.undrawn;
+  counts = same_told old before.disk h.same;
+  same = λ e. h.same;
+}
+
+-- ---- the same in other words
+
+past_as : (z z' : ℕ) (o o' : GuestDisk) (leaf leaf' : List ℕ) (began began' : Trace) (h : History) (b : ℕ → ℕ → Bool) (now : Trace) → z ≡ z' → o ≡ o' → leaf ≡ leaf' → began ≡ began'
+    → EachOpensToPrefix z o h (b z) leaf began now → EachOpensToPrefix z' o' h (b z') leaf' began' now
+past_as z z' o o' leaf leaf' began began' h b now ez eo el et past =
+    subst (λ n. EachOpensToPrefix n o' h (b n) leaf' began' now) ez
+    (subst (λ d. EachOpensToPrefix z d h (b z) leaf' began' now) eo (subst (λ l. EachOpensToPrefix z o h (b z) l began' now) el (subst (λ t. EachOpensToPrefix z o h (b z) leaf t now) et past)))
+
+still_as : (n n' : ℕ) (began began' now : Trace) → n ≡ n' → began ≡ began' → ((other : ℕ) → other ≢ n → file_of now other ≡ file_of began other) → (other : ℕ) → other ≢ n' → file_of now other ≡ file_of began' other
+still_as n n' began began' now en et still other ne = still other (λ e. ne (e ∙ en)) ∙ ap (λ t. file_of t other) et
+
+no_leaf : (o : Option Layer) → is_some o ≡ false → o ≡ None
+no_leaf None e = refl
+no_leaf (Some leaf) e = cc
+
+ended_of : (session : Bool) (v : State) (trace now : Trace) (closed : Result (Unit {0}) StoreFault) → HasClosed session v trace now closed → HasEnded v trace now
+ended_of session v trace now (Ok done) h = h.ended
+ended_of session v trace now (Err fault) h = h
+
+-- ---- the history
+
+module _ (mode : Mode) (leaf : LinkedFile) (others : List LinkedFile) (parts : Parts) (trace : Trace) (lines : List Line) (told : List Told) (behind : Session) (after : Disk) (closed : Result (Unit {0}) StoreFault)
+    (synced : is_synced (file_of trace 0) ≡ true) (ended : IsEnded behind after closed) (stays : can_change mode ≡ false → behind.disk.told ≡ Some trace)
+    (tells : TellsHistory (drive_of mode leaf others trace) 1 lines told (started trace leaf others parts) None behind) where
+  abbrev drive : Drive
+  drive = drive_of mode leaf others trace
+
+  abbrev later : State
+  later = tells.later
+
+  abbrev Has : Trace → Type 0
+  Has now = HasHistory mode leaf others lines told closed trace now
+
+  moments_as : (b : ℕ → ℕ → Bool) (now : Trace) → EachOpensToPrefix (sector_of later) later.opening later.history (b (sector_of later)) later.leaf later.began now
+      → EachOpensToPrefix sector_size (opening_disk trace (leaf ∷ others)) later.history (b sector_size) leaf.name trace now
+  moments_as b now past =
+      past_as (sector_of later) sector_size later.opening (opening_disk trace (leaf ∷ others)) later.leaf leaf.name later.began trace later.history b now tells.over.sector tells.over.opening tells.same.leaf tells.same.began past
+
+  others_as : (now : Trace) → ((other : ℕ) → other ≢ later.top.number → file_of now other ≡ file_of later.began other) → (other : ℕ) → other ≢ 0 → file_of now other ≡ file_of trace other
+  others_as now still = still_as later.top.number 0 later.began trace now tells.same.number tells.same.began still
+
+  -- where the files are only read
+  unchanged_in : (now : Trace) → after.told ≡ Some now → (can_change mode ≡ false → after ≡ behind.disk) → can_change mode ≡ false → now ≡ trace
+  unchanged_in now is same none = same_Some now trace (sym is ∙ ap (λ (d : Disk). d.told) (same none) ∙ stays none)
+
+  -- a fault has broken the session
+  behind_break : (b : Break) → tells.broken ≡ Some b → behind.broken ≡ Some b.fault → ((other : ℕ) → other ≢ later.top.number → file_of tells.now other ≡ file_of later.began other)
+      → EachOpensToPrefix (sector_of later) later.opening later.history (is_named (sector_of later) b.call) later.leaf later.began tells.now → WhereBothTold (HaveHistory mode (leaf ∷ others) lines told closed) (Some trace) after.told
+  behind_break b is broken still past =
+      let e = subst (λ o. IfSome o (λ fault. (closed ≡ Err fault) × (after ≡ behind.disk))) broken ended.broken in
+      let now_is : after.told ≡ Some tells.now = ap (λ (d : Disk). d.told) e.1 ∙ tells.seen in
+      let has : Has tells.now = record {
+        history = later.history;
+        broken = tells.broken;
+        told_so = tells.told_so;
+        moments = subst (λ o. EachOpensToPrefix sector_size (opening_disk trace (leaf ∷ others)) later.history (open_by o) leaf.name trace tells.now) (sym is) (moments_as (λ z. is_named z b.call) tells.now past);
+        still = others_as tells.now still;
+        unchanged = unchanged_in tells.now now_is (λ none. e.1);
+        at_rest = subst (λ r. OnOk r (IsAtRest leaf drive later.history tells.now)) (sym e.0) tt;
+      } in
+      subst (λ o. WhereBothTold (HaveHistory mode (leaf ∷ others) lines told closed) (Some trace) o) (sym now_is) has
+
+  -- it has ended, or its end failed
+  module _ (whole : behind.broken ≡ None) (none : tells.broken ≡ None) (now : Trace) (now_is : after.told ≡ Some now) (h : HasClosed (is_some behind.layers.leaf) later tells.now now closed) where
+    same_store : can_change mode ≡ false → after ≡ behind.disk
+    same_store e = (ended.only_read whole (no_leaf behind.layers.leaf (tells.over.change ∙ e))).1
+
+    leaf_synced : (m : Mode) → m ≡ mode → (is_some behind.layers.leaf ≡ true → is_synced (file_of now later.top.number) ≡ true) → is_synced (file_of now 0) ≡ true
+    leaf_synced Guests is own = subst (λ n. is_synced (file_of now n) ≡ true) tells.same.number (own (tells.over.change ∙ ap can_change (sym is)))
+    leaf_synced ReadOnly is own = ap (λ t. is_synced (file_of t 0)) (unchanged_in now now_is same_store (ap can_change (sym is))) ∙ synced
+
+    rest_of : (r : Result (Unit {0}) StoreFault) → HasClosed (is_some behind.layers.leaf) later tells.now now r → OnOk r (IsAtRest leaf drive later.history now)
+    rest_of (Err fault) h = tt
+    rest_of (Ok done) h =
+        let disk : disk_now later ≡ disk_after drive later.history = ap₂ (λ (z : ℕ) (o : GuestDisk). replay z o later.history) tells.over.sector tells.over.opening in
+        record {
+          synced = leaf_synced mode refl h.synced;
+          opens = subst (λ d. EachOpens leaf.name (λ s. false) d now) disk (subst (λ l. EachOpens l (λ s. false) (disk_now later) now) tells.same.leaf h.all);
+        }
+
+    behind_end : Has now
+    behind_end =
+        let end = ended_of (is_some behind.layers.leaf) later tells.now now closed h in
+        record {
+          history = later.history;
+          broken = tells.broken;
+          told_so = tells.told_so;
+          moments = subst (λ o. EachOpensToPrefix sector_size (opening_disk trace (leaf ∷ others)) later.history (open_by o) leaf.name trace now) (sym none) (moments_as (λ z s. false) now end.past);
+          still = others_as now end.still;
+          unchanged = unchanged_in now now_is same_store;
+          at_rest = rest_of closed h;
+        }
+
+  by_stands : (broken : Option Break) → tells.broken ≡ broken → Stands later behind tells.now broken → WhereBothTold (HaveHistory mode (leaf ∷ others) lines told closed) (Some trace) after.told
+  by_stands (Some b) is (is_broken _ broken still past) = behind_break b is broken still past
+  by_stands None is (serves whole serving) =
+      let end = both_told _ behind.disk.told after.told tells.now tells.seen (ended.told whole) in
+      subst (λ o. WhereBothTold (HaveHistory mode (leaf ∷ others) lines told closed) (Some trace) o) (sym end.1) (behind_end whole is end.0 end.1 (end.2 later serving))
+
+  pub has_history : WhereBothTold (HaveHistory mode (leaf ∷ others) lines told closed) (Some trace) after.told
+  has_history = by_stands tells.broken refl tells.stands
+
+-- ---- the whole
+
+-- what is asked of a new session over files that may be started
+pub record IsNew (files : List LinkedFile) (s : Session) : Type 0 where
+  pub events : s.events ≡ 0
+  pub broken : s.broken ≡ None
+  pub noted : s.noted ≡ 0
+  pub told : IfSome s.told (λ h. h ≡ [])
+  pub sector : s.layers.geometry.sector ≡ 512
+  pub geometry : IsOfDisk files s.layers.geometry
+
+module _ (mode : Mode) (leaf : LinkedFile) (others : List LinkedFile) (before : Session) (old : Disk) (drawn now : Option (List (List ℕ))) (can : CanStart (leaf ∷ others) old) (new : IsNew (leaf ∷ others) before)
+    (begun : HasBegunAs mode leaf others before old drawn now) where
+  some_file : 0 < before.disk.files
+  some_file =
+      let there : length (leaf ∷ others) ≤ old.files = can.there in
+      let files : before.disk.files ≡ old.files = ap (λ (d : Disk). d.files) begun.counts in
+      omega arith
+
+  over_start : (trace y : Trace) → IsServing before.layers (started trace leaf others (begun.in_it leaf.parts)) y → IsOver (drive_of mode leaf others trace) (started trace leaf others (begun.in_it leaf.parts)) before
+  over_start trace y serving = record {
+    geometry = new.geometry;
+    change = begun.session;
+    opening = refl;
+    sector = sym (ap (λ (g : Geometry). g.sector) serving.geometry) ∙ new.sector;
+    noted = new.noted;
+    kept = new.told;
+  }
+
+  histories : (lines : List Line) (many : ℕ) (told : List Told) (behind : Session) (after : Disk) (closed : Result (Unit {0}) StoreFault) → length lines ≤ 2 ^ 20 → AnswersLines 1 (take many lines) told before behind
+      → IsEnded behind after closed → WhereBothTold (HaveHistory mode (leaf ∷ others) (take many lines) told closed) old.told after.told
+  histories lines many told behind after closed few answers ended = go old.told refl before.disk.told refl begun.serving
+    where
+      go : (a : Option Trace) → old.told ≡ a → (b : Option Trace) → before.disk.told ≡ b → StartsWith begun.in_it (leaf ∷ others) before.layers a b → WhereBothTold (HaveHistory mode (leaf ∷ others) (take many lines) told closed) a after.told
+      go None e None f serving =
+          let none = end_untold behind after closed ended (lines_untold 1 (take many lines) told before behind f answers) in
+          subst (λ o. WhereBothTold (HaveHistory mode (leaf ∷ others) (take many lines) told closed) None o) (sym none) tt
+      go None e (Some y) f serving = absurd serving
+      go (Some x) e None f serving = absurd serving
+      go (Some x) e (Some y) f serving =
+          has_history mode leaf others (begun.in_it leaf.parts) x (take many lines) told behind after closed (can.told x e).each.0.synced ended
+          (λ none. lines_stay 1 (take many lines) told before behind (begun.session ∙ none) answers ∙ ap (λ (d : Disk). d.told) (begun.same none) ∙ e)
+          (lines_told (drive_of mode leaf others x) 1 (take many lines) told (started x leaf others (begun.in_it leaf.parts)) None before behind y f (serves new.broken serving) (over_start x y serving)
+          (omega (arith, few, new.events, length-take many lines)) answers)
+
+  of_run : (names : List (List ℕ)) (lines : List Line) (run : ScriptRun) (after : Disk) → length lines ≤ 2 ^ 20 → HasRunToEnd names lines before run after → HasRunScript mode (leaf ∷ others) names lines run old after drawn now
+  of_run names lines run after few r =
+      let ran = r.ran in
+      let counts = lines_counted 1 (take ran.many lines) ran.told before r.behind some_file new.broken ran.answers in
+      record {
+        many = ran.many;
+        told = ran.told;
+        whole = ran.whole;
+        fault_is = ran.fault_is;
+        drawn = begun.draws;
+        counted = subst (λ o. IfSome o (Counts after)) (sym ran.fault_is) (last_counted ran.told before r.behind after run.closed counts r.ended);
+        ended = end_counted ran.told before r.behind after run.closed counts r.ended some_file;
+        quiet = λ none. on_ok_weaker run.closed (λ same. told_both old before.disk after begun.counts same) (quiet_end ran.told before r.behind after run.closed counts r.ended (sym ran.fault_is ∙ none));
+        history = histories lines ran.many ran.told r.behind after run.closed few ran.answers r.ended;
+      }
+
+pub script_ran : (mode : Mode) (files : List LinkedFile) (names : List (List ℕ)) (lines : List Line) (run : ScriptRun) (before : Session) (old after : Disk) (drawn now : Option (List (List ℕ))) → HasRunToEnd names lines before run after
+    → HasStarted mode files before.layers old before.disk drawn now → CanStart files old → length lines ≤ 2 ^ 20 → IsNew files before → HasRunScript mode files names lines run old after drawn now
+script_ran mode [] names lines run before old after drawn now r begun can few new = absurd can.line
+script_ran mode (leaf ∷ others) names lines run before old after drawn now r begun can few new =
+    of_run mode leaf others before old drawn now can new (begun_as mode leaf others before old drawn now begun) names lines run after few r

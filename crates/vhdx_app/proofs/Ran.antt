@@ -1,0 +1,282 @@
+-- What a host is left with behind a session over a chain's files.
+use Rattle.std.proofs.Common.{◌≡◌, ◌≢◌, ◌⊎◌, ◌||◌, ℕ, zero, suc, ◌+◌, ◌≤◌, Bool, true, false, List, [], ◌∷◌, ◌++◌, map, Option, Some, None, refl, sym, ap, subst, ◌∙◌, arith}
+use Rattle.std.specs.Prelude.{option_map}
+use Rattle.std.proofs.lemmas.Option.{same_Some}
+use Rattle.store_model.specs.Disk.{Disk as StoreDisk, WhereBothTold, WhereTold}
+use Rattle.store_model.specs.File as stored
+use Rattle.store_model.specs.File.{is_synced, seen}
+use Rattle.store_model.specs.Folder.{AreAway, HasFailed, Held, Hosted, IsKept, KeepsStore, RoseWhere, attached_trace, come_back, fresh, given_back, without}
+use Rattle.store_model.specs.Moments.{LastReturnedCounts, Throughout}
+use Rattle.store_model.specs.Trace.{Trace, at_moment, file_of, moment}
+use Rattle.store_model.specs.declared.fault.StoreFault.{StoreFault}
+use Rattle.store_model.proofs.Throughout.{last_one, throughout_back, throughout_still}
+use Rattle.store_model.proofs.Spans.{at_moment-now}
+use Rattle.vhdx_format.specs.Fields.{sector_size}
+use Rattle.guest_model.specs.Calls.{Disk}
+use Rattle.guest_model.specs.History.{History, replay}
+use Rattle.chain_model.specs.Files.{OpensTo, at_rest}
+use Rattle.chain_model.specs.Members.{NoneTwice}
+use Rattle.chain_model.specs.Moments.{EachOpens, EachOpensToPrefix, is_open}
+use Rattle.chain_model.proofs.Linking.{more_files_link_alike}
+use Rattle.link_rules.specs.Chains.{names_of}
+use Rattle.link_rules.specs.Folders.{AllIdle, contents}
+use Rattle.link_rules.specs.Lines.{BeginsWith}
+use Rattle.link_rules.specs.declared.linked.Linked.{Linked}
+use Rattle.link_rules.specs.declared.linked.LinkedFile.{LinkedFile}
+use Rattle.chain_core.specs.Starting.{opening_disk}
+use Rattle.chain_core.specs.declared.starting.Mode.{Mode}
+use Rattle.script_session.specs.Histories.{Break}
+use Rattle.script_session.specs.Running.{open_by}
+use Rattle.vhdx_app.specs.Commands.{AreAnew, Lends}
+use Rattle.vhdx_app.specs.Crashes.{AreSpared, EachImageOpens, IsSpared, OpensToFirst}
+use Rattle.vhdx_app.specs.Crashes as spared
+use Rattle.vhdx_app.specs.Folders.{AllHome, files_of}
+use Rattle.vhdx_app.specs.Sessions.{IsChainIn, Rests, Stands, is_reading, leaf_name}
+use Rattle.vhdx_app.proofs.Home.{home_of_idle}
+use Rattle.vhdx_app.proofs.Lent.{all_back, anew_contents, anew_idle, are_away, names_attached, names_in, opened_there}
+use Rattle.vhdx_app.proofs.Resting.{rest_opens}
+use Rattle.vhdx_app.proofs.Sparing.{anew_spared}
+use Rattle.vhdx_app.proofs.Serving.{first_at, first_now, idle_now, last_once_of, opens_now, spared_at, spared_now}
+
+-- ---- what is told before and after
+
+pub both_told : {T : Type 0} (R : T → T → Type 0) (a b : Option T) (x : T) → a ≡ Some x → WhereBothTold R a b → (y : T) × (b ≡ Some y) × R x y
+both_told R None None x e h = cc
+both_told R None (Some b) x e h = absurd h
+both_told R (Some a) None x e h = absurd h
+both_told R (Some a) (Some b) x e h = (b, refl, subst (λ z. R z b) (same_Some a x e) h)
+
+pub told_first : {T : Type 0} (R : T → T → Type 0) (a b : Option T) (y : T) → b ≡ Some y → WhereBothTold R a b → (x : T) × (a ≡ Some x) × R x y
+told_first R None None y e h = cc
+told_first R None (Some b) y e h = absurd h
+told_first R (Some a) None y e h = absurd h
+told_first R (Some a) (Some b) y e h = (a, refl, subst (R a) (same_Some b y e) h)
+
+-- ---- a folder to which nothing was done
+
+still_spared : (leaf : List ℕ) (folder : List Held) → AreSpared leaf folder folder
+still_spared leaf [] = tt
+still_spared leaf (held ∷ folder) = (spared.untouched, still_spared leaf folder)
+
+pub home_spared : (leaf : List ℕ) (folder now : List Held) → AllHome folder → AreSpared leaf folder now → AllHome now
+home_spared leaf [] [] home h = home
+home_spared leaf [] (later ∷ now) home h = absurd h
+home_spared leaf (held ∷ folder) [] home h = absurd h
+home_spared leaf (held ∷ folder) (later ∷ now) home h = by_place (home_spared leaf folder now (λ k d w. home (suc k) d (omega (arith, w))) h.1)
+  where
+    by_held : (later : Held) → IsSpared leaf held later → (file : stored.File) × (later.file ≡ Some file)
+    by_held _ (spared.is_leaf file same) = (file, refl)
+    by_held _ spared.untouched = home zero held (omega arith)
+    by_held _ (spared.attached file had) = (fresh (seen file), refl)
+
+    by_place : AllHome now → AllHome (later ∷ now)
+    by_place rest zero d w = by_held later h.0
+    by_place rest (suc k) d w = rest k d (omega (arith, w))
+
+-- a disk that is opened is opened whatever sectors are left out
+pub widen : (leaf : List ℕ) (among : ℕ → Bool) (disk : Disk) (trace : Trace) → EachOpens leaf (λ s. false) disk trace → EachOpens leaf among disk trace
+widen leaf among disk trace opens image is =
+    let o = opens image is in
+    record { retired = o.retired; chain = o.chain; linked = o.linked; agrees = record { sectors = o.agrees.sectors; same = λ i apart. o.agrees.same i refl } }
+
+-- a folder at rest that has what another has opens as that one
+rests_as : (folder now : List Held) (name : List ℕ) → ((n : List ℕ) → contents now n ≡ contents folder n) → (disk : Disk) → OpensTo (files_of folder) name disk → OpensTo (files_of now) name disk
+rests_as folder now name same disk opens = record {
+  retired = opens.retired;
+  chain = opens.chain;
+  linked = more_files_link_alike (files_of folder) (files_of now) name opens.retired opens.chain (λ n file had. ap (option_map at_rest) (same n) ∙ had) opens.linked;
+  is = opens.is;
+}
+
+first_rests : (now : List Held) (name : List ℕ) (is_broken : ℕ → Bool) (disk : Disk) → AllIdle now → OpensTo (files_of now) name disk → OpensToFirst name disk [] is_broken now
+first_rests now name is_broken disk idle opens = record {
+  m = 0;
+  within = omega arith;
+  opens =
+      subst (λ d. EachImageOpens name (λ s. is_open sector_size [] 0 s || is_broken s) d now) opens.is
+      (rest_opens now name (λ s. is_open sector_size [] 0 s || is_broken s) opens.retired opens.chain idle opens.linked);
+}
+
+-- a host that stays as it was
+module _ (mode : Mode) (linked : Linked) (folder : List Held) (old new : Hosted) (idle : AllIdle folder) (told : old.folder ≡ Some folder) (folder_is : new.folder ≡ old.folder) (past_is : new.past ≡ old.past) where
+  same_folder : (g : List Held) → new.folder ≡ Some g → folder ≡ g
+  same_folder g is = same_Some folder g (sym told ∙ sym folder_is ∙ is)
+
+  pub still_stands : Stands mode linked [] None folder old new
+  still_stands = record {
+    moments = λ disk opens. throughout_still (OpensToFirst (leaf_name linked) disk [] (open_by None)) old new past_is
+        (λ g is. subst (OpensToFirst (leaf_name linked) disk [] (open_by None)) (same_folder g is) (first_rests folder (leaf_name linked) (open_by None) disk idle opens));
+    spared = λ file begins. throughout_still (AreSpared file.name folder) old new past_is (λ g is. subst (AreSpared file.name folder) (same_folder g is) (still_spared file.name folder));
+    unchanged = λ reading g is name. ap (λ x. contents x name) (sym (same_folder g is));
+    home = λ g is. subst AllHome (same_folder g is) (home_of_idle folder idle);
+  }
+
+  pub still_rests : Rests linked [] folder old new
+  still_rests = record {
+    idle = λ f is g also. subst AllIdle (same_folder g also) idle;
+    opens = λ disk opens g is. subst (λ x. OpensTo (files_of x) (leaf_name linked) disk) (same_folder g is) opens;
+  }
+
+-- ---- files that are lent and come back
+
+-- what a session leaves of the files' trace
+pub record Changed (before now : Trace) : Type 0 where
+  pub attached : now.attached ≡ before.attached
+  pub still : (other : ℕ) → other ≢ 0 → file_of now other ≡ file_of before other
+
+module _ (retired : List (List ℕ)) (leaf : LinkedFile) (others : List LinkedFile) (old mid : Hosted) (lent : StoreDisk) (idle : WhereTold old.folder AllIdle) (once : NoneTwice (retired ++ names_of (leaf ∷ others)))
+    (chain : WhereTold old.folder (IsChainIn (record { retired = retired; files = leaf ∷ others }))) (lends : Lends (names_of (leaf ∷ others)) old mid lent) (disk : StoreDisk) (changed : WhereBothTold Changed lent.told disk.told) where
+  abbrev pub L : Linked
+  L = record { retired = retired; files = leaf ∷ others }
+
+  abbrev pub names : List (List ℕ)
+  names = names_of (leaf ∷ others)
+
+  abbrev pub trace_of : List Held → Trace
+  trace_of f = attached_trace names f
+
+  lent_told : (f : List Held) → old.folder ≡ Some f → lent.told ≡ Some (trace_of f)
+  lent_told f told = ap (λ (d : StoreDisk). d.told) lends.disk_is ∙ ap (option_map (attached_trace names)) told
+
+  mid_folder : (f : List Held) → old.folder ≡ Some f → mid.folder ≡ Some (without names f)
+  mid_folder f told = ap (λ (h : Hosted). h.folder) lends.host_is ∙ ap (option_map (without names)) told
+
+  told_before : (t : Trace) → lent.told ≡ Some t → (f : List Held) × (old.folder ≡ Some f) × (t ≡ trace_of f)
+  told_before t told = by_folder old.folder refl
+    where
+      by_folder : (folder : Option (List Held)) → old.folder ≡ folder → (f : List Held) × (old.folder ≡ Some f) × (t ≡ trace_of f)
+      by_folder None e = let never : None ≡ Some t = sym (ap (option_map (attached_trace names)) e) ∙ sym (ap (λ (d : StoreDisk). d.told) lends.disk_is) ∙ told in cc
+      by_folder (Some f) e = (f, e, same_Some t (trace_of f) (sym told ∙ lent_told f e))
+
+  names_told : (f : List Held) (t : Trace) → t.attached ≡ (trace_of f).attached → names_in t.attached ≡ names
+  unfolding names_in
+  names_told f t same = ap (map _) same ∙ names_attached names f
+
+  -- where the folder is told, what the store tells in the end
+  pub now_told : (f : List Held) → old.folder ≡ Some f → (t : Trace) × (disk.told ≡ Some t) × Changed (trace_of f) t
+  now_told f told = both_told Changed lent.told disk.told (trace_of f) (lent_told f told) changed
+
+  pub back_requires : WhereTold mid.folder (λ folder. WhereTold disk.told (λ trace. AreAway trace folder))
+  back_requires g is t told =
+      let first = told_first Changed lent.told disk.told t told changed in
+      let b = told_before first.0 first.1 in
+      let rest : without names b.0 ≡ g = same_Some _ g (sym (mid_folder b.0 b.1) ∙ is) in
+      let same : t.attached ≡ (trace_of b.0).attached = first.2.attached ∙ ap (λ (x : Trace). x.attached) b.2 in
+      subst (AreAway t) rest (are_away names b.0 t (names_told b.0 t same) (opened_there b.0 (leaf ∷ others) (chain b.0 b.1).opened))
+
+  module _ (now : Hosted) (back_is : WhereTold disk.told (λ trace. now.folder ≡ option_map (given_back trace) mid.folder)) (past_is : KeepsStore disk mid now) (count : RoseWhere (HasFailed disk) mid.faults now.faults) where
+    faults : mid.faults ≡ old.faults
+    faults = ap (λ (h : Hosted). h.faults) lends.host_is
+
+    no_fault : (file : ℕ) → lent.failed_reads file + lent.failed_changes file ≡ 0
+    no_fault file = ap (λ (d : StoreDisk). d.failed_reads file + d.failed_changes file) lends.disk_is
+
+    -- with no fault the host's count stays
+    pub quiet_back : disk ≡ record lent { told = disk.told } → now.faults ≡ old.faults
+    quiet_back same = count.none (λ (file, there, failed). failed (ap (λ (d : StoreDisk). d.failed_reads file + d.failed_changes file) same ∙ no_fault file)) ∙ faults
+
+    module _ (f : List Held) (told : old.folder ≡ Some f) where
+      abbrev pub t : Trace
+      t = (now_told f told).0
+
+      t_told : disk.told ≡ Some t
+      t_told = (now_told f told).1
+
+      is_changed : Changed (trace_of f) t
+      is_changed = (now_told f told).2
+
+      abbrev pub rest : List Held
+      rest = without names f
+
+      now_is : now.folder ≡ Some (given_back t rest)
+      now_is = back_is t t_told ∙ ap (option_map (given_back t)) (mid_folder f told)
+
+      kept : IsKept (come_back disk t rest) old.past now.past
+      kept = subst (λ p. IsKept (come_back disk t (without names f)) p now.past) (ap (λ (h : Hosted). h.past) lends.host_is) (past_is t t_told (without names f) (mid_folder f told))
+
+      throughout : (P : List Held → Type 0) → ((k : ℕ) → k ≤ moment t → P (given_back (at_moment k t) rest)) → P (given_back t rest) → Throughout P old now
+      throughout P each last = throughout_back P old now (come_back disk t rest) kept each (λ g is. subst P (same_Some _ g (sym now_is ∙ is)) last)
+
+      in_now : (P : List Held → Type 0) → P (given_back t rest) → WhereTold now.folder P
+      in_now P p g is = subst P (same_Some _ g (sym now_is ∙ is)) p
+
+      idle_f : AllIdle f
+      idle_f = idle f told
+
+      is_chain : IsChainIn L f
+      is_chain = chain f told
+
+      pub last_counts : (fault : StoreFault) → (fault.count ≡ disk.failed_reads fault.file) ⊎ (fault.count ≡ disk.failed_changes fault.file) → LastReturnedCounts fault.count old now
+      last_counts fault counted = last_one fault.count fault.file old now (come_back disk t rest) kept counted
+
+      pub stands : (mode : Mode) (h : History) (broken : Option Break) → EachOpensToPrefix sector_size (opening_disk (trace_of f) (leaf ∷ others)) h (open_by broken) leaf.name (trace_of f) t → (is_reading mode ≡ true → t ≡ trace_of f)
+          → Stands mode L h broken f old now
+      stands mode h broken past reading = record {
+        moments = λ d opens.
+            throughout (OpensToFirst (leaf_name L) d h (open_by broken))
+            (first_at retired leaf others f idle_f once is_chain.opened (leaf_name L) is_chain.chain t is_changed.attached is_changed.still h (open_by broken) past d opens)
+            (first_now retired leaf others f idle_f once is_chain.opened (leaf_name L) is_chain.chain t is_changed.attached is_changed.still h (open_by broken) past d opens);
+        spared = λ file begins. subst (λ n. Throughout (AreSpared n f) old now) (first_file file begins) spares;
+        unchanged = λ read. in_now (λ g. (name : List ℕ) → contents g name ≡ contents f name) (unchanged_back (reading read));
+        home = in_now AllHome (home_spared leaf.name f (given_back t rest) (home_of_idle f idle_f) last_spared);
+      }
+        where
+          first_file : (file : LinkedFile) → BeginsWith file (leaf ∷ others) → leaf.name ≡ file.name
+          first_file file begins = ap (name_of_first) begins.is
+            where
+              name_of_first : List LinkedFile → List ℕ
+              name_of_first [] = leaf.name
+              name_of_first (x ∷ xs) = x.name
+
+          last_spared : AreSpared leaf.name f (given_back t rest)
+          last_spared = spared_now retired leaf others f idle_f once is_chain.opened (leaf_name L) is_chain.chain t is_changed.attached is_changed.still
+
+          spares : Throughout (AreSpared leaf.name f) old now
+          spares = throughout (AreSpared leaf.name f) (λ k within. spared_at retired leaf others f idle_f once is_chain.opened (leaf_name L) is_chain.chain t is_changed.attached is_changed.still k) last_spared
+
+          unchanged_back : t ≡ trace_of f → (name : List ℕ) → contents (given_back t rest) name ≡ contents f name
+          unchanged_back same name =
+              ap (λ x. contents (given_back x rest) name) same
+              ∙ anew_contents names f (given_back (trace_of f) rest) (all_back names f idle_f (last_once_of retired names once) (opened_there f (leaf ∷ others) is_chain.opened)) name
+
+      pub rests : (h : History) → is_synced (file_of t 0) ≡ true → EachOpens leaf.name (λ s. false) (replay sector_size (opening_disk (trace_of f) (leaf ∷ others)) h) t → Rests L h f old now
+      rests h synced opens = record {
+        idle = λ g is x also. subst AllIdle (same_Some _ x (sym now_is ∙ also)) (idle_now retired leaf others f idle_f once is_chain.opened (leaf_name L) is_chain.chain t is_changed.attached is_changed.still synced);
+        opens = λ d is. in_now (λ g. OpensTo (files_of g) (leaf_name L) (replay sector_size d h)) (opens_now retired leaf others f idle_f once is_chain.opened (leaf_name L) is_chain.chain t is_changed.attached is_changed.still h synced opens d is);
+      }
+
+      -- ---- where nothing was done to the files
+
+      module _ (same : t ≡ trace_of f) where
+        is_anew : AreAnew names f (given_back t rest)
+        is_anew = subst (λ x. AreAnew names f (given_back x (without names f))) (sym same) (all_back names f idle_f (last_once_of retired names once) (opened_there f (leaf ∷ others) is_chain.opened))
+
+        at_once : (k : ℕ) → k ≤ moment t → at_moment k t ≡ t
+        unfolding moment
+        at_once k within =
+            let none : moment t ≡ 0 = ap moment same in
+            let first : k ≡ moment t = omega (arith, within, none) in
+            ap (λ n. at_moment n t) first ∙ at_moment-now t
+
+        idle_back : AllIdle (given_back t rest)
+        idle_back = anew_idle names f (given_back t rest) is_anew idle_f
+
+        opens_back : (d : Disk) → OpensTo (files_of f) (leaf_name L) d → OpensTo (files_of (given_back t rest)) (leaf_name L) d
+        opens_back d opens = rests_as f (given_back t rest) (leaf_name L) (anew_contents names f (given_back t rest) is_anew) d opens
+
+        pub unchanged_stands : (mode : Mode) → Stands mode L [] None f old now
+        unchanged_stands mode = record {
+          moments = λ d opens. throughout (OpensToFirst (leaf_name L) d [] (open_by None))
+              (λ k within. subst (λ x. OpensToFirst (leaf_name L) d [] (open_by None) (given_back x rest)) (sym (at_once k within)) (first_rests (given_back t rest) (leaf_name L) (open_by None) d idle_back (opens_back d opens)))
+              (first_rests (given_back t rest) (leaf_name L) (open_by None) d idle_back (opens_back d opens));
+          spared = λ file begins. throughout (AreSpared file.name f)
+              (λ k within. subst (λ x. AreSpared file.name f (given_back x rest)) (sym (at_once k within)) (anew_spared names file.name f (given_back t rest) is_anew)) (anew_spared names file.name f (given_back t rest) is_anew);
+          unchanged = λ reading. in_now (λ g. (name : List ℕ) → contents g name ≡ contents f name) (anew_contents names f (given_back t rest) is_anew);
+          home = in_now AllHome (home_of_idle (given_back t rest) idle_back);
+        }
+
+        pub unchanged_rests : Rests L [] f old now
+        unchanged_rests = record {
+          idle = λ g is x also. subst AllIdle (same_Some _ x (sym now_is ∙ also)) idle_back;
+          opens = λ d opens. in_now (λ g. OpensTo (files_of g) (leaf_name L) d) (opens_back d opens);
+        }

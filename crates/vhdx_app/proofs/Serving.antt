@@ -1,0 +1,151 @@
+-- A session over a folder's files: what its store tells is what the folder holds at each moment, and then.
+use Rattle.std.proofs.Common.{◌≡◌, ◌≢◌, ℕ, ◌+◌, ◌≤◌, Bool, true, false, List, [], ◌∷◌, ◌++◌, map, refl, sym, ap, subst, ◌∙◌, arith}
+use Rattle.std.specs.List.{AllByRecursion}
+use Rattle.store_model.specs.File.{is_synced, seen}
+use Rattle.store_model.specs.Folder.{Held, attached_trace, given_back, has_name, without}
+use Rattle.store_model.specs.Trace.{NamedBytes, Trace, at_moment, file_of, moment}
+use Rattle.store_model.proofs.Throughout.{attached-at_moment}
+use Rattle.store_model.proofs.Spans.{at_moment-now}
+use Rattle.vhdx_format.specs.Fields.{sector_size}
+use Rattle.guest_model.specs.Calls.{Disk}
+use Rattle.guest_model.specs.History.{History, replay}
+use Rattle.chain_model.specs.Files.{IsIn, OpensTo}
+use Rattle.chain_model.specs.Images.{members_of}
+use Rattle.chain_model.specs.Members.{Member, NoneTwice, disk_of, first_name}
+use Rattle.chain_model.specs.Members as model
+use Rattle.chain_model.specs.Sessions.{as_read}
+use Rattle.chain_model.specs.Moments.{EachOpens, EachOpensToPrefix}
+use Rattle.chain_model.proofs.Linking.{one_chain}
+use Rattle.link_rules.specs.Chains.{names_of}
+use Rattle.link_rules.specs.Folders.{AllIdle, contents}
+use Rattle.link_rules.specs.Laws.{AreMembers, IsTheChain, at_rest_all}
+use Rattle.link_rules.specs.declared.linked.LinkedFile.{LinkedFile}
+use Rattle.chain_core.specs.Starting.{opening_disk, placed_from as placed}
+use Rattle.vhdx_app.specs.Commands.{AreOpened, placed_from}
+use Rattle.vhdx_app.specs.Crashes.{AreSpared, EachImageOpens, OpensToFirst}
+use Rattle.vhdx_app.specs.Folders.{files_of}
+use Rattle.vhdx_app.proofs.Back.{placed_are, placed_in}
+use Rattle.vhdx_app.proofs.Followed.{last_in, same_members}
+use Rattle.vhdx_app.proofs.Lent.{each_at, names_attached, names_in, opened_there}
+use Rattle.vhdx_app.proofs.Reopened.{OutOf, images_reopen}
+use Rattle.vhdx_app.proofs.Resting.{opens_at_rest}
+use Rattle.vhdx_app.proofs.Sparing.{are_spared, spared_idle, still_before}
+
+-- ---- names
+
+-- the retired leaves' names stand before those of the chain's files
+out_of_one : (name : List ℕ) (names : List (List ℕ)) (rest : List (List ℕ)) → AllByRecursion (λ other. other ≢ name) (rest ++ names) → AllByRecursion (λ other. other ≢ name) names
+out_of_one name names [] h = h
+out_of_one name names (r ∷ rest) h = out_of_one name names rest h.1
+
+out_of : (outer : List Member) (names : List (List ℕ)) → NoneTwice (model.names_of outer ++ names) → OutOf names outer
+out_of [] names once = tt
+out_of (m ∷ outer) names once = (out_of_one m.name names (model.names_of outer) once.0, out_of outer names once.1)
+
+first_once_of : (names rest : List (List ℕ)) → NoneTwice (names ++ rest) → NoneTwice names
+first_once_of [] rest once = tt
+first_once_of (name ∷ names) rest once = (apart_first names once.0, first_once_of names rest once.1)
+  where
+    apart_first : (some : List (List ℕ)) → AllByRecursion (λ other. other ≢ name) (some ++ rest) → AllByRecursion (λ other. other ≢ name) some
+    apart_first [] h = tt
+    apart_first (other ∷ some) h = (h.0, apart_first some h.1)
+
+pub last_once_of : (names rest : List (List ℕ)) → NoneTwice (names ++ rest) → NoneTwice rest
+last_once_of [] rest once = once
+last_once_of (name ∷ names) rest once = last_once_of names rest once.1
+
+same_placed : (trace : Trace) (i : ℕ) (files : List LinkedFile) → placed trace i files ≡ placed_from i files trace
+same_placed trace i [] = refl
+same_placed trace i (file ∷ files) = ap (λ rest. as_read trace i (seen (file_of trace i)) file.parts ∷ rest) (same_placed trace (i + 1) files)
+
+module _ (retired : List (List ℕ)) (leaf : LinkedFile) (others : List LinkedFile) (folder : List Held) (idle : AllIdle folder) (once : NoneTwice (retired ++ names_of (leaf ∷ others)))
+    (opened : AreOpened (contents folder) (leaf ∷ others)) (name : List ℕ) (chain : IsTheChain (contents folder) name (record { retired = retired; files = leaf ∷ others })) where
+  abbrev pub names : List (List ℕ)
+  names = names_of (leaf ∷ others)
+
+  abbrev pub old : Trace
+  old = attached_trace names folder
+
+  names_once : NoneTwice names
+  names_once = last_once_of retired (names_of (leaf ∷ others)) once
+
+  there : AllByRecursion (λ n. has_name n folder ≡ true) names
+  there = opened_there folder (leaf ∷ others) opened
+
+  -- the disk that was opened is the chain's
+  pub opening_is : opening_disk old (leaf ∷ others) ≡ disk_of chain.chain
+  opening_is =
+      ap (λ ps. disk_of (members_of ps)) (same_placed old 0 (leaf ∷ others))
+      ∙ ap disk_of (same_members (at_rest_all (contents folder)) (members_of (placed_from 0 (leaf ∷ others) old)) chain.chain (leaf ∷ others)
+      (placed_in (names_of (leaf ∷ others)) folder 0 (leaf ∷ others) (each_at old.attached) opened)
+      (last_in (IsIn (at_rest_all (contents folder))) chain.retired chain.chain chain.linked.there) (placed_are (names_of (leaf ∷ others)) folder 0 (leaf ∷ others) (each_at old.attached)) chain.members)
+
+  pub same_disk : (disk : Disk) → OpensTo (files_of folder) name disk → disk ≡ opening_disk old (leaf ∷ others)
+  same_disk disk opens = one_chain.disk (files_of folder) name disk (disk_of chain.chain) opens (record { retired = chain.retired; chain = chain.chain; linked = chain.linked; is = refl }) ∙ sym opening_is
+
+  first_is : first_name chain.chain ≡ leaf.name
+  first_is = by_chain chain.chain chain.members
+    where
+      by_chain : (members : List Member) → AreMembers members (leaf ∷ others) → first_name members ≡ leaf.name
+      by_chain [] are = absurd are
+      by_chain (m ∷ members) are = are.0.name
+
+  retired_out : OutOf names chain.retired
+  retired_out = out_of chain.retired (names_of (leaf ∷ others)) (subst (λ rs. NoneTwice (rs ++ names_of (leaf ∷ others))) (sym chain.names) once)
+
+  retired_once : NoneTwice (model.names_of chain.retired)
+  retired_once = subst NoneTwice (sym chain.names) (first_once_of retired (names_of (leaf ∷ others)) once)
+
+  module _ (trace : Trace) (same : trace.attached ≡ old.attached) (still : (other : ℕ) → other ≢ 0 → file_of trace other ≡ file_of old other) where
+    abbrev pub rest : List Held
+    rest = without names folder
+
+    attached_at : (k : ℕ) → (at_moment k trace).attached ≡ old.attached
+    attached_at k = attached-at_moment k trace ∙ same
+
+    names_at : (k : ℕ) → names_in (at_moment k trace).attached ≡ names
+    unfolding names_in
+    names_at k = ap (λ files. map (λ (f : NamedBytes). f.name) files) (attached_at k) ∙ names_attached (names_of (leaf ∷ others)) folder
+
+    -- what the store opens to at a moment the folder opens to
+    reopens : (k : ℕ) (among : ℕ → Bool) (disk : Disk) → EachOpens leaf.name among disk (at_moment k trace) → EachImageOpens name among disk (given_back (at_moment k trace) rest)
+    reopens k among disk opens =
+        images_reopen folder names idle names_once there name chain.retired chain.chain chain.linked retired_out retired_once (at_moment k trace) (names_at k) among disk
+        (subst (λ n. EachOpens n among disk (at_moment k trace)) (sym first_is) opens)
+
+    pub spared_at : (k : ℕ) → AreSpared leaf.name folder (given_back (at_moment k trace) rest)
+    spared_at k =
+        are_spared leaf.name (names_of others) folder idle names_once there (at_moment k trace) (attached_at k) (λ other apart. still_before other k old trace refl same (still other apart))
+
+    now_at : at_moment (moment trace) trace ≡ trace
+    now_at = at_moment-now trace
+
+    pub spared_now : AreSpared leaf.name folder (given_back trace rest)
+    spared_now = subst (λ t. AreSpared leaf.name folder (given_back t rest)) now_at (spared_at (moment trace))
+
+    pub idle_now : is_synced (file_of trace 0) ≡ true → AllIdle (given_back trace rest)
+    idle_now synced = spared_idle leaf.name (names_of others) folder idle names_once there trace same still synced
+
+    -- each moment of the store is one of the folder
+    pub first_at : (h : History) (is_broken : ℕ → Bool) → EachOpensToPrefix sector_size (opening_disk old (leaf ∷ others)) h is_broken leaf.name old trace → (disk : Disk) → OpensTo (files_of folder) name disk
+        → (k : ℕ) → k ≤ moment trace → OpensToFirst name disk h is_broken (given_back (at_moment k trace) rest)
+    unfolding moment
+    first_at h is_broken past disk opens k within =
+        let p = past.each k (start k) within in
+        subst (λ d. OpensToFirst name d h is_broken (given_back (at_moment k trace) rest)) (sym (same_disk disk opens)) (record { m = p.m; within = p.within; opens = reopens k _ _ p.opens })
+      where
+        start : (k : ℕ) → moment old ≤ k
+        start k = omega arith
+
+    pub first_now : (h : History) (is_broken : ℕ → Bool) → EachOpensToPrefix sector_size (opening_disk old (leaf ∷ others)) h is_broken leaf.name old trace → (disk : Disk) → OpensTo (files_of folder) name disk
+        → OpensToFirst name disk h is_broken (given_back trace rest)
+    first_now h is_broken past disk opens = subst (λ t. OpensToFirst name disk h is_broken (given_back t rest)) now_at (first_at h is_broken past disk opens (moment trace) (omega arith))
+
+    -- at its end nothing is unsynced, and the folder opens to the disk
+    pub opens_now : (h : History) → is_synced (file_of trace 0) ≡ true → EachOpens leaf.name (λ s. false) (replay sector_size (opening_disk old (leaf ∷ others)) h) trace → (disk : Disk) → OpensTo (files_of folder) name disk
+        → OpensTo (files_of (given_back trace rest)) name (replay sector_size disk h)
+    opens_now h synced opens disk is =
+        subst (λ d. OpensTo (files_of (given_back trace rest)) name (replay sector_size d h)) (sym (same_disk disk is))
+        (opens_at_rest (given_back trace rest) name (replay sector_size (opening_disk old (leaf ∷ others)) h) (idle_now synced)
+        (subst (λ t. EachImageOpens name (λ s. false) (replay sector_size (opening_disk old (leaf ∷ others)) h) (given_back t rest)) now_at
+        (reopens (moment trace) (λ s. false) (replay sector_size (opening_disk old (leaf ∷ others)) h) (subst (EachOpens leaf.name (λ s. false) (replay sector_size (opening_disk old (leaf ∷ others)) h)) (sym now_at) opens))))

@@ -1,0 +1,115 @@
+-- What `steps` does and prints, from what following the leaf's name and the session leave.
+use Rattle.std.proofs.Common.{◌≡◌, ◌≢◌, ◌⊎◌, ℕ, ◌+◌, Bool, List, Option, Some, None, Result, Err, refl, sym, ap, subst, ◌∙◌, inl, inr}
+use Rattle.std.specs.Prelude.{IfSome, codes}
+use Rattle.std.proofs.lemmas.Option.{same_Some}
+use Rattle.store_model.specs.Cause.{Rose}
+use Rattle.store_model.specs.Disk.{WhereTold}
+use Rattle.store_model.specs.Folder.{Hosted}
+use Rattle.link_rules.specs.Folders.{AllIdle, contents}
+use Rattle.link_rules.specs.Touches.{IsOnWay, TouchesSafely}
+use Rattle.link_rules.proofs.Safe.{none_safely}
+use Rattle.chain_core.specs.declared.starting.Mode.{Mode}
+use Rattle.script.specs.Sources.{CountsFault, IsPartTaken, IsTaken, LeavesOf, ReadsScript}
+use Rattle.script.specs.Grammar.{most_bytes}
+use Rattle.script.specs.declared.form.Line.{Line}
+use Rattle.script.specs.declared.form.ScriptKind.TheVariants as kinds
+use Rattle.script.specs.declared.refusal.SourceRefusal.{SourceRefusal}
+use Rattle.script.specs.declared.refusal.SourceRefusal.TheVariants as source
+use Rattle.script_session.specs.declared.session.ScriptRun.{ScriptRun}
+use Rattle.vhdx_app.specs.Answers.{fault_line}
+use Rattle.vhdx_app.specs.Folders.{OnlyFollows}
+use Rattle.vhdx_app.specs.Printed.{Sent, cut, whole}
+use Rattle.vhdx_app.specs.Runs.{Ends}
+use Rattle.vhdx_app.specs.Sessions.{LeafIsRun, source_said}
+use Rattle.vhdx_app.specs.Steps.{DrawsFor, DrawsForLeaf, IsRunOf, IsStepsText, IsTranscript, IsUnopenedText, Ran, RefusesSession, RunsOver, RunsSteps, RunsUnopened, SparesOthers, drive_over}
+use Rattle.vhdx_app.specs.Steps as steps
+use Rattle.vhdx_app.specs.Worlds.{World}
+use Rattle.vhdx_app.specs.declared.refusal.StepsRefusal.{StepsRefusal}
+use Rattle.vhdx_app.specs.declared.status.Status.{Status}
+use Rattle.vhdx_app.specs.declared.status.Status.TheVariants.{Fault, NoMemory, Usage}
+use Rattle.vhdx_app.proofs.Home.{StaysHome, home_still}
+use Rattle.vhdx_app.proofs.Left.{follows_none}
+
+-- ---- how a run ends, by the text that was meant
+
+pub ends_by : (before now : World) (meant status : Status) (text : List ℕ) → Sent before.written now.written before.sink_faults now.sink_faults meant text status
+    → (meant ≡ Fault → Rose before.host.faults now.host.faults ⊎ Rose before.source_faults now.source_faults)
+    → (meant ≢ Fault → (now.host.faults ≡ before.host.faults) × (now.source_faults ≡ before.source_faults))
+    → StaysHome before.host.folder now.host.folder → (status ≢ Fault → WhereTold before.host.folder (λ f. WhereTold now.host.folder AllIdle)) → Ends before now status
+ends_by before now meant status text (whole is sent same) rose quiet home idle = record {
+  rose = λ fault. elim (rose (sym is ∙ fault)) [ inl h ↦ inl h | inr s ↦ inr (inl s) ];
+  quiet = λ fault. let q = quiet (λ e. fault (is ∙ e)) in (q.0, q.1, same);
+  home = home;
+  idle = idle;
+}
+ends_by before now meant status text (cut is n sent rise) rose quiet home idle = record {
+  rose = λ fault. inr (inr rise);
+  quiet = λ fault. absurd (fault is);
+  home = home;
+  idle = idle;
+}
+
+-- a fault that was meant is the status
+pub meant_fault : (before after : Option (List ℕ)) (old new : ℕ) (text : List ℕ) (status : Status) → Sent before after old new Fault text status → status ≡ Fault
+meant_fault before after old new text status (whole is sent same) = is
+meant_fault before after old new text status (cut is n sent rose) = is
+
+-- ---- what was taken of the source
+
+pub where_some : (P : List ℕ → Type 0) (o : Option (List ℕ)) → IfSome o P → WhereTold o P
+where_some P None h t e = cc
+where_some P (Some x) h t e = subst P (same_Some x t e) h
+
+pub part_taken : (bytes : List ℕ) (left : Option (List ℕ)) → IsTaken bytes left → IsPartTaken bytes left
+part_taken bytes left h = (most_bytes + 1, h)
+
+pub none_taken : (left : Option (List ℕ)) → WhereTold left (λ bytes. IsPartTaken bytes left)
+none_taken left bytes told = (0, told)
+
+-- ---- no script, or none that can be read
+
+module _ (leaf : List ℕ) (ro : Bool) (before now : World) (status : Status) (idle : WhereTold before.host.folder AllIdle) (same : now.host ≡ before.host) (undrawn : now.drawn ≡ before.drawn) where
+  stays : OnlyFollows leaf before.host.folder now.host.folder
+  stays = subst (λ (h : Hosted). OnlyFollows leaf before.host.folder h.folder) (sym same) (follows_none leaf before.host)
+
+  safely : TouchesSafely (λ f. IsOnWay (contents f) leaf) before.host now.host
+  safely = subst (TouchesSafely (λ f. IsOnWay (contents f) leaf) before.host) (sym same) (none_safely (λ f. IsOnWay (contents f) leaf) before.host)
+
+  home : StaysHome before.host.folder now.host.folder
+  home = home_still before.host.folder now.host.folder idle (ap (λ (h : Hosted). h.folder) same)
+
+  idles : status ≢ Fault → WhereTold before.host.folder (λ f. WhereTold now.host.folder AllIdle)
+  idles fault f told g is = subst AllIdle (same_Some f g (sym told ∙ sym (ap (λ (h : Hosted). h.folder) same) ∙ is)) (idle f told)
+
+  faults : now.host.faults ≡ before.host.faults
+  faults = ap (λ (h : Hosted). h.faults) same
+
+  pub unread_runs : (meant : Status) (text : List ℕ) → Sent before.written now.written before.sink_faults now.sink_faults meant text status → IsUnopenedText leaf before now meant text
+      → WhereTold before.left (λ bytes. IsPartTaken bytes now.left) → RunsSteps leaf ro before now status
+  unread_runs meant text sent said taken =
+      steps.unopened taken (record { printed = record { meant = meant; text = text; said = said; sent = sent }; followed = stays; moments = safely; undrawn = undrawn })
+
+  pub unread_ends : (meant : Status) (text : List ℕ) → Sent before.written now.written before.sink_faults now.sink_faults meant text status → (meant ≡ Fault → Rose before.source_faults now.source_faults)
+      → (meant ≢ Fault → now.source_faults ≡ before.source_faults) → Ends before now status
+  unread_ends meant text sent rose quiet = ends_by before now meant status text sent (λ fault. inr (rose fault)) (λ fault. (faults, quiet fault)) home idles
+
+  -- by what refuses the script
+  pub refused_runs : (r : SourceRefusal) → (let result : Result (List Line) SourceRefusal = Err r in IfSome before.left (λ bytes. ReadsScript kinds.Steps bytes result)) → (let result : Result (List Line) SourceRefusal = Err r in IfSome before.left (λ bytes. LeavesOf bytes now.left result))
+      → (let result : Result (List Line) SourceRefusal = Err r in CountsFault before.source_faults now.source_faults result) → Sent before.written now.written before.sink_faults now.sink_faults (source_said r).0 (source_said r).1 status
+      → RunsSteps leaf ro before now status
+  refused_runs (source.Line number) reads left counts sent = unread_runs Usage (steps.broken_line number) sent (record { number = number; text_is = refl; first = where_some _ before.left reads }) (λ bytes told. part_taken bytes now.left (where_some _ before.left left bytes told))
+  refused_runs (source.Source fault) reads left counts sent =
+      unread_runs Fault (fault_line (codes "source") fault.count) sent (steps.of_source counts.0 (ap (fault_line (codes "source")) counts.1)) (where_some _ before.left left)
+  refused_runs source.NoRoom reads left counts sent = unread_runs NoMemory (codes "no memory\n") sent refl (where_some _ before.left left)
+
+  pub refused_ends : (r : SourceRefusal) → (let result : Result (List Line) SourceRefusal = Err r in CountsFault before.source_faults now.source_faults result)
+      → Sent before.written now.written before.sink_faults now.sink_faults (source_said r).0 (source_said r).1 status → Ends before now status
+  refused_ends (source.Line number) counts sent = unread_ends Usage (steps.broken_line number) sent (λ e. cc) (λ e. counts)
+  refused_ends (source.Source fault) counts sent = unread_ends Fault (fault_line (codes "source") fault.count) sent (λ e. counts.0) (λ e. absurd (e refl))
+  refused_ends source.NoRoom counts sent = unread_ends NoMemory (codes "no memory\n") sent (λ e. cc) (λ e. counts)
+
+-- a run of the leaf's name, by what its arguments are
+pub leaf_told : (named leaf : List ℕ) (mode m : Mode) (lines script : List Line) (old new : Hosted) (before now : Option (List (List ℕ))) (result : Result ScriptRun StepsRefusal) → named ≡ leaf → mode ≡ m → lines ≡ script
+    → LeafIsRun named mode lines old new before now result → LeafIsRun leaf m script old new before now result
+leaf_told named leaf mode m lines script old new before now result a b c h =
+    subst (λ n. LeafIsRun n m script old new before now result) a (subst (λ x. LeafIsRun named x script old new before now result) b (subst (λ ls. LeafIsRun named mode ls old new before now result) c h))

@@ -1,0 +1,58 @@
+-- What is said of a script's run, by what it gave.
+use Rattle.std.proofs.Common.{◌≡◌, ◌++◌, ℕ, List, Option, Some, None, Result, Ok, Err, sym, ap, subst, ◌∙◌}
+use Rattle.std.specs.Prelude.{String, codes, string_bytes}
+use Rattle.store_model.specs.declared.fault.StoreFault.{StoreFault}
+use Rattle.vx_base.specs.declared.NoRoom.{NoRoom}
+use Rattle.script.specs.declared.refusal.SourceRefusal.{SourceRefusal}
+use Rattle.script_session.specs.declared.session.ScriptRun.{ScriptRun}
+use Rattle.vhdx_app.specs.Answers.{fault_line}
+use Rattle.vhdx_app.specs.Printed.{Sent}
+use Rattle.vhdx_app.specs.Sessions.{ReportsRun, Said, lines_said, none_said, run_said, said_of, source_said}
+use Rattle.vhdx_app.specs.declared.refusal.StepsRefusal.{StepsRefusal}
+use Rattle.vhdx_app.specs.declared.status.Status.{Status}
+use Rattle.vhdx_app.specs.declared.status.Status.TheVariants.{Done, Fault, NoMemory}
+
+module _ (before after : Option (List ℕ)) (old new : ℕ) (status : Status) where
+  -- so it was said
+  abbrev pub IsSaid : Said → Type 0
+  IsSaid said = Sent before after old new said.0 said.1 status
+
+  said_by : (a b : Said) → a ≡ b → IsSaid b → IsSaid a
+  said_by a b same h = subst IsSaid (sym same) h
+
+  both_are : (text : List ℕ) (fault f : Option StoreFault) (closed c : Result (Unit {0}) StoreFault) → fault ≡ f → closed ≡ c → lines_said text fault closed ≡ lines_said text f c
+  both_are text fault f closed c a b = ap (λ x. lines_said text x closed) a ∙ ap (lines_said text f) b
+
+  pub told_whole : (text : List ℕ) (fault : Option StoreFault) (closed : Result (Unit {0}) StoreFault) (u : Unit {0}) → fault ≡ None → closed ≡ Ok u → Sent before after old new Done text status → IsSaid (lines_said text fault closed)
+  told_whole text fault closed u a b h = said_by (lines_said text fault closed) (lines_said text None (Ok u)) (both_are text fault None closed (Ok u) a b) h
+
+  pub told_at_end : (text : List ℕ) (fault : Option StoreFault) (closed : Result (Unit {0}) StoreFault) (f : StoreFault) → fault ≡ None → closed ≡ Err f → Sent before after old new Fault (text ++ fault_line (codes "store") f.count) status
+      → IsSaid (lines_said text fault closed)
+  told_at_end text fault closed f a b h = said_by (lines_said text fault closed) (lines_said text None (Err f)) (both_are text fault None closed (Err f) a b) h
+
+  pub told_in_lines : (text : List ℕ) (fault : Option StoreFault) (closed : Result (Unit {0}) StoreFault) (f : StoreFault) → fault ≡ Some f → Sent before after old new Fault text status → IsSaid (lines_said text fault closed)
+  told_in_lines text fault closed f a h = said_by (lines_said text fault closed) (lines_said text (Some f) closed) (ap (λ x. lines_said text x closed) a) h
+
+  pub none_at_end : (fault : Option StoreFault) (closed : Result (Unit {0}) StoreFault) (f : StoreFault) → closed ≡ Err f → Sent before after old new Fault (fault_line (codes "store") f.count) status → IsSaid (none_said fault closed)
+  none_at_end fault closed f b h = said_by (none_said fault closed) (none_said fault (Err f)) (ap (none_said fault) b) h
+
+  pub none_at_line : (fault : Option StoreFault) (closed : Result (Unit {0}) StoreFault) (f : StoreFault) (u : Unit {0}) → fault ≡ Some f → closed ≡ Ok u → Sent before after old new Fault (fault_line (codes "store") f.count) status
+      → IsSaid (none_said fault closed)
+  none_at_line fault closed f u a b h = said_by (none_said fault closed) (none_said (Some f) (Ok u)) (ap (λ x. none_said x closed) a ∙ ap (none_said (Some f)) b) h
+
+  pub none_at_all : (fault : Option StoreFault) (closed : Result (Unit {0}) StoreFault) (u : Unit {0}) → fault ≡ None → closed ≡ Ok u → Sent before after old new NoMemory (codes "no memory\n") status → IsSaid (none_said fault closed)
+  none_at_all fault closed u a b h = said_by (none_said fault closed) (none_said None (Ok u)) (ap (λ x. none_said x closed) a ∙ ap (none_said None) b) h
+
+  pub ran_lines : {Z : Type 0} (t : Result (String Z) NoRoom) (fault : Option StoreFault) (closed : Result (Unit {0}) StoreFault) (text : String Z) (bytes : List ℕ) → t ≡ Ok text → bytes ≡ string_bytes text → IsSaid (lines_said bytes fault closed)
+      → IsSaid (said_of t fault closed)
+  ran_lines t fault closed text bytes a b h =
+      said_by (said_of t fault closed) (lines_said (string_bytes text) fault closed) (ap (λ x. said_of x fault closed) a) (subst (λ x. IsSaid (lines_said x fault closed)) b h)
+
+  pub ran_none : {Z : Type 0} (t : Result (String Z) NoRoom) (fault : Option StoreFault) (closed : Result (Unit {0}) StoreFault) (e : NoRoom) → t ≡ Err e → IsSaid (none_said fault closed) → IsSaid (said_of t fault closed)
+  ran_none t fault closed e a h = said_by (said_of t fault closed) (none_said fault closed) (ap (λ x. said_of x fault closed) a) h
+
+  pub run_told : (result : Result ScriptRun StepsRefusal) (run : ScriptRun) → result ≡ Ok run → IsSaid (run_said run) → ReportsRun result before after old new status
+  run_told result run is h = subst (λ r. ReportsRun r before after old new status) (sym is) h
+
+  pub source_told : (refusal r : SourceRefusal) → refusal ≡ r → IsSaid (source_said r) → IsSaid (source_said refusal)
+  source_told refusal r is h = subst (λ x. IsSaid (source_said x)) (sym is) h

@@ -1,0 +1,27 @@
+use Rattle.link_rules.specs.Effects.{linked_names}
+use Rattle.link_rules.proofs.Composing.{still_idle}
+use Rattle.std.proofs.Common.{refl}
+use Rattle.vhdx_app.specs.Sessions.{over, unlinked}
+use Rattle.vhdx_app.specs.declared.refusal.ChainRefusal.TheVariants as chain
+use Rattle.vhdx_app.specs.declared.refusal.StepsRefusal.TheVariants as steps
+use Rattle.vhdx_app.proofs.Behind.{chain_in}
+use Rattle.vhdx_app.proofs.Said.{err_is}
+use Rattle.vhdx_app.proofs.steps.run_leaf.Goals as goal
+
+pub returns-in_err-linked : goal.returns-in_err-linked
+returns-in_err-linked g c =
+    let e = c.in_err-linked.ensures in
+    unlinked c.in_err-linked.field-0.0 (err_is c.from_residual-in_err-linked.result (steps.Chain (chain.Unlinked c.in_err-linked.field-0.0)) c.from_residual-in_err-linked.ensures.1) (record { answer = e.answer; moments = e.moments; left = e.leaves }) refl
+
+pub run_linked-requires-clause-idle : goal.run_linked-requires-clause-idle
+run_linked-requires-clause-idle g c = still_idle (linked_names c.in_ok-linked.linked) _ _ c.requires.idle c.in_ok-linked.ensures.leaves
+
+pub run_linked-requires-clause-chain : goal.run_linked-requires-clause-chain
+run_linked-requires-clause-chain g c =
+    let e = c.in_ok-linked.ensures in
+    chain_in c.args.leaf.now c.in_ok-linked.linked _ _ (record { links = e.answer; up = e.linked; moments = e.moments; replayed = e.leaves })
+
+pub returns : goal.returns
+returns g c =
+    let e = c.in_ok-linked.ensures in
+    over _ c.in_ok-linked.linked (record { links = e.answer; up = e.linked; moments = e.moments; replayed = e.leaves }) c.run_linked.ensures.ran c.run_linked.ensures.err

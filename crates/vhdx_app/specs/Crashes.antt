@@ -1,0 +1,47 @@
+-- What a crash may leave of a folder while a session goes on, and what that is opened to.
+use Rattle.std.specs.Prelude.{◌≡◌, ◌≤◌, ◌||◌, ⊤, ℕ, Bool, List, [], ◌∷◌, length, take, Some}
+use Rattle.store_model.specs.File.{File, seen}
+use Rattle.store_model.specs.Folder.{Held, IsFolderImage, fresh}
+use Rattle.store_model.specs.Trace.{NamedBytes}
+use Rattle.torn_match.specs.TornMatches.{HasNoTornMatch}
+use Rattle.guest_model.specs.Calls.{Disk}
+use Rattle.guest_model.specs.History.{History, replay}
+use Rattle.chain_model.specs.Files.{OpensWithin, files_in}
+use Rattle.chain_model.specs.Moments.{is_open}
+use Rattle.vhdx_format.specs.Fields.{sector_size}
+
+-- in no file of an image nothing that a crash tore passes for whole
+abbrev pub HaveNoTornMatch : List Held → List NamedBytes → Type 0
+HaveNoTornMatch [] [] = ⊤
+HaveNoTornMatch [] (f ∷ image) = ⊥
+HaveNoTornMatch (held ∷ folder) [] = ⊥
+HaveNoTornMatch (held ∷ folder) (f ∷ image) = ((file : File) → held.file ≡ Some file → HasNoTornMatch file f.bytes) × HaveNoTornMatch folder image
+
+-- What a crash may leave of a folder, without a torn match in any file.
+pub record IsCleanFolderImage (folder : List Held) (image : List NamedBytes) : Type 0 where
+  pub left : IsFolderImage folder image
+  pub whole : HaveNoTornMatch folder image
+
+-- each such image is opened, from the leaf's name, to a disk that is this one outside some sectors
+abbrev pub EachImageOpens : List ℕ → (ℕ → Bool) → Disk → List Held → Type 0
+EachImageOpens leaf among disk folder = (image : List NamedBytes) → IsCleanFolderImage folder image → OpensWithin (files_in image) leaf among disk
+
+-- The disk is that of the first m calls of the history, for some m, outside the sectors that are dirty then, those that the next call
+-- names, and those of a call that broke the session.
+pub record OpensToFirst (leaf : List ℕ) (opening : Disk) (h : History) (is_broken : ℕ → Bool) (folder : List Held) : Type 0 where
+  pub m : ℕ
+  pub within : m ≤ length h
+  pub opens : EachImageOpens leaf (λ s. is_open sector_size h m s || is_broken s) (replay sector_size opening (take m h)) folder
+
+-- A file while a session goes on: only the leaf is written; any other holds what it held, nothing of it being unsynced.
+pub data IsSpared (leaf : List ℕ) (held : Held) : Held → Type 0 where
+  is_leaf : (file : File) → held.name ≡ leaf → IsSpared leaf held (record held { file = Some file })
+  untouched : IsSpared leaf held held
+  attached : (file : File) → held.file ≡ Some file → IsSpared leaf held (record held { file = Some (fresh (seen file)) })
+
+-- so it is with each file of a folder
+abbrev pub AreSpared : List ℕ → List Held → List Held → Type 0
+AreSpared leaf [] [] = ⊤
+AreSpared leaf [] (later ∷ now) = ⊥
+AreSpared leaf (held ∷ folder) [] = ⊥
+AreSpared leaf (held ∷ folder) (later ∷ now) = IsSpared leaf held later × AreSpared leaf folder now

@@ -1,0 +1,283 @@
+-- What the functions of `steps` say of themselves; what a run promises doesn't rest on these.
+use Rattle.std.specs.Prelude.{◌≡◌, ◌≢◌, ◌⊎◌, ⊤, ◌<◌, ◌+◌, ◌++◌, ℕ, length, Bool, true, false, List, [], ◌∷◌, take, codes, Option, Some, None, Result, Ok, Err, IfErr, IfOk, IfSome, OnOk, String, string_bytes}
+use Rattle.file_open.specs.Causes.{Meaning, refuses, host_failed, store_failed, no_memory}
+use Rattle.make_file.specs.Identifiers.{Draws, first_unfit}
+use Rattle.store_model.specs.Cause.{Rose}
+use Rattle.store_model.specs.Disk.{Disk, WhereBothTold, WhereTold}
+use Rattle.store_model.specs.File.{is_sealed, is_synced, seen}
+use Rattle.store_model.specs.Folder.{Held, Hosted}
+use Rattle.store_model.specs.Moments.{LastReturnedCounts, Throughout}
+use Rattle.store_model.specs.Trace.{Trace, file_of}
+use Rattle.store_model.specs.declared.fault.StoreFault.{StoreFault}
+use Rattle.vhdx_format.specs.Fields.{sector_size}
+use Rattle.vx_base.specs.declared.NoRoom.{NoRoom}
+use Rattle.guest_model.specs.Calls.{Disk as GuestDisk}
+use Rattle.guest_model.specs.History.{History, replay}
+use Rattle.chain_model.specs.Files.{HasParts, OpensTo, at_rest}
+use Rattle.chain_model.specs.Images.{name_of}
+use Rattle.chain_model.specs.PhaseLaws.{IsNamedOnce}
+use Rattle.link_rules.specs.Causes.{AnswersLinking}
+use Rattle.link_rules.specs.Chains.{Links, names_of}
+use Rattle.link_rules.specs.Effects.{HasReplayed, LeavesBy, StaysIdle, linked_names}
+use Rattle.link_rules.specs.Causes as link
+use Rattle.link_rules.specs.Folders.{ReturnsHealthy, contents}
+use Rattle.link_rules.specs.Laws.{IsTheChain}
+use Rattle.link_rules.specs.Lines.{BeginsWith, IsLinkedUp}
+use Rattle.link_rules.specs.Touches.{IsOnWay, TouchesSafely}
+use Rattle.link_rules.specs.declared.linked.Linked.{Linked}
+use Rattle.link_rules.specs.declared.linked.LinkedFile.{LinkedFile}
+use Rattle.link_rules.specs.declared.refusal.LinkRefusal.{LinkRefusal}
+use Rattle.chain_core.specs.Starting.{BeginsHigh, BeginsInUse, EachOpensAlike, JudgesIds, drawn_ids}
+use Rattle.chain_core.specs.declared.starting.Mode.{Mode}
+use Rattle.chain_core.specs.declared.starting.Mode.TheVariants.{Guests, ReadOnly}
+use Rattle.chain_core.specs.declared.starting.NewIds.{NewIds}
+use Rattle.chain_core.specs.declared.starting.StartRefusal.{StartRefusal}
+use Rattle.chain_core.specs.declared.starting.StartRefusal.TheVariants as start
+use Rattle.script.specs.declared.form.Line.{Line}
+use Rattle.script.specs.declared.refusal.SourceRefusal.{SourceRefusal}
+use Rattle.script.specs.declared.refusal.SourceRefusal.TheVariants as source
+use Rattle.script_session.specs.Faults.{Counts}
+use Rattle.script_session.specs.Histories.{AreTold, Break}
+use Rattle.script_session.specs.Running.{open_by}
+use Rattle.script_session.specs.Told.{Told, last_fault, transcript}
+use Rattle.script_session.specs.declared.session.ScriptRun.{ScriptRun}
+use Rattle.vhdx_app.specs.Answers.{fault_line}
+use Rattle.vhdx_app.specs.Causes.{meaning_of_chain}
+use Rattle.vhdx_app.specs.Commands.{AreOpened, Reports}
+use Rattle.vhdx_app.specs.Crashes.{AreSpared, OpensToFirst}
+use Rattle.vhdx_app.specs.Folders.{AllHome, files_of}
+use Rattle.vhdx_app.specs.Making.{ShowIds}
+use Rattle.vhdx_app.specs.Printed.{Sent}
+use Rattle.vhdx_app.specs.Refusals.{Refusal}
+use Rattle.vhdx_app.specs.Refusals as refusals
+use Rattle.vhdx_app.specs.Steps.{broken_line, drive_over}
+use Rattle.vhdx_app.specs.declared.refusal.ChainRefusal.TheVariants as chain
+use Rattle.vhdx_app.specs.declared.refusal.StepsRefusal.{StepsRefusal}
+use Rattle.vhdx_app.specs.declared.refusal.StepsRefusal.TheVariants as steps
+use Rattle.vhdx_app.specs.declared.status.Status.{Status}
+use Rattle.vhdx_app.specs.declared.status.Status.TheVariants.{Done, Usage, Fault, NoMemory}
+
+abbrev pub mode_of : Bool → Mode
+mode_of true = ReadOnly
+mode_of false = Guests
+
+abbrev pub is_reading : Mode → Bool
+is_reading Guests = false
+is_reading ReadOnly = true
+
+-- what it says that a script wasn't run
+abbrev pub meaning_of_steps : StepsRefusal → Meaning Refusal
+meaning_of_steps (steps.Chain refusal) = meaning_of_chain refusal
+meaning_of_steps (steps.Spent number) = refuses (refusals.Spent number)
+meaning_of_steps (steps.IdUnfit id) = refuses (refusals.IdUnfit id)
+
+-- why a session doesn't start, as why a script isn't run
+abbrev pub of_start : StartRefusal → StepsRefusal
+of_start (start.Spent number) = steps.Spent number
+of_start (start.IdUnfit id) = steps.IdUnfit id
+of_start (start.Store fault) = steps.Chain (chain.Store fault)
+of_start start.NoRoom = steps.Chain chain.NoRoom
+
+-- ---- over a store
+
+-- a store's file is as it was lent, with this name and these numbers
+pub record IsLent (trace : Trace) (number : ℕ) (file : LinkedFile) : Type 0 where
+  pub name : name_of trace.attached number ≡ file.name
+  pub synced : is_synced (file_of trace number) ≡ true
+  pub unsealed : is_sealed (file_of trace number) ≡ false
+  pub reads : HasParts (at_rest (seen (file_of trace number))) (seen (file_of trace number)) file.parts
+
+abbrev pub AreLentFrom : Trace → ℕ → List LinkedFile → Type 0
+AreLentFrom trace number [] = ⊤
+AreLentFrom trace number (file ∷ files) = IsLent trace number file × AreLentFrom trace (number + 1) files
+
+-- the store has these files, as they were lent
+pub record AreLent (files : List LinkedFile) (trace : Trace) : Type 0 where
+  pub all : length files ≡ length trace.attached
+  pub once : IsNamedOnce trace
+  pub in_use : BeginsInUse files
+  pub each : AreLentFrom trace 0 files
+
+-- what a script that wasn't run leaves of the store's counts
+abbrev pub LeavesLent : {R : Type 0} → Disk → Disk → Meaning R → Type 0
+LeavesLent old new (refuses refusal) = new ≡ old
+LeavesLent old new (host_failed fault) = ⊥
+LeavesLent old new (store_failed fault) = Counts new fault
+LeavesLent old new no_memory = new ≡ old
+
+-- no rule refuses it: a fault, or want of memory
+abbrev pub IsNoRule : {R : Type 0} → Meaning R → Type 0
+IsNoRule (refuses refusal) = ⊥
+IsNoRule (host_failed fault) = ⊤
+IsNoRule (store_failed fault) = ⊤
+IsNoRule no_memory = ⊤
+
+abbrev pub HasCause : List LinkedFile → Disk → Option (List (List ℕ)) → Option (List (List ℕ)) → StepsRefusal → Type 0
+HasCause files disk before now (steps.Chain refusal) = IsNoRule (meaning_of_chain refusal)
+HasCause files disk before now (steps.Spent number) = BeginsHigh files number × (now ≡ before)
+HasCause files disk before now (steps.IdUnfit id) = (ids : NewIds) × JudgesIds files disk before now (Some id) ids
+
+-- A script wasn't run: whatever was changed of the leaf, the files open to the disk that they had.
+pub record HasNotRun (mode : Mode) (files : List LinkedFile) (old new : Disk) (before now : Option (List (List ℕ))) (refusal : StepsRefusal) : Type 0 where
+  pub left : LeavesLent old new (meaning_of_steps refusal)
+  pub cause : HasCause files old before now refusal
+  pub kept : (new.told ≡ old.told) ⊎ EachOpensAlike files old.told new.told
+  pub still : WhereBothTold (λ trace now. (other : ℕ) → other ≢ 0 → file_of now other ≡ file_of trace other) old.told new.told
+  pub reading : is_reading mode ≡ true → (new.told ≡ old.told) × (now ≡ before)
+
+-- ---- over a folder
+
+-- the first of some names
+abbrev pub first_of : List (List ℕ) → List ℕ
+first_of [] = []
+first_of (name ∷ others) = name
+
+-- the name that leads to what was linked
+abbrev pub leaf_name : Linked → List ℕ
+leaf_name linked = first_of (linked_names linked)
+
+-- what was linked is the chain of a folder's files, each as opening leaves it
+pub record IsChainIn (linked : Linked) (folder : List Held) : Type 0 where
+  pub opened : AreOpened (contents folder) linked.files
+  pub in_use : BeginsInUse linked.files
+  pub chain : IsTheChain (contents folder) (leaf_name linked) linked
+
+-- the host's count rose, and the store that came back last counts this fault
+pub record IsCounted (old new : Hosted) (fault : StoreFault) : Type 0 where
+  pub rose : Rose old.faults new.faults
+  pub some : 0 < fault.count
+  pub last : WhereTold old.folder (λ folder. LastReturnedCounts fault.count old new)
+
+-- three identifiers were drawn, and of those that are unfit this one is the first
+pub record JudgesDrawn (linked : Linked) (folder : Option (List Held)) (before now : Option (List (List ℕ))) (unfit : Option (List ℕ)) : Type 0 where
+  pub ids : NewIds
+  pub draws : Draws (drawn_ids ids) before now
+  pub known : List (List ℕ)
+  pub shown : WhereTold folder (λ f. ShowIds (contents f) linked.files known)
+  pub judged : first_unfit known (drawn_ids ids) ≡ unfit
+
+-- the leaf's name is opened to this disk
+abbrev pub OpensIn : Linked → List Held → (GuestDisk → Type 0) → Type 0
+OpensIn linked folder P = (disk : GuestDisk) → OpensTo (files_of folder) (leaf_name linked) disk → P disk
+
+-- What stands of the folder since the chain was opened, with a history of calls that were done.
+pub record Stands (mode : Mode) (linked : Linked) (h : History) (broken : Option Break) (folder : List Held) (old new : Hosted) : Type 0 where
+  pub moments : OpensIn linked folder (λ disk. Throughout (OpensToFirst (leaf_name linked) disk h (open_by broken)) old new)
+  pub spared : (file : LinkedFile) → BeginsWith file linked.files → Throughout (AreSpared file.name folder) old new
+  pub unchanged : is_reading mode ≡ true → WhereTold new.folder (λ after. (name : List ℕ) → contents after name ≡ contents folder name)
+  pub home : WhereTold new.folder AllHome
+
+-- and once it is at rest
+pub record Rests (linked : Linked) (h : History) (folder : List Held) (old new : Hosted) : Type 0 where
+  pub idle : StaysIdle old.folder new.folder
+  pub opens : OpensIn linked folder (λ disk. WhereTold new.folder (λ after. OpensTo (files_of after) (leaf_name linked) (replay sector_size disk h)))
+
+-- lines were told so over the folder
+pub record RanIn (mode : Mode) (linked : Linked) (lines : List Line) (told : List Told) (closed : Result (Unit {0}) StoreFault) (folder : List Held) (old new : Hosted) : Type 0 where
+  pub history : History
+  pub broken : Option Break
+  pub told_so : OpensIn linked folder (λ disk. AreTold (drive_over (is_reading mode) disk) 1 [] None lines told history broken)
+  pub stands : Stands mode linked history broken folder old new
+  pub rests : OnOk closed (Rests linked history folder old new)
+
+abbrev pub DrawsOver : Mode → Linked → Option (List Held) → Option (List (List ℕ)) → Option (List (List ℕ)) → Type 0
+DrawsOver Guests linked folder before now = JudgesDrawn linked folder before now None
+DrawsOver ReadOnly linked folder before now = now ≡ before
+
+-- A script ran over the chain.
+pub record RunOver (mode : Mode) (linked : Linked) (lines : List Line) (run : ScriptRun) (old new : Hosted) (before now : Option (List (List ℕ))) : Type 0 where
+  pub many : ℕ
+  pub told : List Told
+  pub whole : IfOk run.transcript (λ text. (take many lines ≡ lines) × (string_bytes text ≡ transcript (names_of linked.files) lines told))
+  pub fault_is : run.fault ≡ last_fault told
+  pub drawn : DrawsOver mode linked old.folder before now
+  pub counted : IfSome run.fault (IsCounted old new)
+  pub ended : IfErr run.closed (IsCounted old new)
+  pub quiet : run.fault ≡ None → OnOk run.closed (new.faults ≡ old.faults)
+  pub ran : WhereTold old.folder (λ folder. RanIn mode linked (take many lines) told run.closed folder old new)
+
+-- how the host's count goes with why a script wasn't run
+abbrev pub CountsRefusal : {R : Type 0} → Hosted → Hosted → Meaning R → Type 0
+CountsRefusal old new (refuses refusal) = new.faults ≡ old.faults
+CountsRefusal old new (host_failed fault) = Rose old.faults new.faults × (fault.count ≡ new.faults) × ReturnsHealthy old new
+CountsRefusal old new (store_failed fault) = IsCounted old new fault
+CountsRefusal old new no_memory = new.faults ≡ old.faults
+
+-- P, but where a call of a store failed
+abbrev pub UnlessStore : {R : Type 0} → Meaning R → Type 0 → Type 0
+UnlessStore (refuses refusal) P = P
+UnlessStore (host_failed fault) P = P
+UnlessStore (store_failed fault) P = ⊤
+UnlessStore no_memory P = P
+
+abbrev pub HasCauseIn : Linked → Option (List Held) → Option (List (List ℕ)) → Option (List (List ℕ)) → StepsRefusal → Type 0
+HasCauseIn linked folder before now (steps.Chain refusal) = IsNoRule (meaning_of_chain refusal)
+HasCauseIn linked folder before now (steps.Spent number) = BeginsHigh linked.files number × (now ≡ before)
+HasCauseIn linked folder before now (steps.IdUnfit id) = JudgesDrawn linked folder before now (Some id)
+
+-- A script wasn't run over the chain.
+pub record NotRunOver (mode : Mode) (linked : Linked) (old new : Hosted) (before now : Option (List (List ℕ))) (refusal : StepsRefusal) : Type 0 where
+  pub counts : CountsRefusal old new (meaning_of_steps refusal)
+  pub cause : HasCauseIn linked old.folder before now refusal
+  pub undrawn : is_reading mode ≡ true → now ≡ before
+  pub stands : WhereTold old.folder (λ folder. Stands mode linked [] None folder old new)
+  pub rests : UnlessStore (meaning_of_steps refusal) (WhereTold old.folder (λ folder. Rests linked [] folder old new))
+
+-- ---- a leaf's name
+
+-- the name leads to this chain, whose files were opened
+pub record IsFollowedTo (leaf : List ℕ) (linked : Linked) (old mid : Hosted) : Type 0 where
+  pub links : WhereTold old.folder (λ f. Links (contents f) leaf (Ok linked))
+  pub up : IsLinkedUp leaf linked
+  pub moments : TouchesSafely (λ f. IsOnWay (contents f) leaf) old mid
+  pub replayed : HasReplayed (linked_names linked) old mid
+
+-- it leads to none
+pub record IsNotFollowed (leaf : List ℕ) (refusal : LinkRefusal) (old new : Hosted) : Type 0 where
+  pub answer : WhereTold old.folder (λ f. (let result : Result Linked LinkRefusal = Err refusal in AnswersLinking (Links (contents f) leaf) result))
+  pub moments : TouchesSafely (λ f. IsOnWay (contents f) leaf) old new
+  pub left : LeavesBy old new (link.meaning_of refusal)
+
+-- A script was run over the chain to which a leaf's name leads, or it wasn't.
+pub data LeafIsRun (leaf : List ℕ) (mode : Mode) (lines : List Line) (old new : Hosted) (before now : Option (List (List ℕ))) (result : Result ScriptRun StepsRefusal) : Type 0 where
+  no_room : result ≡ Err (steps.Chain chain.NoRoom) → new ≡ old → now ≡ before → LeafIsRun leaf mode lines old new before now result
+  unlinked : (refusal : LinkRefusal) → result ≡ Err (steps.Chain (chain.Unlinked refusal)) → IsNotFollowed leaf refusal old new → now ≡ before
+      → LeafIsRun leaf mode lines old new before now result
+  over : (mid : Hosted) (linked : Linked) → IsFollowedTo leaf linked old mid → IfOk result (λ run. RunOver mode linked lines run mid new before now)
+      → IfErr result (NotRunOver mode linked mid new before now) → LeafIsRun leaf mode lines old new before now result
+
+-- ---- what is printed
+
+-- a status with its text
+abbrev pub Said : Type 0
+Said = Status × List ℕ
+
+-- of a transcript, with the last fault that refused a line and how the session ended
+abbrev pub lines_said : List ℕ → Option StoreFault → Result (Unit {0}) StoreFault → Said
+lines_said text None (Ok done) = (Done, text)
+lines_said text None (Err fault) = (Fault, text ++ fault_line (codes "store") fault.count)
+lines_said text (Some refused) closed = (Fault, text)
+
+-- and where there is none
+abbrev pub none_said : Option StoreFault → Result (Unit {0}) StoreFault → Said
+none_said refused (Err fault) = (Fault, fault_line (codes "store") fault.count)
+none_said (Some fault) (Ok done) = (Fault, fault_line (codes "store") fault.count)
+none_said None (Ok done) = (NoMemory, codes "no memory\n")
+
+abbrev pub said_of : {Z : Type 0} → Result (String Z) NoRoom → Option StoreFault → Result (Unit {0}) StoreFault → Said
+said_of (Ok text) refused closed = lines_said (string_bytes text) refused closed
+said_of (Err e) refused closed = none_said refused closed
+
+abbrev pub run_said : ScriptRun → Said
+run_said run = said_of run.transcript run.fault run.closed
+
+-- what became of a script was said
+abbrev pub ReportsRun : Result ScriptRun StepsRefusal → Option (List ℕ) → Option (List ℕ) → ℕ → ℕ → Status → Type 0
+ReportsRun (Ok run) before after old new status = Sent before after old new (run_said run).0 (run_said run).1 status
+ReportsRun (Err refusal) before after old new status = Reports (meaning_of_steps refusal) before after old new status
+
+-- and why none was read
+abbrev pub source_said : SourceRefusal → Said
+source_said (source.Line number) = (Usage, broken_line number)
+source_said (source.Source fault) = (Fault, fault_line (codes "source") fault.count)
+source_said source.NoRoom = (NoMemory, codes "no memory\n")

@@ -1,0 +1,82 @@
+//! Printing what became of a script.
+
+ghost use Rattle.std.specs.Prelude.{◌++◌, codes};
+ghost use Rattle.vhdx_app.specs.Answers.{fault_line};
+ghost use Rattle.vhdx_app.specs.Printed.{Sent};
+ghost use Rattle.vhdx_app.specs.Sessions.{ReportsRun};
+ghost use Rattle.vhdx_app.specs.Sessions as spec;
+
+use crate::print::{deliver, out_of_memory, send};
+use crate::refusal::StepsRefusal;
+use crate::refusing::{fail, refuse_steps};
+use crate::status::Status;
+use script_session::ScriptRun;
+use std::alloc::Global;
+use store_model::{Sink, StoreFault};
+use vx_base::NoRoom;
+
+// Prints a transcript and, behind it, the line of a fault by which the session's end failed.
+fn say_with<K: Sink>(out: &mut K, text: &[u8], fault: StoreFault) -> Status
+    ensures { Sent (K.written out.old) (K.written out.new) (K.faults out.old) (K.faults out.new) Status.Fault (text.now ++ fault_line (codes "store") fault.count) result }
+{
+    match send(out, text) {
+        Ok(()) => fail(out, b"store", fault.count),
+        Err(_) => Status::Fault,
+    }
+}
+
+// Prints the transcript of a script of which all lines were run.
+fn say_lines<K: Sink>(
+    out: &mut K,
+    text: &[u8],
+    fault: Option<StoreFault>,
+    closed: Result<(), StoreFault>,
+) -> Status
+    ensures { let said = spec.lines_said text.now fault closed in Sent (K.written out.old) (K.written out.new) (K.faults out.old) (K.faults out.new) said.0 said.1 result }
+{
+    match (fault, closed) {
+        (None, Ok(())) => deliver(out, Status::Done, text),
+        (None, Err(fault)) => say_with(out, text, fault),
+        (Some(_), _) => deliver(out, Status::Fault, text),
+    }
+}
+
+// Prints what is told where memory ran out: a fault, if there was one.
+fn say_none<K: Sink>(
+    out: &mut K,
+    fault: Option<StoreFault>,
+    closed: Result<(), StoreFault>,
+) -> Status
+    ensures { let said = spec.none_said fault closed in Sent (K.written out.old) (K.written out.new) (K.faults out.old) (K.faults out.new) said.0 said.1 result }
+{
+    match (closed, fault) {
+        (Err(fault), _) => fail(out, b"store", fault.count),
+        (Ok(()), Some(fault)) => fail(out, b"store", fault.count),
+        (Ok(()), None) => out_of_memory(out),
+    }
+}
+
+// Prints what a script's session gave.
+fn show_ran<K: Sink>(out: &mut K, run: ScriptRun) -> Status
+    ensures { let said = spec.run_said run in Sent (K.written out.old) (K.written out.new) (K.faults out.old) (K.faults out.new) said.0 said.1 result }
+{
+    let ScriptRun {
+        transcript,
+        fault,
+        closed,
+    } = run;
+    match transcript {
+        Ok(text) => say_lines(out, text.as_bytes(), fault, closed),
+        Err(NoRoom) => say_none(out, fault, closed),
+    }
+}
+
+/// Prints what became of a script: its transcript, or why it wasn't run.
+pub fn show_run<K: Sink>(alloc: Global, out: &mut K, run: Result<ScriptRun, StepsRefusal>) -> Status
+    ensures { ReportsRun run (K.written out.old) (K.written out.new) (K.faults out.old) (K.faults out.new) result }
+{
+    match run {
+        Ok(run) => show_ran(out, run),
+        Err(refusal) => refuse_steps(alloc, out, refusal),
+    }
+}
