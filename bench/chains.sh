@@ -2,36 +2,23 @@
 # Chains: 256 MB read through three files, each child owning every second 64 KB, by `steps --read-only`, by libvhdi over the same files,
 # and by qemu-io over a qcow2 chain of the same shape; the opening of a chain of 64 clean files; and reads of what the base alone owns
 # through 1, 8 and 64 files. Run by hand; needs the kit, and the packages qemu-utils, python3-libvhdi and time.
-set -e
-top=$(cd "$(dirname "$0")/.." && pwd)
-work=$(mktemp -d)
-trap 'rm -rf "$work"' EXIT
-cd "$work"
-"$top/vhdx" --version > /dev/null
-program=$top/crates/vhdx/out/vhdx
+. "$(dirname "$0")/common.sh"
 
-awk 'BEGIN { for (i = 0; i < 256; i++) printf "write %d 2048 %02x\n", 2048 * i, i; print "flush" }' > all
 awk 'BEGIN { for (i = 0; i < 2048; i++) printf "write %d 128 a1\n", 256 * i; print "flush" }' > even
 awk 'BEGIN { for (i = 0; i < 2048; i++) printf "write %d 128 b2\n", 256 * i + 128; print "flush" }' > odd
-awk 'BEGIN { for (i = 0; i < 256; i++) printf "read %d 2048\n", 2048 * i }' > read
-as_qemu() {
-  awk '$1 == "write" { printf "write -q -P 0x%s %d %d\n", $4, 512 * $2, 512 * $3 }
-       $1 == "read" { printf "read -q %d %d\n", 512 * $2, 512 * $3 }
-       $1 == "flush" { print "flush" }' "$1" > "$1.qemu"
-}
-for calls in all even odd read; do as_qemu "$calls"; done
+as_qemu fill even odd read
 
 # The best of five runs: seconds and peak memory.
 best() { for _ in 1 2 3 4 5; do /usr/bin/time -f '%e s %M KB' "$@" 2>&1 > /dev/null | tail -n 1; done | sort -n | head -n 1; }
 
 "$program" make dynamic v0.vhdx --sectors 524288 > /dev/null
-"$program" steps v0.vhdx < all > /dev/null
+"$program" steps v0.vhdx < fill > /dev/null
 "$program" make child v1.vhdx --parent v0.vhdx > /dev/null
 "$program" steps v1.vhdx < even > /dev/null
 "$program" make child v2.vhdx --parent v1.vhdx > /dev/null
 "$program" steps v2.vhdx < odd > /dev/null
 qemu-img create -q -f qcow2 q0.qcow2 256M
-qemu-io -f qcow2 q0.qcow2 < all.qemu > /dev/null
+qemu-io -f qcow2 q0.qcow2 < fill.qemu > /dev/null
 qemu-img create -q -f qcow2 -b q0.qcow2 -F qcow2 q1.qcow2
 qemu-io -f qcow2 q1.qcow2 < even.qemu > /dev/null
 qemu-img create -q -f qcow2 -b q1.qcow2 -F qcow2 q2.qcow2
@@ -69,7 +56,7 @@ qemu-img convert -O raw q2.qcow2 raw.img
 echo "libvhdi reads the qcow2's disk: $( [ "$(/usr/bin/python3 libvhdi.py sum v2.vhdx v1.vhdx v0.vhdx)" = "$(sha256sum < raw.img | cut -d' ' -f1)" ] && echo yes || echo NO )"
 
 "$program" make dynamic f1.vhdx --sectors 524288 > /dev/null
-"$program" steps f1.vhdx < all > /dev/null
+"$program" steps f1.vhdx < fill > /dev/null
 for i in $(seq 2 64); do "$program" make child "f$i.vhdx" --parent "f$((i - 1)).vhdx" > /dev/null; done
 echo "opening 64 files:            info $(best "$program" info f64.vhdx)"
 for i in 1 8 64; do echo "256 MB of the base, $i files: steps $(best bash -c "ours f$i.vhdx read")"; done

@@ -3,28 +3,14 @@
 # new file, 65,536 writes of 4 KB into the blocks that are there then, 4,096 writes of 4 KB that each allocate a block of 1 MB, and
 # 256 reads of 1 MB. qemu-io's cache is writeback, so that it syncs where the format or a flush asks for it, as `steps` does.
 # Run by hand; needs the kit, and the packages qemu-utils and time.
-set -e
-top=$(cd "$(dirname "$0")/.." && pwd)
-work=$(mktemp -d)
-trap 'rm -rf "$work"' EXIT
-cd "$work"
-"$top/vhdx" --version > /dev/null
-program=$top/crates/vhdx/out/vhdx
+. "$(dirname "$0")/common.sh"
 
-awk 'BEGIN { for (i = 0; i < 256; i++) printf "write %d 2048 %02x\n", 2048 * i, i; print "flush" }' > fill
 awk 'BEGIN { for (i = 0; i < 65536; i++) printf "write %d 8 5a\n", 8 * (i * 40503 % 65536); print "flush" }' > small
 awk 'BEGIN { for (i = 0; i < 4096; i++) printf "write %d 8 5a\n", 2048 * (i * 2531 % 4096) + 1024; print "flush" }' > spread
-awk 'BEGIN { for (i = 0; i < 256; i++) printf "read %d 2048\n", 2048 * i }' > read
 
-# The same calls in qemu-io's words, which counts bytes.
-as_qemu() {
-  awk '$1 == "write" { printf "write -q -P 0x%s %d %d\n", $4, 512 * $2, 512 * $3 }
-       $1 == "read" { printf "read -q %d %d\n", 512 * $2, 512 * $3 }
-       $1 == "flush" { print "flush" }' "$1" > "$1.qemu"
-}
-for calls in fill small spread read; do as_qemu "$calls"; done
+as_qemu fill small spread read
 
-# Milliseconds and peak memory of a script over a file.
+# Seconds and peak memory of a script over a file.
 ours() { /usr/bin/time -f '%e s %M KB' "$program" steps ours.vhdx < "$1" 2>&1 > /dev/null | tail -n 1; }
 qemu() { /usr/bin/time -f '%e s %M KB' qemu-io -f vhdx -t writeback qemu.vhdx < "$1.qemu" 2>&1 > /dev/null | tail -n 1; }
 both() { printf '%-28s steps %-20s qemu-io %s\n' "$1" "$(ours "$2")" "$(qemu "$2")"; }

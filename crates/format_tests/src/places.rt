@@ -52,6 +52,9 @@ fn bits_are_set_in_ranges(rt: HostRuntime) {
     set_range(&mut bits, 9, 3, true);
     assert_eq!(rt; bits, [0x3f, 0x0e, 0, 0xfc]);
     assert!(rt; get(&bits, 9) && !get(&bits, 8));
+    let mut clear = [0u8; 2];
+    set_range(&mut clear, 3, 8, true);
+    assert_eq!(rt; clear, [0xf8, 0x07]);
 }
 
 fn run(first: usize, count: usize, set: bool) -> Run {

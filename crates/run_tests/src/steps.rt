@@ -7,7 +7,7 @@ ghost use Rattle.store_model.specs.Disk.{WhereTold};
 
 use crate::common::{
     Case, PLAIN, bytes_of, each_ends, empty_host, host_after, host_with, ids_of, line_of, prepare,
-    run_line, run_script,
+    run_line, run_script, stands,
 };
 use mem_store::{Crash, MemHost, MemSink, Pick};
 use std::alloc::Global;
@@ -134,19 +134,41 @@ fn places_of_blocks(rt: HostRuntime) -> Result<(), Fail> {
     Ok(())
 }
 
-// A child's block becomes partly present, with its bitmap block.
+// Blocks of a child become partly present, with the bitmap block of their chunk, and bytes that stand then in the file.
+const IN_TWO_BLOCKS: [(usize, [u8; 8]); 3] = [
+    (3_145_728, [7, 0, 0x50, 0, 0, 0, 0, 0]),
+    (3_145_736, [7, 0, 0x70, 0, 0, 0, 0, 0]),
+    (3_162_112, [6, 0, 0x40, 0, 0, 0, 0, 0]),
+];
+
+const IN_THE_SECOND_CHUNK: [(usize, [u8; 8]); 3] = [
+    (3_162_120, [7, 0, 0x50, 0, 0, 0, 0, 0]),
+    (3_178_504, [6, 0, 0x40, 0, 0, 0, 0, 0]),
+    (4_194_304, [2, 0, 0, 0, 0, 0, 0, 0]),
+];
+
+const FAR_WRITE: Case = Case {
+    before: &["make dynamic b.vhdx --sectors 16777216", CHILD],
+    line: "steps c.vhdx",
+    script: "write 8388609 1 aa\nread 8388608 3\n",
+    text: "1 write 8388609 1 aa = done\n2 read 8388608 3 = 512*00 512*aa 512*00\n",
+    ..PLAIN
+};
+
 #[test]
 fn blocks_of_a_child(rt: HostRuntime) -> Result<(), Fail> {
-    let host = host_after(&rt, rt.alloc(), &TOLD[5])?.ok_or("not told so")?;
-    let file = bytes_of(&host, "c.vhdx").ok_or("no file")?;
-    assert_eq!(rt; file.len(), 9_437_184);
-    let entries: [(usize, [u8; 8]); 3] = [
-        (3_145_728, [7, 0, 0x50, 0, 0, 0, 0, 0]),
-        (3_145_736, [7, 0, 0x70, 0, 0, 0, 0, 0]),
-        (3_162_112, [6, 0, 0x40, 0, 0, 0, 0, 0]),
+    let rows = [
+        (TOLD[5], 9_437_184, IN_TWO_BLOCKS),
+        (FAR_WRITE, 7_340_032, IN_THE_SECOND_CHUNK),
     ];
-    for (at, entry) in entries {
-        assert_eq!(rt; &file[at..at + 8], entry.as_slice(), "{at}");
+    for (case, len, parts) in rows {
+        let host = host_after(&rt, rt.alloc(), &case)?.ok_or("not told so")?;
+        let file = bytes_of(&host, "c.vhdx").ok_or("no file")?;
+        assert_eq!(rt; file.len(), len);
+        assert!(rt;
+            parts.iter().all(|(at, bytes)| stands(file, *at, bytes)),
+            "{len}"
+        );
     }
     Ok(())
 }
@@ -231,7 +253,8 @@ fn crashes_of_a_session(rt: HostRuntime) -> Result<(), Fail> {
 
 const TO_BREAK: &str = "write 0 1 aa\nflush\nread 0 1\nflush\n";
 
-const UNBROKEN: &str = "1 write 0 1 aa = done\n2 flush = done\n3 read 0 1 = 512*aa\n4 flush = done\n";
+const UNBROKEN: &str =
+    "1 write 0 1 aa = done\n2 flush = done\n3 read 0 1 = 512*aa\n4 flush = done\n";
 
 const BROKEN: &str =
     "1 write 0 1 aa = done\n- flush = refused 35 Broken d.vhdx count 1\n- read 0 1 = refused 35 Broken d.vhdx count 1\n- flush = refused 35 Broken d.vhdx count 1\n";
@@ -267,14 +290,7 @@ fn failing_calls(rt: HostRuntime) -> Result<(), Fail> {
         let bytes = bytes_of(&host, "d.vhdx").ok_or("no file")?;
         let mut again = host_with(alloc, "d.vhdx", bytes)?;
         let mut ids = ids_of(alloc, &[[7; 16], [8; 16], [9; 16]])?;
-        let (status, out) = run_script(
-            &rt,
-            alloc,
-            "steps d.vhdx",
-            TO_BREAK,
-            &mut again,
-            &mut ids,
-        )?;
+        let (status, out) = run_script(&rt, alloc, "steps d.vhdx", TO_BREAK, &mut again, &mut ids)?;
         assert_eq!(rt; status, Status::Done, "{call}");
         assert!(rt; out.bytes.as_slice() == UNBROKEN.as_bytes(), "{call}");
     }

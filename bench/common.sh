@@ -1,0 +1,21 @@
+# What the measurements of the program share: a folder of their own, the program, and scripts in qemu-io's words.
+set -e
+top=$(cd "$(dirname "$0")/.." && pwd)
+work=$(mktemp -d)
+trap 'rm -rf "$work"' EXIT
+cd "$work"
+"$top/vhdx" --version > /dev/null
+program=$top/crates/vhdx/out/vhdx
+
+# The calls of scripts once more, as qemu-io takes them: it counts bytes.
+as_qemu() {
+  for calls in "$@"; do
+    awk '$1 == "write" { printf "write -q -P 0x%s %d %d\n", $4, 512 * $2, 512 * $3 }
+         $1 == "read" { printf "read -q %d %d\n", 512 * $2, 512 * $3 }
+         $1 == "flush" { print "flush" }' "$calls" > "$calls.qemu"
+  done
+}
+
+# 256 MB by 1 MB: written, and read.
+awk 'BEGIN { for (i = 0; i < 256; i++) printf "write %d 2048 %02x\n", 2048 * i, i; print "flush" }' > fill
+awk 'BEGIN { for (i = 0; i < 256; i++) printf "read %d 2048\n", 2048 * i }' > read
