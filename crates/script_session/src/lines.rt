@@ -67,10 +67,7 @@ fn push_line<N: AsStr>(
 }
 
 // The fault of the store that refused this call, or else the one before it.
-fn later_of(
-    earlier: Option<StoreFault>,
-    answer: Result<u64, ChainRefusal>,
-) -> Option<StoreFault>
+fn later_of(earlier: Option<StoreFault>, answer: Result<u64, ChainRefusal>) -> Option<StoreFault>
     ensures { (reply : Reply) → result ≡ later_of earlier (fault_of (with_reply reply answer)) }
 {
     match answer {
