@@ -9,11 +9,12 @@ mod preparing;
 mod read_layer;
 mod reading;
 mod steps;
+mod updating;
 mod writing;
 
 pub use file::{Layer, LayerFault};
 pub use laws::{
-    commits_are_served, layers_are_added, layers_are_kept, layers_stand, places_are_taken,
-    writes_are_served,
+    commits_are_served, layers_are_added, layers_are_kept, layers_stand, pages_turn,
+    places_are_taken, writes_are_served,
 };
 pub use read_layer::{ReadLayer, own_through, read_layers_stand};
