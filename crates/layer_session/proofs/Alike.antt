@@ -18,7 +18,7 @@ use Rattle.log_write.specs.Sessions.{IsKept}
 use Rattle.layer_session.specs.Keeping.{IsTablePlace, StandsAt, bitmap as bitmap_place, entries, metadata, regions}
 use Rattle.chain_model.specs.Images.{metadata_of}
 use Rattle.layer_session.proofs.Numbers.{are_numbers, part_alike, same_metadata, same_numbers}
-use Rattle.layer_file.proofs.Sectors.{in_block, read_back}
+use Rattle.layer_session.proofs.Sectors.{in_block, read_back}
 
 -- the sizes of a file of these numbers
 pub record AreSizes (parts : Parts) : Type 0 where

@@ -28,7 +28,7 @@ use Rattle.layer_session.proofs.Alike.{not_true}
 use Rattle.layer_session.proofs.Beside.{among}
 use Rattle.layer_session.proofs.Crashes.{IsSafe, safe_of, shown}
 use Rattle.layer_session.proofs.Payload.{within}
-use Rattle.layer_file.proofs.Sectors.{in_block}
+use Rattle.layer_session.proofs.Sectors.{in_block}
 
 module _ (l : Layer) (trace : Trace) (file : Placed) (serves : Serves l trace file) where
   abbrev F : File

@@ -15,7 +15,7 @@ use Rattle.layer_session.specs.Calls.{is_among}
 use Rattle.layer_session.specs.Keeping.{AreBeside, IsRunAt, IsTablePlace, StandsAt, bitmap as bitmap_place, entries, metadata, regions}
 use Rattle.layer_session.proofs.Alike.{AreSizes, IsInFile, block_in_file, block_kept, off_range}
 use Rattle.layer_session.proofs.Places.{in_run, same_sector}
-use Rattle.layer_file.proofs.Sectors.{in_block}
+use Rattle.layer_session.proofs.Sectors.{in_block}
 
 pub among : (first count s : ℕ) → first ≤ s → s < first + count → is_among first count s ≡ true
 among first count s from to = let a = le-leb first s from in let b = lt-ltb s (first + count) to in rw (a, b) refl

@@ -1,8 +1,10 @@
 -- What a layer serves after a commit.
-use Rattle.std.proofs.Common.{◌≡◌, ℕ, ◌+◌, ◌<◌, ◌≤◌, true, All, List, [], ◌∷◌, length, map, get_or, refl, sym, subst, ◌∙◌, arith, inr}
+use Rattle.std.proofs.Common.{◌≡◌, ℕ, ◌+◌, ◌*◌, ◌%◌, ◌<◌, ◌≤◌, Bool, true, All, List, [], ◌∷◌, length, map, get_or, refl, sym, subst, ◌∙◌, arith, inr}
 use Rattle.std.specs.Prelude.{Ok}
 use Rattle.std.proofs.lemmas.List.Elements.{All-map}
 use Rattle.vx_base.specs.declared.parts.Header.{Header}
+use Rattle.vx_base.specs.declared.parts.Parts.{Parts}
+use Rattle.vhdx_format.specs.Fields.{megabyte}
 use Rattle.vhdx_format.specs.declared.log_entry.Page.{Page}
 use Rattle.vhdx_format.specs.Crashes.{IsOutside}
 use Rattle.vhdx_format.specs.FileParts.{read_parts, shape_of, taken_areas}
@@ -12,6 +14,7 @@ use Rattle.vhdx_format.specs.SettledFiles.{with_updates}
 use Rattle.store_model.specs.File.{seen}
 use Rattle.store_model.specs.Trace.{Trace, file_of}
 use Rattle.table_pages.specs.Held.{AreTables, held}
+use Rattle.table_pages.specs.Pages.{is_kept}
 use Rattle.table_pages.proofs.Changing.{stand_after_commit, stand_beside_writes}
 use Rattle.table_pages.proofs.Laying.{part_same}
 use Rattle.table_pages.proofs.Words.{held_long}
@@ -23,10 +26,11 @@ use Rattle.block_alloc.specs.Spaces as spaces
 use Rattle.chain_model.specs.Images.{Placed, metadata_of, name_of}
 use Rattle.layer_session.specs.declared.file.Layer.{Layer}
 use Rattle.layer_session.specs.Calls.{settled}
-use Rattle.layer_session.specs.Keeping.{AreBeside, Covers, HasSpace, IsLayerOf, IsNobodys, IsPlaced, IsTablePlace, Serves, area_of}
-use Rattle.layer_session.proofs.Alike.{holds_alike, layer_alike, metadata_alike, numbers_alike, places_alike, places_stay, sector_kept, sound_alike}
+use Rattle.chain_model.specs.Members.{ties_of}
+use Rattle.layer_session.specs.Keeping.{AreBeside, Covers, HasSpace, IsHeld, IsLayerOf, IsNobodys, IsPlaced, IsTablePlace, Serves, area_of}
+use Rattle.layer_session.proofs.Alike.{AreSizes, holds_alike, layer_alike, metadata_alike, numbers_alike, places_alike, places_stay, sector_kept, sound_alike}
 use Rattle.layer_session.proofs.Apart.{beside_self}
-use Rattle.layer_session.proofs.Crashes.{IsSafe, safe_of}
+use Rattle.layer_session.proofs.Crashes.{safe_of}
 
 -- the layer behind a commit
 abbrev pub layer_behind : Layer → LogState → Layer
@@ -40,9 +44,56 @@ same_header : (log : LogState) (pages : List Page) → (committed log pages).hea
 same_header log [] = refl
 same_header log (page ∷ pages) = refl
 
-module _ (l : Layer) (trace new : Trace) (file : Placed) (serves : Serves l trace file) (attached : new.attached ≡ trace.attached)
+-- What a commit needs of a layer: as held, with the changed pages that it takes laid over it, the file is this member.
+pub record IsWhole (l : Layer) (trace : Trace) (file : Placed) (parts : Parts) (tables : ℕ → Bool) : Type 0 where
+  pub within : file.number < length trace.attached
+  pub number : file.number ≡ l.tables.parts.file
+  pub name : name_of trace.attached file.number ≡ file.member.name
+  pub header : parts.header ≡ l.log.header
+  pub ties : file.member.ties ≡ ties_of parts
+  pub metadata : file.metadata ≡ metadata_of parts (held l.tables.pending (seen (file_of trace file.number)))
+  pub as_held : IsHeld l parts file.member.layer (seen (file_of trace file.number))
+  pub sizes : AreSizes parts
+  pub long : 327680 ≤ length (held l.tables.pending (seen (file_of trace file.number)))
+  pub covered_held : Covers parts (held l.tables.pending (seen (file_of trace file.number))) tables
+  pub only : (i : ℕ) → tables i ≡ true → IsTablePlace parts (held l.tables.pending (seen (file_of trace file.number))) i
+  pub kept : (at i : ℕ) → at % 4096 ≡ 0 → is_kept at l.tables.cache ≡ true → at ≤ i → i < at + 4096 → tables i ≡ true
+  pub next : length (seen (file_of trace file.number)) ≤ l.space.next * megabyte
+  pub tight : l.space.next * megabyte < length (seen (file_of trace file.number)) + megabyte
+  pub placed : All (λ (f : Freed). IsPlaced parts (length (seen (file_of trace file.number))) (area_of f)) l.space.freed
+  pub freed : All (λ (f : Freed). IsNobodys parts (held l.tables.pending (seen (file_of trace file.number))) (area_of f)) l.space.freed
+
+-- so it is with what a layer serves
+pub whole_of : (l : Layer) (trace : Trace) (file : Placed) (serves : Serves l trace file) → IsWhole l trace file serves.parts serves.tables
+whole_of l trace file serves =
+    let sf = safe_of l trace file serves in
+    let sp = serves.space in
+    record {
+      within = serves.within;
+      number = serves.number;
+      name = serves.name;
+      header = serves.header;
+      ties = serves.ties;
+      metadata = serves.metadata;
+      as_held = serves.as_held;
+      sizes = sf.sizes;
+      long =
+          let a = sf.long in
+          let b = serves.committed.long in
+          let c : length (held l.tables.pending (seen (file_of trace file.number))) ≡ length (seen (file_of trace file.number)) = held_long l.tables.parts (seen (file_of trace file.number)) l.tables.pending l.tables.cache serves.as_held.pages in
+          omega (arith, a, b, c);
+      covered_held = serves.covered_held;
+      only = serves.only;
+      kept = serves.kept;
+      next = sp.next;
+      tight = sp.tight;
+      placed = sp.placed;
+      freed = sp.freed;
+    }
+
+module _ (l : Layer) (trace new : Trace) (file : Placed) (parts : Parts) (tables : ℕ → Bool) (is_whole : IsWhole l trace file parts tables) (attached : new.attached ≡ trace.attached)
     (content : HasCommittedPages l.log l.tables.pending (seen (file_of trace file.number)) (seen (file_of new file.number)))
-    (running : IsRunning (committed l.log l.tables.pending) serves.tables (length (seen (file_of new file.number))) nowhere (file_of new file.number)) where
+    (running : IsRunning (committed l.log l.tables.pending) tables (length (seen (file_of new file.number))) nowhere (file_of new file.number)) where
   abbrev old : List ℕ
   old = seen (file_of trace file.number)
 
@@ -53,13 +104,10 @@ module _ (l : Layer) (trace new : Trace) (file : Placed) (serves : Serves l trac
   h = held l.tables.pending old
 
   abbrev q : Shape
-  q = shape_of serves.parts
-
-  sf : IsSafe serves.parts serves.tables serves.written file.is_loose file.member.layer serves.bytes old
-  sf = safe_of l trace file serves
+  q = shape_of parts
 
   long_held : length h ≡ length old
-  long_held = held_long l.tables.parts old l.tables.pending l.tables.cache serves.as_held.pages
+  long_held = held_long l.tables.parts old l.tables.pending l.tables.cache is_whole.as_held.pages
 
   same_long : length X ≡ length h
   same_long = let a = content.long in omega (arith, a, long_held)
@@ -67,94 +115,90 @@ module _ (l : Layer) (trace new : Trace) (file : Placed) (serves : Serves l trac
   longer : length h ≤ length X
   longer = omega (arith, same_long)
 
-  byte_same : (i : ℕ) → IsOutside serves.parts.header.log_at serves.parts.header.log_len i → get_or X i 0 ≡ get_or h i 0
+  byte_same : (i : ℕ) → IsOutside parts.header.log_at parts.header.log_len i → get_or X i 0 ≡ get_or h i 0
   unfolding held
-  byte_same i o = content.same i (subst (λ (k : Header). IsOutside k.log_at k.log_len i) serves.header o)
+  byte_same i o = content.same i (subst (λ (k : Header). IsOutside k.log_at k.log_len i) is_whole.header o)
 
-  table_same : (i : ℕ) → IsTablePlace serves.parts h i → i < length h → get_or X i 0 ≡ get_or h i 0
-  table_same i t below = byte_same i (serves.covered_held.beside i t).log
+  table_same : (i : ℕ) → IsTablePlace parts h i → i < length h → get_or X i 0 ≡ get_or h i 0
+  table_same i t below = byte_same i (is_whole.covered_held.beside i t).log
 
-  long : 327680 ≤ length h
-  long = let a = sf.long in let b = serves.committed.long in omega (arith, a, b, long_held)
+  numbers_then : read_parts parts.header X ≡ Ok parts
+  numbers_then = numbers_alike parts h X longer is_whole.sizes is_whole.as_held.numbers is_whole.as_held.sound table_same is_whole.long
 
-  numbers_then : read_parts serves.parts.header X ≡ Ok serves.parts
-  numbers_then = numbers_alike serves.parts h X longer sf.sizes serves.as_held.numbers serves.as_held.sound table_same long
-
-  sound_then : IsSoundTable q (taken_areas serves.parts) X
-  sound_then = sound_alike serves.parts h X longer sf.sizes serves.as_held.numbers serves.as_held.sound table_same long
+  sound_then : IsSoundTable q (taken_areas parts) X
+  sound_then = sound_alike parts h X longer is_whole.sizes is_whole.as_held.numbers is_whole.as_held.sound table_same is_whole.long
 
   sector_then : (s : ℕ) → s < q.sectors → layer_sector q X s ≡ file.member.layer s
   sector_then s below =
-      layer_alike serves.parts h X longer sf.sizes serves.as_held.numbers serves.as_held.sound table_same long s below
-      (λ i st. byte_same i (sector_kept serves.parts h h (omega arith) sf.sizes serves.as_held.numbers serves.as_held.sound s below i st).0.log) ∙ sym (serves.as_held.has.on_disk s below)
+      layer_alike parts h X longer is_whole.sizes is_whole.as_held.numbers is_whole.as_held.sound table_same is_whole.long s below
+      (λ i st. byte_same i (sector_kept parts h h (omega arith) is_whole.sizes is_whole.as_held.numbers is_whole.as_held.sound s below i st).0.log) ∙ sym (is_whole.as_held.has.on_disk s below)
 
   tables_then : AreTables l.tables.parts X [] l.tables.cache
   tables_then =
-      stand_beside_writes l.tables.parts h X [] l.tables.cache (stand_after_commit l.tables.parts old l.tables.pending l.tables.cache serves.as_held.pages).0 longer
-      (λ at a k. part_same X h at 4096 same_long (λ i b. byte_same (at + i) (serves.covered_held.beside (at + i) (serves.only (at + i) (serves.kept at (at + i) a k (omega arith) (omega (arith, b))))).log))
+      stand_beside_writes l.tables.parts h X [] l.tables.cache (stand_after_commit l.tables.parts old l.tables.pending l.tables.cache is_whole.as_held.pages).0 longer
+      (λ at a k. part_same X h at 4096 same_long (λ i b. byte_same (at + i) (is_whole.covered_held.beside (at + i) (is_whole.only (at + i) (is_whole.kept at (at + i) a k (omega arith) (omega (arith, b))))).log))
 
   back : (index : ℕ) (a : Area) → HoldsBlock q X index a → HoldsBlock q h index a
-  back index a = holds_alike serves.parts h X longer sf.sizes serves.as_held.numbers serves.as_held.sound table_same long index a
+  back index a = holds_alike parts h X longer is_whole.sizes is_whole.as_held.numbers is_whole.as_held.sound table_same is_whole.long index a
 
   abbrev behind : Layer
   behind = layer_behind l (committed l.log l.tables.pending)
 
-  nobodys : (range : Area) → IsNobodys serves.parts h range → IsNobodys serves.parts X range
+  nobodys : (range : Area) → IsNobodys parts h range → IsNobodys parts X range
   nobodys range k = record { apart = λ index block b. k.apart index block (back index block b) }
 
-  space_then : HasSpace behind serves.parts X X
+  space_then : HasSpace behind parts X X
   space_then =
-      let sp = serves.space in
       record {
-        next = let a = sp.next in omega (arith, a, same_long, long_held);
-        tight = let a = sp.tight in omega (arith, a, same_long, long_held);
-        placed = All-map (λ (f : Freed). IsPlaced serves.parts (length X) (area_of f)) spaces.committed l.space.freed
-            (λ k d b. subst (λ n. IsPlaced serves.parts n (area_of (get_or l.space.freed k d))) (sym (same_long ∙ long_held)) (sp.placed k d b));
-        freed = subst (λ (z : List ℕ). All (λ (f : Freed). IsNobodys serves.parts z (area_of f)) (map spaces.committed l.space.freed)) (sym (held_none X))
-            (All-map (λ (f : Freed). IsNobodys serves.parts X (area_of f)) spaces.committed l.space.freed (λ k d b. nobodys (area_of (get_or l.space.freed k d)) (sp.freed k d b)));
-        committed = All-map (λ (f : Freed). f.committed ≡ true → IsNobodys serves.parts X (area_of f)) spaces.committed l.space.freed (λ k d b. λ e. nobodys (area_of (get_or l.space.freed k d)) (sp.freed k d b));
+        next = let a = is_whole.next in omega (arith, a, same_long, long_held);
+        tight = let a = is_whole.tight in omega (arith, a, same_long, long_held);
+        placed = All-map (λ (f : Freed). IsPlaced parts (length X) (area_of f)) spaces.committed l.space.freed
+            (λ k d b. subst (λ n. IsPlaced parts n (area_of (get_or l.space.freed k d))) (sym (same_long ∙ long_held)) (is_whole.placed k d b));
+        freed = subst (λ (z : List ℕ). All (λ (f : Freed). IsNobodys parts z (area_of f)) (map spaces.committed l.space.freed)) (sym (held_none X))
+            (All-map (λ (f : Freed). IsNobodys parts X (area_of f)) spaces.committed l.space.freed (λ k d b. nobodys (area_of (get_or l.space.freed k d)) (is_whole.freed k d b)));
+        committed = All-map (λ (f : Freed). f.committed ≡ true → IsNobodys parts X (area_of f)) spaces.committed l.space.freed (λ k d b. λ e. nobodys (area_of (get_or l.space.freed k d)) (is_whole.freed k d b));
       }
 
   pub committed_then : Serves behind new (settled file)
   committed_then = record {
-    within = subst (λ z. file.number < length z) (sym attached) serves.within;
-    number = serves.number;
-    name = subst (λ z. name_of z file.number ≡ file.member.name) (sym attached) serves.name;
-    parts = serves.parts;
-    header = serves.header ∙ sym (same_header l.log l.tables.pending);
-    ties = serves.ties;
-    metadata = subst (λ (z : List ℕ). file.metadata ≡ metadata_of serves.parts z) (sym (held_none X))
-        (serves.metadata ∙ sym (metadata_alike serves.parts h X longer sf.sizes serves.as_held.numbers serves.as_held.sound table_same long));
+    within = subst (λ z. file.number < length z) (sym attached) is_whole.within;
+    number = is_whole.number;
+    name = subst (λ z. name_of z file.number ≡ file.member.name) (sym attached) is_whole.name;
+    parts = parts;
+    header = is_whole.header ∙ sym (same_header l.log l.tables.pending);
+    ties = is_whole.ties;
+    metadata = subst (λ (z : List ℕ). file.metadata ≡ metadata_of parts z) (sym (held_none X))
+        (is_whole.metadata ∙ sym (metadata_alike parts h X longer is_whole.sizes is_whole.as_held.numbers is_whole.as_held.sound table_same is_whole.long));
     as_held = record {
-      sizes = serves.as_held.sizes;
-      shape = serves.as_held.shape;
-      region = serves.as_held.region;
-      most = let m = serves.as_held.most in let e = content.long in omega (arith, e, m);
+      sizes = is_whole.as_held.sizes;
+      shape = is_whole.as_held.shape;
+      region = is_whole.as_held.region;
+      most = let m = is_whole.as_held.most in let e = content.long in omega (arith, e, m);
       pages = tables_then;
-      numbers = subst (λ (z : List ℕ). read_parts serves.parts.header z ≡ Ok serves.parts) (sym (held_none X)) numbers_then;
-      sound = subst (IsSoundTable q (taken_areas serves.parts)) (sym (held_none X)) sound_then;
+      numbers = subst (λ (z : List ℕ). read_parts parts.header z ≡ Ok parts) (sym (held_none X)) numbers_then;
+      sound = subst (IsSoundTable q (taken_areas parts)) (sym (held_none X)) sound_then;
       of_tables = λ k d b. absurd (omega (arith, b));
-      has = subst (λ (z : List ℕ). IsLayerOf q z file.member.layer) (sym (held_none X)) (record { on_disk = λ s below. sym (sector_then s below); off_disk = serves.as_held.has.off_disk });
+      has = subst (λ (z : List ℕ). IsLayerOf q z file.member.layer) (sym (held_none X)) (record { on_disk = λ s below. sym (sector_then s below); off_disk = is_whole.as_held.has.off_disk });
     };
     bytes = X;
-    tables = serves.tables;
+    tables = tables;
     written = nowhere;
     running = running;
     committed = record { long = omega arith; numbers = numbers_then; sound = sound_then; same = λ i below kept. inr refl };
     covered = covers_then;
     clean = λ s below k. record { same = sector_then s below; unwritten = λ i st. refl };
-    covered_held = subst (λ (z : List ℕ). Covers serves.parts z serves.tables) (sym (held_none X)) covers_then;
-    only = subst (λ (z : List ℕ). (i : ℕ) → serves.tables i ≡ true → IsTablePlace serves.parts z i) (sym (held_none X))
-        (λ i t. places_stay serves.parts h X longer sf.sizes serves.as_held.numbers serves.as_held.sound table_same long i (serves.only i t));
+    covered_held = subst (λ (z : List ℕ). Covers parts z tables) (sym (held_none X)) covers_then;
+    only = subst (λ (z : List ℕ). (i : ℕ) → tables i ≡ true → IsTablePlace parts z i) (sym (held_none X))
+        (λ i t. places_stay parts h X longer is_whole.sizes is_whole.as_held.numbers is_whole.as_held.sound table_same is_whole.long i (is_whole.only i t));
     changed = λ k d b. absurd (omega (arith, b));
-    kept = serves.kept;
+    kept = is_whole.kept;
     can = λ k d b. absurd (omega (arith, b));
-    beside = subst (λ (z : List ℕ). AreBeside serves.parts X z) (sym (held_none X)) (beside_self serves.parts sf.sizes X sound_then);
+    beside = subst (λ (z : List ℕ). AreBeside parts X z) (sym (held_none X)) (beside_self parts is_whole.sizes X sound_then);
     space = space_then;
   }
     where
-      covers_then : Covers serves.parts X serves.tables
+      covers_then : Covers parts X tables
       covers_then = record {
-        covers = λ i t. serves.covered_held.covers i (places_alike serves.parts h X longer sf.sizes serves.as_held.numbers serves.as_held.sound table_same long i t);
-        beside = λ i t. serves.covered_held.beside i (places_alike serves.parts h X longer sf.sizes serves.as_held.numbers serves.as_held.sound table_same long i t);
+        covers = λ i t. is_whole.covered_held.covers i (places_alike parts h X longer is_whole.sizes is_whole.as_held.numbers is_whole.as_held.sound table_same is_whole.long i t);
+        beside = λ i t. is_whole.covered_held.beside i (places_alike parts h X longer is_whole.sizes is_whole.as_held.numbers is_whole.as_held.sound table_same is_whole.long i t);
       }

@@ -22,7 +22,7 @@ use Rattle.chain_model.specs.Sessions.{ShowsFile}
 use Rattle.torn_match.specs.TornMatches.{ChangesUntorn}
 use Rattle.layer_session.specs.declared.file.Layer.{Layer}
 use Rattle.layer_session.specs.Calls.{HasCommitted, KeepsOver, settled}
-use Rattle.layer_session.proofs.Committed.{committed_then, layer_behind}
+use Rattle.layer_session.proofs.Committed.{committed_then, layer_behind, whole_of}
 use Rattle.store_model.specs.Disk.{Disk, WhereBothTold, WhereTold}
 use Rattle.layer_session.specs.Keeping.{IsHeld, IsReady, Serves}
 use Rattle.layer_session.proofs.Crashes.{IsSafe, safe_of, shown}
@@ -138,7 +138,7 @@ commit_served l old new one_file low runs content only = by_told old.told new.to
             let n : l.log.file ≡ file.number = one_file ∙ sym serves.number in
             let run : IsRunning l.log serves.tables (length serves.bytes) serves.written (file_of t l.log.file) = subst (λ k. IsRunning l.log serves.tables (length serves.bytes) serves.written (file_of t k)) (sym n) serves.running in
             let runs_on = r serves.tables (length serves.bytes) serves.written serves.changed run in
-            committed_then l t u file serves (attached_same l.log.file t u o) (subst (λ k. HasCommittedPages l.log l.tables.pending (seen (file_of t k)) (seen (file_of u k))) n c)
+            committed_then l t u file serves.parts serves.tables (whole_of l t file serves) (attached_same l.log.file t u o) (subst (λ k. HasCommittedPages l.log l.tables.pending (seen (file_of t k)) (seen (file_of u k))) n c)
             (subst (λ k. IsRunning (committed l.log l.tables.pending) serves.tables (length (seen (file_of u k))) nowhere (file_of u k)) n runs_on)
 
 -- what is served can be read
@@ -158,11 +158,11 @@ ready_from l disk there sizes one_file next most clear plans told = record {
   told = told;
 }
 
-same_file : (log : LogState) (pages : List Page) → (committed log pages).file ≡ log.file
+pub same_file : (log : LogState) (pages : List Page) → (committed log pages).file ≡ log.file
 same_file log [] = refl
 same_file log (page ∷ pages) = refl
 
-same_len : (log : LogState) (pages : List Page) → (committed log pages).len ≡ log.len
+pub same_len : (log : LogState) (pages : List Page) → (committed log pages).len ≡ log.len
 same_len log [] = refl
 same_len log (page ∷ pages) = refl
 

@@ -21,7 +21,7 @@ use Rattle.layer_session.specs.Keeping.{IsPlaced, IsTablePlace, bitmap as bitmap
 use Rattle.layer_session.proofs.Alike.{AreSizes, bitmap_there, block_in_file, by_state_other, off_range}
 use Rattle.chain_model.specs.Images.{metadata_of}
 use Rattle.layer_session.proofs.Numbers.{are_numbers, part_alike, same_metadata, same_numbers}
-use Rattle.layer_file.proofs.Sectors.{in_block, read_back}
+use Rattle.layer_session.proofs.Sectors.{in_block, read_back}
 
 -- what is read of a number that was written
 pub word_back : (s : List ℕ) (at w : ℕ) → at + 8 ≤ length s → w < 2 ^ 64 → u64_at (written_over s at (u64_bytes w)) at ≡ w

@@ -1,5 +1,5 @@
 -- What a layer holds after a commit that failed.
-use Rattle.std.proofs.Common.{◌≡◌, ℕ, zero, suc, ◌+◌, ◌%◌, ◌<◌, ◌≤◌, ◌⊎◌, true, All, List, [], ◌∷◌, length, map, get_or, Option, Some, None, refl, sym, ap, subst, ◌∙◌, arith, inl, inr}
+use Rattle.std.proofs.Common.{◌≡◌, ℕ, zero, suc, ◌+◌, ◌%◌, ◌<◌, ◌≤◌, ◌⊎◌, Bool, true, All, List, [], ◌∷◌, length, map, get_or, Option, Some, None, refl, sym, ap, subst, ◌∙◌, arith, inl, inr}
 use Rattle.std.proofs.lemmas.Bool.{cases_lt}
 use Rattle.vx_base.specs.Fields.{bytes_at}
 use Rattle.vx_base.specs.declared.parts.Header.{Header}
@@ -28,7 +28,7 @@ use Rattle.layer_session.specs.declared.file.Layer.{Layer}
 use Rattle.layer_session.specs.Calls.{HoldsRest}
 use Rattle.layer_session.specs.Keeping.{IsHeld, IsReadable, IsReady, IsTablePlace, Serves, StandsAt}
 use Rattle.layer_session.proofs.Alike.{layer_alike, numbers_alike, places_stay, sector_kept, sound_alike}
-use Rattle.layer_session.proofs.Crashes.{IsSafe, safe_of}
+use Rattle.layer_session.proofs.Committed.{IsWhole, whole_of}
 
 -- a place is in one of the pages or outside all of them
 in_or_out : (n : ℕ) (pages : List Page) (i : ℕ) → All (IsPageIn n) pages → AnyNames (map page_update pages) i ⊎ All (λ (page : Page). IsOutside page.at 4096 i) pages
@@ -51,7 +51,7 @@ in_or_out n (page ∷ others) i pages = by_place (cases_lt i page.at) (cases_lt 
     by_place (inl a) b (inr o) = inr (outside_all (inl a) o)
     by_place (inr a) (inr b) (inr o) = inr (outside_all (inr (omega (arith, b, whole))) o)
 
-module _ (l : Layer) (t : Trace) (file : Placed) (serves : Serves l t file) (X : List ℕ) (keeps : KeepsBeside l.log l.tables.pending (seen (file_of t file.number)) X) where
+module _ (l : Layer) (t : Trace) (file : Placed) (parts : Parts) (tables : ℕ → Bool) (is_whole : IsWhole l t file parts tables) (X : List ℕ) (keeps : KeepsBeside l.log l.tables.pending (seen (file_of t file.number)) X) where
   abbrev F : List ℕ
   F = seen (file_of t file.number)
 
@@ -62,66 +62,56 @@ module _ (l : Layer) (t : Trace) (file : Placed) (serves : Serves l t file) (X :
   now = held l.tables.pending X
 
   abbrev q : Shape
-  q = shape_of serves.parts
-
-  sf : IsSafe serves.parts serves.tables serves.written file.is_loose file.member.layer serves.bytes F
-  sf = safe_of l t file serves
+  q = shape_of parts
 
   pages_in : All (IsPageIn (length X)) l.tables.pending
-  pages_in k d b = let p = serves.as_held.pages.changed k d b in record { aligned = p.aligned; whole = p.whole; within = omega (arith, p.within, keeps.long); bytes = p.bytes }
+  pages_in k d b = let p = is_whole.as_held.pages.changed k d b in record { aligned = p.aligned; whole = p.whole; within = omega (arith, p.within, keeps.long); bytes = p.bytes }
 
   byte_same : (i : ℕ) → IsOutside l.log.header.log_at l.log.header.log_len i → get_or now i 0 ≡ get_or h i 0
   unfolding held
-  byte_same i out = updated_same (map page_update l.tables.pending) F X i (elim (in_or_out (length F) l.tables.pending i serves.as_held.pages.changed) [ inl x ↦ inl x | inr o ↦ inr (keeps.same i out o) ])
+  byte_same i out = updated_same (map page_update l.tables.pending) F X i (elim (in_or_out (length F) l.tables.pending i is_whole.as_held.pages.changed) [ inl x ↦ inl x | inr o ↦ inr (keeps.same i out o) ])
 
-  table_out : (i : ℕ) → IsTablePlace serves.parts h i → IsOutside l.log.header.log_at l.log.header.log_len i
-  table_out i p = subst (λ (k : Header). IsOutside k.log_at k.log_len i) serves.header (serves.covered_held.beside i p).log
+  table_out : (i : ℕ) → IsTablePlace parts h i → IsOutside l.log.header.log_at l.log.header.log_len i
+  table_out i p = subst (λ (k : Header). IsOutside k.log_at k.log_len i) is_whole.header (is_whole.covered_held.beside i p).log
 
   same_long : length now ≡ length h
   same_long =
       let one : length now ≡ length X = held_len (length X) l.tables.pending X pages_in refl in
-      let two : length h ≡ length F = held_len (length F) l.tables.pending F serves.as_held.pages.changed refl in
+      let two : length h ≡ length F = held_len (length F) l.tables.pending F is_whole.as_held.pages.changed refl in
       let three = keeps.long in
       omega (arith, one, two, three)
 
   kept_same : (at : ℕ) → at % 4096 ≡ 0 → is_kept at l.tables.cache ≡ true → bytes_at X at 4096 ≡ bytes_at F at 4096
   kept_same at aligned k =
-      let out = (serves.as_held.pages.unchanged at aligned k).1 in
+      let out = (is_whole.as_held.pages.unchanged at aligned k).1 in
       sym (held_unchanged_any l.tables.pending X at pages_in out aligned)
-      ∙ part_same now h at 4096 same_long (λ i b. byte_same (at + i) (table_out (at + i) (serves.only (at + i) (serves.kept at (at + i) aligned k (omega arith) (omega (arith, b))))))
-      ∙ held_unchanged_any l.tables.pending F at serves.as_held.pages.changed out aligned
+      ∙ part_same now h at 4096 same_long (λ i b. byte_same (at + i) (table_out (at + i) (is_whole.only (at + i) (is_whole.kept at (at + i) aligned k (omega arith) (omega (arith, b))))))
+      ∙ held_unchanged_any l.tables.pending F at is_whole.as_held.pages.changed out aligned
 
   longer : length h ≤ length now
   longer = let e = same_long in omega (arith, e)
 
-  table_same : (i : ℕ) → IsTablePlace serves.parts h i → i < length h → get_or now i 0 ≡ get_or h i 0
+  table_same : (i : ℕ) → IsTablePlace parts h i → i < length h → get_or now i 0 ≡ get_or h i 0
   table_same i p below = byte_same i (table_out i p)
 
-  long : 327680 ≤ length h
-  long =
-      let a = sf.long in
-      let b = serves.committed.long in
-      let c : length h ≡ length F = held_len (length F) l.tables.pending F serves.as_held.pages.changed refl in
-      omega (arith, a, b, c)
-
   sector_out : (s : ℕ) → s < q.sectors → (i : ℕ) → StandsAt q h s i → IsOutside l.log.header.log_at l.log.header.log_len i
-  sector_out s below i st = subst (λ (k : Header). IsOutside k.log_at k.log_len i) serves.header (sector_kept serves.parts h now longer sf.sizes serves.as_held.numbers serves.as_held.sound s below i st).0.log
+  sector_out s below i st = subst (λ (k : Header). IsOutside k.log_at k.log_len i) is_whole.header (sector_kept parts h now longer is_whole.sizes is_whole.as_held.numbers is_whole.as_held.sound s below i st).0.log
 
   -- it holds what it held
-  pub held_still : IsHeld l serves.parts file.member.layer X
+  pub held_still : IsHeld l parts file.member.layer X
   held_still = record {
-    sizes = serves.as_held.sizes;
-    shape = serves.as_held.shape;
-    region = serves.as_held.region;
-    most = let m = serves.as_held.most in let e = keeps.long in omega (arith, e, m);
-    pages = stand_beside_writes l.tables.parts F X l.tables.pending l.tables.cache serves.as_held.pages (let e = keeps.long in omega (arith, e)) kept_same;
-    numbers = numbers_alike serves.parts h now longer sf.sizes serves.as_held.numbers serves.as_held.sound table_same long;
-    sound = sound_alike serves.parts h now longer sf.sizes serves.as_held.numbers serves.as_held.sound table_same long;
-    of_tables = λ k d b i a c. places_stay serves.parts h now longer sf.sizes serves.as_held.numbers serves.as_held.sound table_same long i (serves.only i (serves.changed k d b i a c));
+    sizes = is_whole.as_held.sizes;
+    shape = is_whole.as_held.shape;
+    region = is_whole.as_held.region;
+    most = let m = is_whole.as_held.most in let e = keeps.long in omega (arith, e, m);
+    pages = stand_beside_writes l.tables.parts F X l.tables.pending l.tables.cache is_whole.as_held.pages (let e = keeps.long in omega (arith, e)) kept_same;
+    numbers = numbers_alike parts h now longer is_whole.sizes is_whole.as_held.numbers is_whole.as_held.sound table_same is_whole.long;
+    sound = sound_alike parts h now longer is_whole.sizes is_whole.as_held.numbers is_whole.as_held.sound table_same is_whole.long;
+    of_tables = λ k d b i a c. places_stay parts h now longer is_whole.sizes is_whole.as_held.numbers is_whole.as_held.sound table_same is_whole.long i (is_whole.as_held.of_tables k d b i a c);
     has = record {
-      on_disk = λ s below. serves.as_held.has.on_disk s below
-          ∙ sym (layer_alike serves.parts h now longer sf.sizes serves.as_held.numbers serves.as_held.sound table_same long s below (λ i st. byte_same i (sector_out s below i st)));
-      off_disk = serves.as_held.has.off_disk;
+      on_disk = λ s below. is_whole.as_held.has.on_disk s below
+          ∙ sym (layer_alike parts h now longer is_whole.sizes is_whole.as_held.numbers is_whole.as_held.sound table_same is_whole.long s below (λ i st. byte_same i (sector_out s below i st)));
+      off_disk = is_whole.as_held.has.off_disk;
     };
   }
 
@@ -129,7 +119,7 @@ module _ (l : Layer) (t : Trace) (file : Placed) (serves : Serves l t file) (X :
 abbrev pub with_log : Layer → LogState → Layer
 with_log l log = record l { log = log }
 
-same_log : (l : Layer) (log : LogState) (parts : Parts) (layer : chain.Layer) (bytes : List ℕ) → IsHeld l parts layer bytes → IsHeld (with_log l log) parts layer bytes
+pub same_log : (l : Layer) (log : LogState) (parts : Parts) (layer : chain.Layer) (bytes : List ℕ) → IsHeld l parts layer bytes → IsHeld (with_log l log) parts layer bytes
 same_log l log parts layer bytes h = record { sizes = h.sizes; shape = h.shape; region = h.region; most = h.most; pages = h.pages; numbers = h.numbers; sound = h.sound; of_tables = h.of_tables; has = h.has }
 
 module _ (l : Layer) (log : LogState) (old new : Disk) (ready : IsReady l old) (fault : StoreFault) (fails : FailsToChange l.log.file old new fault)
@@ -139,7 +129,7 @@ module _ (l : Layer) (log : LogState) (old new : Disk) (ready : IsReady l old) (
   one_held t u file s k =
       let n : l.log.file ≡ file.number = ready.one_file ∙ sym s.number in
       let here : KeepsBeside l.log l.tables.pending (seen (file_of t file.number)) (seen (file_of u file.number)) = subst (λ i. KeepsBeside l.log l.tables.pending (seen (file_of t i)) (seen (file_of u i))) n k in
-      (s.parts, subst (λ i. IsHeld (with_log l log) s.parts file.member.layer (seen (file_of u i))) s.number (same_log l log s.parts file.member.layer (seen (file_of u file.number)) (held_still l t file s (seen (file_of u file.number)) here)))
+      (s.parts, subst (λ i. IsHeld (with_log l log) s.parts file.member.layer (seen (file_of u i))) s.number (same_log l log s.parts file.member.layer (seen (file_of u file.number)) (held_still l t file s.parts s.tables (whole_of l t file s) (seen (file_of u file.number)) here)))
 
   rest_held : (t u : Trace) → KeepsBeside l.log l.tables.pending (seen (file_of t l.log.file)) (seen (file_of u l.log.file)) → HoldsRest l (with_log l log) 0 0 t u
   rest_held t u k = record { holds = λ file s. let h = one_held t u file s k in (h.0, (file.member.layer, h.1, λ i e. refl)) }

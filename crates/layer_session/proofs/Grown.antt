@@ -29,7 +29,7 @@ use Rattle.layer_session.specs.declared.file.Layer.{Layer}
 use Rattle.layer_session.specs.Keeping.{Covers, HasSpace, IsClean, IsCommitted, IsNobodys, IsPlaced, IsTablePlace, Serves, StandsAt, area_of, bitmap as bitmap_place, entries, metadata, regions}
 use Rattle.layer_session.proofs.Alike.{block_in_file, holds_alike, layer_alike, metadata_alike, numbers_alike, places_alike, places_stay, sound_alike}
 use Rattle.layer_session.proofs.Allocating.{may_take, more, off_tables, safe_grown, safe_taken}
-use Rattle.layer_file.proofs.Sectors.{in_block}
+use Rattle.layer_session.proofs.Sectors.{in_block}
 use Rattle.layer_session.proofs.Crashes.{IsSafe, safe_of}
 use Rattle.layer_session.proofs.Numbers.{are_numbers, part_alike}
 

@@ -1,3 +1,4 @@
+pub mod Sectors
 pub mod Numbers
 pub mod Alike
 pub mod Places
@@ -24,6 +25,10 @@ pub mod Ending
 pub mod Pages
 pub mod Entered
 mod Placing
+mod Turning
+mod Updated
+mod Updates
+mod PagesTurned
 pub mod Leaving
 mod Chunks
 pub mod SameTables

@@ -20,7 +20,7 @@ use Rattle.layer_session.proofs.Apart.{beside_self}
 use Rattle.chain_model.specs.Images.{metadata_of}
 use Rattle.layer_session.proofs.Numbers.{are_numbers, part_alike, same_metadata, same_numbers}
 use Rattle.layer_session.proofs.SameTables.{bitmap_same, payload_same}
-use Rattle.layer_file.proofs.Sectors.{in_block, read_back}
+use Rattle.layer_session.proofs.Sectors.{in_block, read_back}
 
 module _ (parts : Parts) (sizes : AreSizes parts) (old new : List ℕ) (numbers : read_parts parts.header old ≡ Ok parts) (sound : IsSoundTable (shape_of parts) (taken_areas parts) old) (long : 327680 ≤ length old)
     (index from count : ℕ) (on : Bool) (entry : IsBitmapEntry (shape_of parts) index) (six : state_at (shape_of parts) old index ≡ 6)

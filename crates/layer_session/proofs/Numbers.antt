@@ -1,22 +1,24 @@
 -- The numbers of a file, read from a longer one that has the same tables.
-use Rattle.std.proofs.Common.{◌≡◌, ℕ, ◌+◌, ◌<◌, ◌≤◌, ◌&&◌, ◌||◌, Bool, true, false, not, List, length, get_or, Option, Some, None, refl, sym, ap, subst, ◌∙◌, arith, if◌then◌else◌}
+use Rattle.std.proofs.Common.{◌≡◌, ℕ, ◌+◌, ◌<◌, ◌≤◌, ◌==◌, ◌&&◌, ◌||◌, Bool, true, false, not, List, length, get_or, Option, Some, None, refl, sym, ap, subst, ◌∙◌, arith, if◌then◌else◌}
 use Rattle.std.specs.Prelude.{Result, Ok, Err, nat_lt}
 use Rattle.std.specs.List.{find}
 use Rattle.std.specs.Option.{ok_or}
-use Rattle.std.proofs.lemmas.Bool.{or_from, le-leb, leb-true, not_from_true}
+use Rattle.std.proofs.lemmas.Bool.{and_parts, or_from, le-leb, leb-true, not_from_true}
 use Rattle.std.proofs.lemmas.List.{ext_get_or}
 use Rattle.vx_base.specs.Fields.{bytes_at}
 use Rattle.vx_base.specs.declared.parts.Header.{Header}
 use Rattle.vx_base.specs.declared.parts.Parts.{Parts}
 use Rattle.vhdx_format.specs.declared.regions.Regions.{Regions}
-use Rattle.vhdx_format.specs.declared.regions.Region.TheVariants.{Bat, Metadata}
-use Rattle.vhdx_format.specs.Fields.{is_whole_megabytes, overlaps}
+use Rattle.vhdx_format.specs.declared.regions.Region.TheVariants.{Bat}
+use Rattle.vhdx_format.specs.declared.regions.Region.TheVariants.{Metadata as metadata_kind}
+use Rattle.vhdx_format.specs.Fields.{is_whole_megabytes, megabyte, overlaps, sector_size}
+use Rattle.vhdx_format.specs.declared.metadata.Metadata.{Metadata}
 use Rattle.vhdx_format.specs.FileParts.{read_parts, parts_of}
 use Rattle.vhdx_format.specs.MetadataTables.{metadata_region, read_metadata, served_sectors}
 use Rattle.vhdx_format.specs.RegionTables.{is_of, is_misplaced, is_unknown_required, misplaced_region, regions_in, read_regions, region_entries, region_table}
 use Rattle.vhdx_format.specs.declared.TheConstants.{BAT_REGION, METADATA_REGION}
 use Rattle.vhdx_format.specs.declared.regions.RegionEntry.{RegionEntry}
-use Rattle.vhdx_format.specs.Rules.{BrokenRule, UnknownRegion, MissingRegion, RegionPlace, NoRegionTable, ◌>>=◌, unless_some}
+use Rattle.vhdx_format.specs.Rules.{BrokenRule, UnknownRegion, MissingRegion, RegionPlace, NoRegionTable, SectorSize, ◌>>=◌, unless, unless_some}
 use Rattle.table_pages.proofs.Laying.{part_byte, part_len}
 use Rattle.chain_model.specs.Images.{RegionBytes, metadata_of}
 
@@ -69,7 +71,7 @@ tested entries n log_at log_len other entry h =
       beside = five.1;
     }
 
-none_of : (a b c : Bool) → (if a && (c || not b) then Some Bat else (if b then Some Metadata else None)) ≡ None → (a ≡ false) × (b ≡ false)
+none_of : (a b c : Bool) → (if a && (c || not b) then Some Bat else (if b then Some metadata_kind else None)) ≡ None → (a ≡ false) × (b ≡ false)
 none_of false false c h = (refl, refl)
 none_of false true c h = cc
 none_of true false true h = cc
@@ -77,7 +79,7 @@ none_of true false false h = cc
 none_of true true true h = cc
 none_of true true false h = cc
 
-none_again : (a b c : Bool) → a ≡ false → b ≡ false → (if a && (c || not b) then Some Bat else (if b then Some Metadata else None)) ≡ None
+none_again : (a b c : Bool) → a ≡ false → b ≡ false → (if a && (c || not b) then Some Bat else (if b then Some metadata_kind else None)) ≡ None
 none_again a b c e f = rw (e, f) refl
 
 some_ok : {A X : Type 0} (o : Option X) (rule : X → BrokenRule) (x y : A) → unless_some o rule (Ok x) ≡ Ok y → (o ≡ None) × (x ≡ y)
@@ -99,7 +101,7 @@ unfolding regions_in
 regions_longer entries n log_at log_len r h = by_finds (find is_unknown_required entries) (find (is_of BAT_REGION) entries) (find (is_of METADATA_REGION) entries) refl refl refl h
   where
     by_finds : (u b c : Option RegionEntry) → find is_unknown_required entries ≡ u → find (is_of BAT_REGION) entries ≡ b → find (is_of METADATA_REGION) entries ≡ c
-        → unless_some u (λ entry. UnknownRegion entry.id) (ok_or b (MissingRegion Bat) >>= λ bat. ok_or c (MissingRegion Metadata) >>= λ metadata.
+        → unless_some u (λ entry. UnknownRegion entry.id) (ok_or b (MissingRegion Bat) >>= λ bat. ok_or c (MissingRegion metadata_kind) >>= λ metadata.
         unless_some (misplaced_region entries n log_at log_len bat metadata) RegionPlace (Ok (record { bat_at = bat.at; bat_len = bat.len; meta_at = metadata.at; meta_len = metadata.len }))) ≡ Ok r
         → ReadsLonger entries n log_at log_len r
     by_finds (Some x) b c eu eb ec k = cc
@@ -202,3 +204,68 @@ same_numbers header old new parts h longer tables metadata =
     ap (λ (r : Result Regions BrokenRule). r >>= λ regions. read_metadata (metadata_region new regions) regions.bat_len >>= λ metadata. served_sectors metadata >>= λ served. Ok (parts_of header regions served)) again
     ∙ ap (λ (z : List ℕ). read_metadata z d.regions.bat_len >>= λ metadata. served_sectors metadata >>= λ served. Ok (parts_of header d.regions served)) region
     ∙ d.rest
+
+-- ---- the metadata read otherwise
+
+-- the numbers with another locator and another retired name
+abbrev pub named_as : Option (List ℕ) → Option (List ℕ) → Parts → Parts
+named_as locator retired parts = record parts { locator = locator; retired = retired }
+
+-- the metadata's region is whole megabytes, behind the first
+pub metadata_low : (parts : Parts) (old : List ℕ) → read_parts parts.header old ≡ Ok parts → megabyte ≤ parts.meta_at
+metadata_low parts old numbers = leb-true megabyte parts.meta_at (and_parts _ _ (are_numbers parts.header old parts numbers).0.metadata.whole_at).1
+
+-- metadata of the same sectors are served where the others are
+served_too : (m n served : Metadata) → n.logical ≡ m.logical → served_sectors m ≡ Ok served → (served ≡ m) × (served_sectors n ≡ Ok n)
+served_too m n served e h = by_size (m.logical == sector_size) refl h
+  where
+    by_size : (b : Bool) → (m.logical == sector_size) ≡ b → unless (not b) (SectorSize m.logical) (Ok m) ≡ Ok served → (served ≡ m) × (served_sectors n ≡ Ok n)
+    by_size false f k = cc
+    by_size true f k = (let g : served ≡ m = cc in g, let g : (n.logical == sector_size) ≡ true = ap (λ k. k == sector_size) e ∙ f in rw g refl)
+
+record ReadsItems (header : Header) (regions : Regions) (parts : Parts) (read : Result Metadata BrokenRule) : Type 0 where
+  m : Metadata
+  is : read ≡ Ok m
+  served : (n : Metadata) → n.logical ≡ m.logical → served_sectors n ≡ Ok n
+  parts_is : parts_of header regions m ≡ parts
+
+reads_items : (header : Header) (old : List ℕ) (parts : Parts) (d : IsRead header old parts) → ReadsItems header d.regions parts (read_metadata (metadata_region old d.regions) d.regions.bat_len)
+reads_items header old parts d =
+    let b = of_bind (read_metadata (metadata_region old d.regions) d.regions.bat_len) (λ metadata. served_sectors metadata >>= λ served. Ok (parts_of header d.regions served)) parts d.rest in
+    let c = of_bind (served_sectors b.0) (λ served. Ok (parts_of header d.regions served)) parts b.2 in
+    let s = served_too b.0 b.0 c.0 refl c.1 in
+    let e : parts_of header d.regions c.0 ≡ parts = cc in
+    record { m = b.0; is = b.1; served = λ n same. (served_too b.0 n c.0 same c.1).1; parts_is = ap (parts_of header d.regions) (sym s.0) ∙ e }
+
+region_of : (header : Header) (old : List ℕ) (parts : Parts) (d : IsRead header old parts) (file : List ℕ) → read_metadata (metadata_region file d.regions) d.regions.bat_len ≡ read_metadata (bytes_at file parts.meta_at parts.meta_len) parts.bat_len
+region_of header old parts d file = let p = parts_are header old parts d in rw (p.meta_at, p.meta_len, p.bat_len) refl
+
+-- what the metadata say of locator and retired name is the numbers'
+pub items_read : (header : Header) (old : List ℕ) (parts : Parts) (m : Metadata) → read_parts header old ≡ Ok parts → read_metadata (bytes_at old parts.meta_at parts.meta_len) parts.bat_len ≡ Ok m → (m.locator ≡ parts.locator) × (m.retired ≡ parts.retired)
+unfolding parts_of
+items_read header old parts m h e =
+    let d = is_read header old parts h in
+    let r = reads_items header old parts d in
+    let same : Ok r.m ≡ Ok m = sym r.is ∙ region_of header old parts d old ∙ e in
+    let one : r.m ≡ m = cc in
+    (ap (λ (x : Metadata). x.locator) (sym one) ∙ ap (λ (q : Parts). q.locator) r.parts_is, ap (λ (x : Metadata). x.retired) (sym one) ∙ ap (λ (q : Parts). q.retired) r.parts_is)
+
+-- a longer file with the same region tables, whose metadata are read with another locator and another retired name
+pub turned_numbers : (header : Header) (old new : List ℕ) (parts : Parts) (locator retired : Option (List ℕ)) → read_parts header old ≡ Ok parts → length old ≤ length new → bytes_at new 196608 131072 ≡ bytes_at old 196608 131072
+    → ((m : Metadata) → read_metadata (bytes_at old parts.meta_at parts.meta_len) parts.bat_len ≡ Ok m → read_metadata (bytes_at new parts.meta_at parts.meta_len) parts.bat_len ≡ Ok (record m { locator = locator; retired = retired }))
+    → read_parts header new ≡ Ok (named_as locator retired parts)
+unfolding read_parts read_regions parts_of
+turned_numbers header old new parts locator retired h longer tables reads =
+    let d = is_read header old parts h in
+    let q = placed_regions header old d.regions d.are in
+    let r = reads_items header old parts d in
+    let again : read_regions (bytes_at new 196608 131072) (length new) header.log_at header.log_len ≡ Ok d.regions =
+    ap (λ (z : List ℕ). ok_or (region_table z) NoRegionTable >>= λ table. regions_in (region_entries table) (length new) header.log_at header.log_len) tables
+    ∙ ap (λ (t : Option (List ℕ)). ok_or t NoRegionTable >>= λ table. regions_in (region_entries table) (length new) header.log_at header.log_len) q.1
+    ∙ q.2.longer (length new) longer in
+    let n : Metadata = record (r.m) { locator = locator; retired = retired } in
+    let now : read_metadata (metadata_region new d.regions) d.regions.bat_len ≡ Ok n = region_of header old parts d new ∙ reads r.m (sym (region_of header old parts d old) ∙ r.is) in
+    ap (λ (x : Result Regions BrokenRule). x >>= λ regions. read_metadata (metadata_region new regions) regions.bat_len >>= λ metadata. served_sectors metadata >>= λ served. Ok (parts_of header regions served)) again
+    ∙ ap (λ (x : Result Metadata BrokenRule). x >>= λ metadata. served_sectors metadata >>= λ served. Ok (parts_of header d.regions served)) now
+    ∙ ap (λ (x : Result Metadata BrokenRule). x >>= λ served. Ok (parts_of header d.regions served)) (r.served n refl)
+    ∙ ap (λ (x : Parts). (let y : Result Parts BrokenRule = Ok (named_as locator retired x) in y)) r.parts_is

@@ -20,7 +20,7 @@ use Rattle.layer_session.specs.declared.file.Layer.{Layer}
 use Rattle.layer_session.specs.Keeping.{HasSpace, IsNobodys, IsPlaced, Serves, area_of}
 use Rattle.layer_session.specs.Taking.{IsUnused}
 use Rattle.layer_session.proofs.Entered.{EntersInto, Enters, entered_held, entered_serves, held_as_long, layer_by, long, sizes}
-use Rattle.layer_file.proofs.Sectors.{in_block}
+use Rattle.layer_session.proofs.Sectors.{in_block}
 use Rattle.table_pages.proofs.Laying.{part_byte, part_len}
 use Rattle.std.proofs.lemmas.List.{get_or-replicate, length-replicate}
 use Rattle.layer_session.proofs.Entries.{IsGoodEntry, as_long, off_table, bit_beside, bitmap_beside, entry_here, holds_beside, layer_beside, set_file}

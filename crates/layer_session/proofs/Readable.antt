@@ -22,8 +22,8 @@ use Rattle.table_pages.specs.declared.tables.TableParts.{TableParts}
 use Rattle.table_pages.specs.declared.tables.Tables.{Tables}
 use Rattle.table_pages.proofs.Changing.{held_beside_writes}
 use Rattle.table_pages.proofs.Laying.{held_len}
-use Rattle.layer_file.proofs.Runs.{length_at}
-use Rattle.layer_file.proofs.Sectors.{in_block}
+use Rattle.table_pages.proofs.Laying.{part_len}
+use Rattle.layer_session.proofs.Sectors.{in_block}
 use Rattle.chain_model.specs.Images.{Placed}
 use Rattle.chain_model.specs.Layers as chain
 use Rattle.layer_session.specs.declared.file.Layer.{Layer}
@@ -99,7 +99,7 @@ module _ (t : Tables) (parts : Parts) (layer : chain.Layer) (F : List ℕ) (is_h
       inside = let b = (in_file (entry_of q s) (record { at = place_at q H (entry_of q s); len = q.block }) (block_at s below there)).within in let f = fits in omega (arith, b, f, long)
 
       whole : length (bytes_at F at q.sector) ≡ q.sector
-      whole = length_at F at q.sector inside
+      whole = part_len F at q.sector inside
 
       some : 0 < q.sector
       some = by_size (sector_cases q.sector sizes.sector)

@@ -22,6 +22,7 @@ ghost use Rattle.layer_session.specs.Taking.{IsBroken, IsDone, KeepsEntries};
 use crate::planning::{Plan, Step};
 use crate::reading::own_missing;
 use block_alloc::Alloc;
+use log_format::Page;
 use log_write::{Log, SessionIds};
 use std::alloc::Global;
 use store_model::{SealFault, Store, StoreFault};
@@ -236,11 +237,14 @@ impl Layer {
     fn can_commit(&self) -> bool
         ensures { IsTrue result ↔ All (CanCommit self.now.log) self.now.tables.pending }
     {
-        self.tables
-            .pending
-            .pages()
-            .iter()
-            .all(|page| self.log.may_commit(page.at))
+        self.can_take(self.tables.pending.pages())
+    }
+
+    // The same of any pages.
+    pub(crate) fn can_take(&self, pages: &[Page]) -> bool
+        ensures { IsTrue result ↔ All (CanCommit self.now.log) pages.now }
+    {
+        pages.iter().all(|page| self.log.may_commit(page.at))
     }
 
     /// Ends the session: commits, and writes a header that names no log. After a fault the file is to be written no more, so that

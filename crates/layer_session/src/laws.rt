@@ -1,5 +1,6 @@
 //! What is known of a file that a layer serves. The functions do nothing; each carries a law.
 
+ghost use Rattle.layer_session.specs.Updating.{PagesTurn};
 ghost use Rattle.layer_session.specs.Laws.{CommitsAreServed, LayersAreAdded, LayersAreKept, LayersStand, PlacesAreTaken, TakenIsServed, WritesAreServed};
 
 /// Whatever a crash leaves of a file that a layer serves is opened to the layer outside the loose sectors.
@@ -16,6 +17,11 @@ pub fn layers_stand()
 /// with no more loose than before but those sectors.
 pub fn writes_are_served()
     ensures { WritesAreServed }
+{}
+
+/// Pages by which a file's metadata are read otherwise turn what a layer serves.
+pub fn pages_turn()
+    ensures { PagesTurn }
 {}
 
 /// While pages are committed an image shows the file as before.

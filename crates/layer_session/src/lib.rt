@@ -10,12 +10,13 @@ mod preparing;
 mod read_layer;
 mod reading;
 mod steps;
+mod updating;
 mod writing;
 
 pub use file::{Layer, LayerFault};
 pub use file_layer::{FileLayer, file_layers_stand, own_files};
 pub use laws::{
-    commits_are_served, layers_are_added, layers_are_kept, layers_stand, places_are_taken,
-    writes_are_served,
+    commits_are_served, layers_are_added, layers_are_kept, layers_stand, pages_turn,
+    places_are_taken, writes_are_served,
 };
 pub use read_layer::{ReadLayer, own_through, read_layers_stand};

@@ -1,0 +1,92 @@
+use Rattle.std.proofs.Common.{List, subst}
+use Rattle.store_model.specs.Disk.{WhereBothTold}
+use Rattle.store_model.specs.File.{seen}
+use Rattle.store_model.specs.Trace.{file_of}
+use Rattle.vhdx_format.specs.declared.log_entry.Page.{Page}
+use Rattle.table_pages.specs.declared.tables.Tables.{Tables}
+use Rattle.log_write.specs.Writing.{CommitsAtEachMoment, KeepsBeside}
+use Rattle.log_write.specs.Writing.{HasCommitted as HasCommittedPages}
+use Rattle.log_write.proofs.Failed.{on_err}
+use Rattle.layer_session.specs.declared.file.Layer.{Layer}
+use Rattle.layer_session.specs.Calls.{HoldsRest}
+use Rattle.layer_session.specs.Keeping.{IsReadable, IsReady}
+use Rattle.layer_session.specs.Updating.{HasUpdated, UpdatesOver}
+use Rattle.layer_session.proofs.Updates.{behind_is, keeps_same, never_left_out, puts_all, runs_behind, torn_is, untold, update_moments, update_readable, update_ready, update_rest, update_served}
+use Rattle.layer_session.proofs.file.Layer.update.Goals as goal
+
+pub returns-then-not-can_take-clause-moments : goal.returns-then-not-can_take-clause-moments
+returns-then-not-can_take-clause-moments g c =
+    let l : Layer = c.args.self.now in
+    untold (g.S.Store.disk c.args.store.now).told
+    (never_left_out l c.args.pages.now (g.S.Store.disk c.args.store.now) c.requires.empty c.requires.turns (λ all. let can = c.can_take.ensures.1 all in let cannot = c.if-not-can_take.true in let none : ⊥ = cc in none))
+    (UpdatesOver l c.args.pages.now)
+
+pub returns-then-not-can_take-clause-updated : goal.returns-then-not-can_take-clause-updated
+returns-then-not-can_take-clause-updated g c =
+    let l : Layer = c.args.self.now in
+    untold (g.S.Store.disk c.args.store.now).told
+    (never_left_out l c.args.pages.now (g.S.Store.disk c.args.store.now) c.requires.empty c.requires.turns (λ all. let can = c.can_take.ensures.1 all in let cannot = c.if-not-can_take.true in let none : ⊥ = cc in none))
+    (HasUpdated l l c.args.pages.now)
+
+pub returns-in_err-commit-clause-moments : goal.returns-in_err-commit-clause-moments
+returns-in_err-commit-clause-moments g c =
+    let l : Layer = c.args.self.now in
+    let old = g.S.Store.disk c.args.store.now in
+    let new = g.S.Store.disk c.commit.new.store in
+    update_moments l c.args.pages.now old new c.requires.ready.one_file c.requires.numbers c.requires.empty c.commit.ensures.only
+    (subst (λ (p : List Page). CommitsAtEachMoment l.log p old.told new.told) c.put_pages.ensures.pending c.commit.ensures.moments)
+
+pub returns-clause-moments : goal.returns-clause-moments
+returns-clause-moments g c =
+    let l : Layer = c.args.self.now in
+    let old = g.S.Store.disk c.args.store.now in
+    let new = g.S.Store.disk c.commit.new.store in
+    update_moments l c.args.pages.now old new c.requires.ready.one_file c.requires.numbers c.requires.empty c.commit.ensures.only
+    (subst (λ (p : List Page). CommitsAtEachMoment l.log p old.told new.told) c.put_pages.ensures.pending c.commit.ensures.moments)
+
+pub returns-in_err-commit-clause-broken : goal.returns-in_err-commit-clause-broken
+returns-in_err-commit-clause-broken g c =
+    let l : Layer = c.args.self.now in
+    let pages = c.args.pages.now in
+    let made : Tables = c.put_pages.new.self in
+    let old = g.S.Store.disk c.args.store.now in
+    let new = g.S.Store.disk c.commit.new.store in
+    let puts = puts_all l pages made c.put_pages.ensures.parts c.put_pages.ensures.pending c.put_pages.ensures.tables in
+    let keeps = keeps_same l pages made c.put_pages.ensures.parts c.put_pages.ensures.pending c.put_pages.ensures.places in
+    let beside : WhereBothTold (λ before after. KeepsBeside l.log pages (seen (file_of before l.log.file)) (seen (file_of after l.log.file))) old.told new.told =
+    subst (λ (p : List Page). WhereBothTold (λ before after. KeepsBeside l.log p (seen (file_of before l.log.file)) (seen (file_of after l.log.file))) old.told new.told) c.put_pages.ensures.pending c.in_err-commit.ensures.beside in
+    let readable = update_readable l pages old new c.requires.ready.one_file c.requires.numbers c.requires.empty c.commit.ensures.only made.cache puts keeps c.commit.new.self c.requires.ready c.requires.turns c.in_err-commit.field-0.0 c.in_err-commit.ensures.err beside in
+    let rest = update_rest l pages old new c.requires.ready.one_file c.requires.numbers c.requires.empty c.commit.ensures.only made.cache puts keeps c.commit.new.self c.requires.ready c.requires.turns c.in_err-commit.field-0.0 c.in_err-commit.ensures.err beside in
+    on_err c.from_residual.result
+    (subst (λ (then : Layer). IsReadable then new × WhereBothTold (HoldsRest l then 0 0) old.told new.told) (torn_is l pages made c.put_pages.ensures.parts c.put_pages.ensures.pending c.commit.new.self c.commit.new.pending c.in_err-commit.ensures.kept) (readable, rest))
+
+pub returns-clause-updated : goal.returns-clause-updated
+returns-clause-updated g c =
+    let l : Layer = c.args.self.now in
+    let pages = c.args.pages.now in
+    let made : Tables = c.put_pages.new.self in
+    let old = g.S.Store.disk c.args.store.now in
+    let new = g.S.Store.disk c.commit.new.store in
+    let puts = puts_all l pages made c.put_pages.ensures.parts c.put_pages.ensures.pending c.put_pages.ensures.tables in
+    let keeps = keeps_same l pages made c.put_pages.ensures.parts c.put_pages.ensures.pending c.put_pages.ensures.places in
+    let content : WhereBothTold (λ before after. HasCommittedPages l.log pages (seen (file_of before l.log.file)) (seen (file_of after l.log.file))) old.told new.told =
+    subst (λ (p : List Page). WhereBothTold (λ before after. HasCommittedPages l.log p (seen (file_of before l.log.file)) (seen (file_of after l.log.file))) old.told new.told) c.put_pages.ensures.pending c.in_ok-commit.ensures.content in
+    let served = update_served l pages old new c.requires.ready.one_file c.requires.numbers c.requires.empty c.commit.ensures.only made.cache puts keeps
+    (runs_behind l pages made c.put_pages.ensures.parts c.put_pages.ensures.pending c.commit.new.self old.told new.told c.in_ok-commit.ensures.log c.in_ok-commit.ensures.running) content in
+    subst (λ (then : Layer). WhereBothTold (HasUpdated l then pages) old.told new.told) (behind_is l pages made c.put_pages.ensures.parts c.put_pages.ensures.pending c.commit.new.self c.commit.new.pending c.committed.new.self c.in_ok-commit.ensures.log c.in_ok-commit.ensures.taken c.committed.ensures) served
+
+pub returns-clause-ready : goal.returns-clause-ready
+returns-clause-ready g c =
+    let l : Layer = c.args.self.now in
+    let pages = c.args.pages.now in
+    let made : Tables = c.put_pages.new.self in
+    let old = g.S.Store.disk c.args.store.now in
+    let new = g.S.Store.disk c.commit.new.store in
+    let puts = puts_all l pages made c.put_pages.ensures.parts c.put_pages.ensures.pending c.put_pages.ensures.tables in
+    let keeps = keeps_same l pages made c.put_pages.ensures.parts c.put_pages.ensures.pending c.put_pages.ensures.places in
+    let content : WhereBothTold (λ before after. HasCommittedPages l.log pages (seen (file_of before l.log.file)) (seen (file_of after l.log.file))) old.told new.told =
+    subst (λ (p : List Page). WhereBothTold (λ before after. HasCommittedPages l.log p (seen (file_of before l.log.file)) (seen (file_of after l.log.file))) old.told new.told) c.put_pages.ensures.pending c.in_ok-commit.ensures.content in
+    let served = update_served l pages old new c.requires.ready.one_file c.requires.numbers c.requires.empty c.commit.ensures.only made.cache puts keeps
+    (runs_behind l pages made c.put_pages.ensures.parts c.put_pages.ensures.pending c.commit.new.self old.told new.told c.in_ok-commit.ensures.log c.in_ok-commit.ensures.running) content in
+    subst (λ (then : Layer). IsReady then new) (behind_is l pages made c.put_pages.ensures.parts c.put_pages.ensures.pending c.commit.new.self c.commit.new.pending c.committed.new.self c.in_ok-commit.ensures.log c.in_ok-commit.ensures.taken c.committed.ensures)
+    (update_ready l pages old new c.requires.ready.one_file c.requires.numbers c.requires.empty c.commit.ensures.only made.cache puts keeps c.requires.ready c.requires.turns c.in_ok-commit.ensures.counts served)
