@@ -35,7 +35,11 @@ use Rattle.layer_session.specs.declared.file.Layer.{Layer}
 use Rattle.layer_session.specs.declared.read_layer.ReadLayer.{ReadLayer}
 use Rattle.layer_session.specs.Begins.{BeginsOver, HasBegun, IsOf, as_found, in_session}
 use Rattle.layer_session.specs.Keeping.{IsReady, Serves}
-use Rattle.layer_session.specs.ReadOnly.{AreRead, AreReadable, IsRead, IsReadOf}
+use Rattle.layer_session.specs.ReadOnly.{IsRead}
+use Rattle.layer_session.specs.FileLayers.{AreOthers, AreReadyFiles, HaveFiles}
+use Rattle.layer_session.specs.ReadOnly.{IsReadOf}
+use Rattle.layer_session.specs.declared.file_layer.FileLayer.{FileLayer}
+use Rattle.layer_session.specs.declared.file_layer.FileLayer.TheVariants.{Read, Session}
 use Rattle.layer_session.proofs.Crashes.{layers_are_kept}
 use Rattle.chain_core.specs.declared.layers.Layers.{Layers}
 use Rattle.chain_core.specs.Starting.{AreAsOpened, AreAttached, AreReadOf, CanStart, EachOpensAlike, IsAsOpened, IsOfDisk, JudgesIds, LeavesOthersFrom, StartsWith, under, opening_disk, placed_from, started}
@@ -127,38 +131,42 @@ all_synced t n (f ∷ files) o = (o.0.synced, all_synced t (n + 1) files o.1)
 
 -- ---- layers that are only read
 
-pub all_read : (t : Trace) (n : ℕ) (files : List LinkedFile) (layers : List ReadLayer) → AreReadOf n files layers → AreAsOpened t n files → AreRead layers t (placed_from t n files)
+pub all_read : (t : Trace) (n : ℕ) (files : List LinkedFile) (layers : List FileLayer) → AreReadOf n files layers → AreAsOpened t n files → HaveFiles layers t (placed_from t n files)
 all_read t n [] [] of o = tt
 all_read t n [] (l ∷ layers) of o = absurd of
 all_read t n (f ∷ files) [] of o = absurd of
-all_read t n (f ∷ files) (l ∷ layers) of o = (of.0.reads t o.0.within o.0.most o.0.reads, all_read t (n + 1) files layers of.1 o.1)
+all_read t n (f ∷ files) (Session l ∷ layers) of o = absurd of.0
+all_read t n (f ∷ files) (Read l ∷ layers) of o = (of.0.reads t o.0.within o.0.most o.0.reads, all_read t (n + 1) files layers of.1 o.1)
 
 placed_apart : (t : Trace) (n : ℕ) (files : List LinkedFile) → 0 < n → AllByRecursion (λ f. f.number ≢ 0) (placed_from t n files)
 placed_apart t n [] some = tt
 placed_apart t n (f ∷ files) some = ((λ e. let never : n ≡ 0 = e in absurd (omega arith)), placed_apart t (n + 1) files (omega arith))
 
-pub layers_apart : (n : ℕ) (files : List LinkedFile) (layers : List ReadLayer) → 0 < n → AreReadOf n files layers → AllByRecursion (λ (l : ReadLayer). l.tables.parts.file ≢ 0) layers
+pub layers_apart : (n : ℕ) (files : List LinkedFile) (layers : List FileLayer) → 0 < n → AreReadOf n files layers → AreOthers 0 layers
 layers_apart n [] [] some of = tt
 layers_apart n [] (l ∷ layers) some of = absurd of
 layers_apart n (f ∷ files) [] some of = absurd of
-layers_apart n (f ∷ files) (l ∷ layers) some of = ((λ e. let same : l.tables.parts.file ≡ n = of.0.number in let never : l.tables.parts.file ≡ 0 = e in absurd (omega arith)), layers_apart (n + 1) files layers (omega arith) of.1)
+layers_apart n (f ∷ files) (Session l ∷ layers) some of = absurd of.0
+layers_apart n (f ∷ files) (Read l ∷ layers) some of =
+    ((λ e. let same : l.tables.parts.file ≡ n = of.0.number in let never : l.tables.parts.file ≡ 0 = e in absurd (omega arith)), layers_apart (n + 1) files layers (omega arith) of.1)
 
-read_first : (l : ReadLayer) (layers : List ReadLayer) (t : Trace) (files : List Placed) → AreRead (l ∷ layers) t files → (file : Placed) × IsRead l t file
+read_first : (l : ReadLayer) (layers : List FileLayer) (t : Trace) (files : List Placed) → HaveFiles (Read l ∷ layers) t files → (file : Placed) × IsRead l t file
 read_first l layers t [] r = absurd r
 read_first l layers t (p ∷ files) r = (p, r.0)
 
-read_others : (l : ReadLayer) (layers : List ReadLayer) (t : Trace) (files : List Placed) → AreRead (l ∷ layers) t files → (rest : List Placed) × AreRead layers t rest
+read_others : (l : ReadLayer) (layers : List FileLayer) (t : Trace) (files : List Placed) → HaveFiles (Read l ∷ layers) t files → (rest : List Placed) × HaveFiles layers t rest
 read_others l layers t [] r = absurd r
 read_others l layers t (p ∷ files) r = (files, r.1)
 
-pub all_readable : (g : Geometry) (disk : Disk) (n : ℕ) (files : List LinkedFile) (layers : List ReadLayer) → AreReadOf n files layers → n + length files ≤ disk.files → AllByRecursion (λ (f : LinkedFile). f.parts.geometry ≡ g) files
-    → ((t : Trace) → disk.told ≡ Some t → (placed : List Placed) × AreRead layers t placed) → AreReadable g disk layers
+pub all_readable : (g : Geometry) (disk : Disk) (n : ℕ) (files : List LinkedFile) (layers : List FileLayer) → AreReadOf n files layers → n + length files ≤ disk.files → AllByRecursion (λ (f : LinkedFile). f.parts.geometry ≡ g) files
+    → ((t : Trace) → disk.told ≡ Some t → (placed : List Placed) × HaveFiles layers t placed) → AreReadyFiles g disk layers
 all_readable g disk n [] [] of there same read = tt
 all_readable g disk n [] (l ∷ layers) of there same read = absurd of
 all_readable g disk n (f ∷ files) [] of there same read = absurd of
-all_readable g disk n (f ∷ files) (l ∷ layers) of there same read = (
+all_readable g disk n (f ∷ files) (Session l ∷ layers) of there same read = absurd of.0
+all_readable g disk n (f ∷ files) (Read l ∷ layers) of there same read = (
   record {
-    can = record {
+    ready = record {
       there = let is : l.tables.parts.file ≡ n = of.0.number in omega arith;
       sizes = of.0.sizes;
       told = λ t e. read_first l layers t (read t e).0 (read t e).1;
@@ -219,7 +227,7 @@ module _ (trace : Trace) (leaf : LinkedFile) (others : List LinkedFile) (attache
   opens_at_rest = EachMoment-now (EachOpens leaf.name (λ s. false) opening) trace rests
 
   -- a chain that is only read
-  pub reads_from : (layers : Layers) → layers.geometry ≡ leaf.parts.geometry → layers.leaf ≡ None → AreRead layers.below.items trace chain → IsServing layers (started trace leaf others leaf.parts) trace
+  pub reads_from : (layers : Layers) → layers.geometry ≡ leaf.parts.geometry → layers.leaf ≡ None → HaveFiles layers.below.items trace chain → IsServing layers (started trace leaf others leaf.parts) trace
   reads_from layers geometry none read = record {
     once = attached.once;
     geometry = geometry;
@@ -249,10 +257,10 @@ module _ (trace : Trace) (leaf : LinkedFile) (others : List LinkedFile) (attache
     abbrev Goes : List ℕ → Type 0
     Goes bytes = ShowsFile top bytes ⊎ ShowsFile next bytes
 
-    pub rest_read : (below : List ReadLayer) → AreReadOf 1 others below → AreRead below now rest
+    pub rest_read : (below : List FileLayer) → AreReadOf 1 others below → HaveFiles below now rest
     rest_read below of = still_read 0 Goes trace now over.phase below rest (placed_apart trace 1 others (omega arith)) (all_read trace 1 others below of attached.each.1)
 
-    pub serves_from : (layers : Layers) (l : Layer) → layers.geometry ≡ leaf.parts.geometry → layers.leaf ≡ Some l → AreRead layers.below.items now rest → Serves l now next
+    pub serves_from : (layers : Layers) (l : Layer) → layers.geometry ≡ leaf.parts.geometry → layers.leaf ≡ Some l → HaveFiles layers.below.items now rest → Serves l now next
         → IsServing layers (started trace leaf others (in_session leaf.parts ids)) now
     serves_from layers l geometry is read serves = record {
       once = still_once 0 Goes trace now over.phase attached.once;
@@ -326,7 +334,7 @@ begun_ready leaf others ids layers l before after can geometry is of over ready 
       number = parts.number;
       sector = parts.sector ∙ ap (λ (g : Geometry). g.sector) (sym geometry);
       sectors = parts.sectors ∙ ap (λ (g : Geometry). g.sectors) (sym geometry);
-      apart = λ t e. layers_apart 1 others layers.below.items (omega arith) of;
+      apart = layers_apart 1 others layers.below.items (omega arith) of;
     } in
     record {
       sector = ap (λ (g : Geometry). g.sector) geometry ∙ numbered.0.sector;
@@ -335,14 +343,14 @@ begun_ready leaf others ids layers l before after can geometry is of over ready 
     }
   where
     readers : (a b : Option Trace) → ((t : Trace) → a ≡ Some t → AreAttached (leaf ∷ others) t) → WhereBothTold (BeginsOver leaf.parts ids 0) a b
-        → (t : Trace) → b ≡ Some t → (placed : List Placed) × AreRead layers.below.items t placed
+        → (t : Trace) → b ≡ Some t → (placed : List Placed) × HaveFiles layers.below.items t placed
     readers None None attached over t e = let never : ◌≡◌ {A = Option Trace} None (Some t) = e in cc
     readers None (Some y) attached over t e = absurd over
     readers (Some x) None attached over t e = absurd over
     readers (Some x) (Some y) attached over t e =
         let same : y ≡ t = cc in (
           placed_from x 1 others,
-          subst (λ (n : Trace). AreRead layers.below.items n (placed_from x 1 others)) same
+          subst (λ (n : Trace). HaveFiles layers.below.items n (placed_from x 1 others)) same
               (rest_read x leaf others (attached x refl) can.line can.once can.few (by_recursion IsServed (leaf ∷ others) can.served) ids y over layers.below.items of),
         )
 
@@ -372,20 +380,20 @@ read_ready leaf others layers disk can geometry none of =
 
 -- ---- layers, one after the other
 
-of_behind : (n : ℕ) (a b : List LinkedFile) (x y : List ReadLayer) → AreReadOf n a x → AreReadOf (n + length a) b y → AreReadOf n (a ++ b) (x ++ y)
+of_behind : (n : ℕ) (a b : List LinkedFile) (x y : List FileLayer) → AreReadOf n a x → AreReadOf (n + length a) b y → AreReadOf n (a ++ b) (x ++ y)
 of_behind n [] b [] y first second = let same : n + 0 ≡ n = omega arith in subst (λ (m : ℕ). AreReadOf m b y) same second
 of_behind n [] b (l ∷ x) y first second = absurd first
 of_behind n (f ∷ a) b [] y first second = absurd first
 of_behind n (f ∷ a) b (l ∷ x) y first second = let same : n + suc (length a) ≡ n + 1 + length a = omega arith in (first.0, of_behind (n + 1) a b x y first.1 (subst (λ (m : ℕ). AreReadOf m b y) same second))
 
 -- one more
-pub one_more : (n k : ℕ) (files : List LinkedFile) (f : LinkedFile) (layers : List ReadLayer) (l : ReadLayer) → k < length files → f ≡ get_or files k f → AreReadOf n (take k files) layers → IsReadOf f.parts (n + k) l
-    → AreReadOf n (take (k + 1) files) (layers ++ l ∷ [])
+pub one_more : (n k : ℕ) (files : List LinkedFile) (f : LinkedFile) (layers : List FileLayer) (l : ReadLayer) → k < length files → f ≡ get_or files k f → AreReadOf n (take k files) layers → IsReadOf f.parts (n + k) l
+    → AreReadOf n (take (k + 1) files) (layers ++ Read l ∷ [])
 one_more n k files f layers l below is of made =
     let next : take (k + 1) files ≡ take k files ++ f ∷ [] = take_more files k f below ∙ ap (λ (g : LinkedFile). take k files ++ g ∷ []) (sym is) in
     let count : length (take k files) ≡ k = omega (arith, length-take k files) in
-    subst (λ (fs : List LinkedFile). AreReadOf n fs (layers ++ l ∷ [])) (sym next)
-    (of_behind n (take k files) (f ∷ []) layers (l ∷ []) of (subst (λ (m : ℕ). IsReadOf f.parts (n + m) l) (sym count) made, tt))
+    subst (λ (fs : List LinkedFile). AreReadOf n fs (layers ++ Read l ∷ [])) (sym next)
+    (of_behind n (take k files) (f ∷ []) layers (Read l ∷ []) of (subst (λ (m : ℕ). IsReadOf f.parts (n + m) l) (sym count) made, tt))
 
 -- ---- the files of a slice
 

@@ -24,18 +24,18 @@ use Rattle.chain_model.specs.Members.{disk_of, layers_of}
 use Rattle.chain_model.specs.Images.{Placed, members_of}
 use Rattle.chain_model.proofs.Layering.{length-flat, sector_at-flat}
 use Rattle.layer_session.specs.declared.file.Layer.{Layer}
-use Rattle.layer_session.specs.declared.read_layer.ReadLayer.{ReadLayer}
+use Rattle.layer_session.specs.declared.file_layer.FileLayer.{FileLayer}
 use Rattle.layer_session.specs.Calls.{AddsOwned, IsBeside, IsSame, own_bytes, own_file}
 use Rattle.layer_session.specs.Keeping.{IsHeld, IsReady, Serves}
-use Rattle.layer_session.specs.ReadOnly.{AreRead, AreReadable, AreSameRead, SomeReadFailed}
+use Rattle.layer_session.specs.ReadOnly.{AreRead, AreReadable, AreSameFiles, SomeReadFailed}
 use Rattle.layer_session.proofs.Standing.{layers_stand}
 use Rattle.chain_core.specs.declared.layers.Layers.{Layers}
 use Rattle.chain_core.specs.Reading.{AddsPart, HasOnlyRead, log_number, of_read, of_session}
 use Rattle.chain_core.specs.Sessions.{AreReady, IsReadyLeaf}
-use Rattle.chain_core.specs.States.{AreHeld, State, IsServing, disk_now, files_of, sector_of, seen_in}
-use Rattle.layer_session.proofs.ReadOnly.{read_layers_stand}
+use Rattle.chain_core.specs.States.{AreHeld, State, IsServing, disk_now, files_of, sector_of, seen_in, others_of}
+use Rattle.layer_session.proofs.FileLayers.{file_layers_stand}
 use Rattle.chain_core.proofs.Steps.{LeafStep}
-use Rattle.chain_core.proofs.Standing.{leaf_of, still_readable}
+use Rattle.chain_core.proofs.Standing.{leaf_of}
 
 -- ---- the store stays but for its counts of failed reads
 
@@ -64,25 +64,25 @@ same_beside other a b e = subst (λ o. WhereBothTold (IsBeside other) a o) (sym 
     itself None = tt
     itself (Some t) = record { same = refl; names = refl }
 
-all_beside : (below : List ReadLayer) (before after : Disk) → Stays before after → AllByRecursion (λ (r : ReadLayer). WhereBothTold (IsBeside r.tables.parts.file) before.told after.told) below
-all_beside [] before after s = tt
-all_beside (l ∷ below) before after s = (same_beside l.tables.parts.file before.told after.told s.told, all_beside below before after s)
+ready_moved : (g : Geometry) (below : List FileLayer) (before after : Disk) → Stays before after → AreReadyFiles g before below → AreReadyFiles g after below
+ready_moved g [] before after s all = tt
+ready_moved g (l ∷ below) before after s all = (
+  record { ready = file_layers_stand.ready l before after all.0.ready s.files (same_beside (number_of l) before.told after.told s.told); sector = all.0.sector; sectors = all.0.sectors },
+  ready_moved g below before after s all.1,
+)
 
-readable_moved : (g : Geometry) (below : List ReadLayer) (before after : Disk) → Stays before after → AreReadable g before below → AreReadable g after below
-readable_moved g below before after s all = still_readable g before after below (all_beside below before after s) all s.files
-
-leaf_moved : (g : Geometry) (below : List ReadLayer) (leaf : Layer) (before after : Disk) → Stays before after → IsReadyLeaf g below before leaf → IsReadyLeaf g below after leaf
+leaf_moved : (g : Geometry) (below : List FileLayer) (leaf : Layer) (before after : Disk) → Stays before after → IsReadyLeaf g below before leaf → IsReadyLeaf g below after leaf
 leaf_moved g below leaf before after s l = record {
   ready = layers_stand.ready leaf before after l.ready s.files (same_beside (own_file leaf) before.told after.told s.told);
   number = l.number;
   sector = l.sector;
   sectors = l.sectors;
-  apart = λ trace is. l.apart trace (sym s.told ∙ is);
+  apart = l.apart;
 }
 
 -- ---- the layers serve what they served
 
-swapped : (old new : Layers) (v : State) (trace : Trace) → new.geometry ≡ old.geometry → AreHeld new.leaf new.below.items trace v.top v.others → IsServing old v trace → IsServing new v trace
+swapped : (old new : Layers) (v : State) (trace : Trace) → new.geometry ≡ old.geometry → AreHeld new.leaf new.below.items trace v.top (others_of v.rest) → IsServing old v trace → IsServing new v trace
 swapped old new v trace g held s = record { once = s.once; geometry = g ∙ s.geometry; served = s.served; loose = s.loose; held = held; whole = s.whole; synced = s.synced; still = s.still; past = s.past }
 
 -- the leaf was read
@@ -100,78 +100,64 @@ leaf_reads old new leaf next file before after answer step same done failed read
     } in
     let moved = leaf_moved old.geometry old.below.items next before after s made in
     let there : IsReadyLeaf new.geometry new.below.items after next = subst (λ b. IsReadyLeaf new.geometry b.items after next) (sym step.below) (subst (λ (g : Geometry). IsReadyLeaf g old.below.items after next) (sym step.geometry) moved) in
-    let below = readable_moved old.geometry old.below.items before after s ready.below in
+    let below = ready_moved old.geometry old.below.items before after s ready.below in
     record {
       geometry = step.geometry;
       numbers = ap (option_map (λ (l : Layer). l.log.number)) step.now ∙ ap Some same.number ∙ sym (ap (option_map (λ (l : Layer). l.log.number)) step.was);
       ready = record {
         sector = ap (λ (g : Geometry). g.sector) step.geometry ∙ ready.sector;
         leaf = subst (λ o. IfSome o (IsReadyLeaf new.geometry new.below.items after)) (sym step.now) there;
-        below = subst (λ b. AreReadable new.geometry after b.items) (sym step.below) (subst (λ (g : Geometry). AreReadable g after old.below.items) (sym step.geometry) below);
+        below = subst (λ b. AreReadyFiles new.geometry after b.items) (sym step.below) (subst (λ (g : Geometry). AreReadyFiles g after old.below.items) (sym step.geometry) below);
       };
       serves = λ trace is v serving.
-          let held : Serves leaf trace v.top × AreRead old.below.items trace v.others = subst (λ o. AreHeld o old.below.items trace v.top v.others) step.was serving.held in
-          let rest : AreRead new.below.items trace v.others = subst (λ b. AreRead b.items trace v.others) (sym step.below) held.1 in
-          swapped old new v trace step.geometry (subst (λ o. AreHeld o new.below.items trace v.top v.others) (sym step.now) (same.serves trace v.top is held.0, rest)) serving;
+          let held : Serves leaf trace v.top × HaveFiles old.below.items trace (others_of v.rest) = subst (λ o. AreHeld o old.below.items trace v.top (others_of v.rest)) step.was serving.held in
+          let rest : HaveFiles new.below.items trace (others_of v.rest) = subst (λ b. HaveFiles b.items trace (others_of v.rest)) (sym step.below) held.1 in
+          swapped old new v trace step.geometry (subst (λ o. AreHeld o new.below.items trace v.top (others_of v.rest)) (sym step.now) (same.serves trace v.top is held.0, rest)) serving;
       told = s.told;
     }
 
 -- ---- the files below were read
 
--- layers that can be read have some files
-files_read : (g : Geometry) (disk : Disk) (trace : Trace) (below : List ReadLayer) → disk.told ≡ Some trace → AreReadable g disk below → (files : List Placed) × AreRead below trace files
-files_read g disk trace [] is all = ([], tt)
-files_read g disk trace (l ∷ below) is all =
-    let (file, read) = all.0.can.told trace is in
-    let (files, rest) = files_read g disk trace below is all.1 in
-    (file ∷ files, (read, rest))
+-- their numbers are the same
+same_numbers : (n : ℕ) (was now : List FileLayer) → map table_parts now ≡ map table_parts was → AreOthers n was → AreOthers n now
+same_numbers n was [] same others = tt
+same_numbers n [] (l ∷ now) same others = absurd (let never : ◌≡◌ {A = List TableParts} (table_parts l ∷ map table_parts now) [] = same in cc)
+same_numbers n (w ∷ was) (l ∷ now) same others =
+    let own : table_parts l ≡ table_parts w = cc in
+    let rest : map table_parts now ≡ map table_parts was = cc in
+    ((λ e. others.0 (sym (ap (λ (p : TableParts). p.file) own) ∙ e)), same_numbers n was now rest others.1)
 
--- by which their numbers are seen
-same_numbers : (was now : List ReadLayer) (trace : Trace) (files : List Placed) → AreRead was trace files → AreRead now trace files → AllByRecursion (λ (l : ReadLayer). l.tables.parts.file ≢ 0) was
-    → AllByRecursion (λ (l : ReadLayer). l.tables.parts.file ≢ 0) now
-same_numbers was [] trace files a b ne = tt
-same_numbers [] (n ∷ now) trace [] a b ne = absurd b
-same_numbers [] (n ∷ now) trace (p ∷ files) a b ne = absurd a
-same_numbers (w ∷ was) (n ∷ now) trace [] a b ne = absurd b
-same_numbers (w ∷ was) (n ∷ now) trace (p ∷ files) a b ne = ((λ e. ne.0 (sym a.0.number ∙ b.0.number ∙ e)), same_numbers was now trace files a.1 b.1 ne.1)
-
-leaf_beside : (o : Option Layer) (g : Geometry) (was now : List ReadLayer) (before after : Disk) → Stays before after → AreSameRead g was now before → AreReadable g before was
+leaf_beside : (o : Option Layer) (g : Geometry) (was now : List FileLayer) (before after : Disk) → Stays before after → HaveSameNumbers was now
     → IfSome o (IsReadyLeaf g was before) → IfSome o (IsReadyLeaf g now after)
-leaf_beside None g was now before after s same readable leaf = tt
-leaf_beside (Some leaf) g was now before after s same readable l =
-    leaf_moved g now leaf before after s (record {
-      ready = l.ready;
-      number = l.number;
-      sector = l.sector;
-      sectors = l.sectors;
-      apart = λ trace is. let (files, read) = files_read g before trace was is readable in same_numbers was now trace files read (same.reads trace files is read) (l.apart trace is);
-    })
+leaf_beside None g was now before after s same leaf = tt
+leaf_beside (Some leaf) g was now before after s same l =
+    leaf_moved g now leaf before after s (record { ready = l.ready; number = l.number; sector = l.sector; sectors = l.sectors; apart = same_numbers 0 was now same.parts l.apart })
 
-held_beside : (o : Option Layer) (was now : List ReadLayer) (trace : Trace) (v : State) → ((files : List Placed) → AreRead was trace files → AreRead now trace files) → AreHeld o was trace v.top v.others → AreHeld o now trace v.top v.others
+held_beside : (o : Option Layer) (was now : List FileLayer) (trace : Trace) (v : State) → ((files : List Placed) → HaveFiles was trace files → HaveFiles now trace files) → AreHeld o was trace v.top (others_of v.rest) → AreHeld o now trace v.top (others_of v.rest)
 held_beside None was now trace v reads held = (held.0, reads (files_of v) held.1)
-held_beside (Some leaf) was now trace v reads held = (held.0, reads v.others held.1)
+held_beside (Some leaf) was now trace v reads held = (held.0, reads (others_of v.rest) held.1)
 
-pub below_reads : (old new : Layers) (was now : List ReadLayer) (before after : Disk) (answer : Result (Unit {0}) StoreFault) → was ≡ old.below.items → new.geometry ≡ old.geometry → new.leaf ≡ old.leaf → new.below.items ≡ now
-    → AreSameRead old.geometry was now before → OnOk answer (after ≡ before) → IfErr answer (SomeReadFailed before after) → AreReady old before → HasOnlyRead old new before after
-below_reads old new was now before after answer w g l n same done failed ready =
+pub below_reads : (old new : Layers) (was now : List FileLayer) (before after : Disk) (answer : Result (Unit {0}) StoreFault) → was ≡ old.below.items → new.geometry ≡ old.geometry → new.leaf ≡ old.leaf → new.below.items ≡ now
+    → AreSameFiles old.geometry was now before → HaveSameNumbers was now → OnOk answer (after ≡ before) → IfErr answer (SomeReadFailed before after) → AreReady old before → HasOnlyRead old new before after
+below_reads old new was now before after answer w g l n same numbers done failed ready =
     let s = stays_by before after answer done (of_some before after answer failed) in
-    let same' : AreSameRead old.geometry old.below.items now before = subst (λ (b : List ReadLayer). AreSameRead old.geometry b now before) w same in
-    let leaf : IfSome old.leaf (IsReadyLeaf old.geometry now after) = leaf_beside old.leaf old.geometry old.below.items now before after s same' ready.below ready.leaf in
+    let same' : AreSameFiles old.geometry old.below.items now before = subst (λ (b : List FileLayer). AreSameFiles old.geometry b now before) w same in
+    let leaf : IfSome old.leaf (IsReadyLeaf old.geometry now after) = leaf_beside old.leaf old.geometry old.below.items now before after s (subst (λ (b : List FileLayer). HaveSameNumbers b now) w numbers) ready.leaf in
     let leaf' : IfSome new.leaf (IsReadyLeaf new.geometry new.below.items after) =
     subst (λ o. IfSome o (IsReadyLeaf new.geometry new.below.items after)) (sym l)
-    (subst (λ (b : List ReadLayer). IfSome old.leaf (IsReadyLeaf new.geometry b after)) (sym n) (subst (λ (k : Geometry). IfSome old.leaf (IsReadyLeaf k now after)) (sym g) leaf)) in
-    let below = readable_moved old.geometry now before after s same'.readable in
+    (subst (λ (b : List FileLayer). IfSome old.leaf (IsReadyLeaf new.geometry b after)) (sym n) (subst (λ (k : Geometry). IfSome old.leaf (IsReadyLeaf k now after)) (sym g) leaf)) in
+    let below = ready_moved old.geometry now before after s (same'.ready ready.below) in
     record {
       geometry = g;
       numbers = ap (option_map (λ (l : Layer). l.log.number)) l;
       ready = record {
         sector = ap (λ (k : Geometry). k.sector) g ∙ ready.sector;
         leaf = leaf';
-        below = subst (λ (b : List ReadLayer). AreReadable new.geometry after b) (sym n) (subst (λ (k : Geometry). AreReadable k after now) (sym g) below);
+        below = subst (λ (b : List FileLayer). AreReadyFiles new.geometry after b) (sym n) (subst (λ (k : Geometry). AreReadyFiles k after now) (sym g) below);
       };
       serves = λ trace is v serving.
-          let held : AreHeld old.leaf now trace v.top v.others = held_beside old.leaf old.below.items now trace v (λ files. same'.reads trace files is) serving.held in
-          swapped old new v trace g (subst (λ o. AreHeld o new.below.items trace v.top v.others) (sym l) (subst (λ (b : List ReadLayer). AreHeld old.leaf b trace v.top v.others) (sym n) held)) serving;
+          let held : AreHeld old.leaf now trace v.top (others_of v.rest) = held_beside old.leaf old.below.items now trace v (λ files. same'.have trace files is) serving.held in
+          swapped old new v trace g (subst (λ o. AreHeld o new.below.items trace v.top (others_of v.rest)) (sym l) (subst (λ (b : List FileLayer). AreHeld old.leaf b trace v.top (others_of v.rest)) (sym n) held)) serving;
       told = s.told;
     }
 
@@ -183,21 +169,21 @@ pub leaf_adds : (layers : Layers) (leaf : Layer) (disk : Disk) (first count : �
 leaf_adds layers leaf disk first count mask new_mask out new_out (Err fault) is ready owned = tt
 leaf_adds layers leaf disk first count mask new_mask out new_out (Ok t) is ready owned = λ trace told v serving.
     let l = leaf_of layers leaf disk is ready in
-    let serves : Serves leaf trace v.top = (subst (λ o. AreHeld o layers.below.items trace v.top v.others) is serving.held).0 in
+    let serves : Serves leaf trace v.top = (subst (λ o. AreHeld o layers.below.items trace v.top (others_of v.rest)) is serving.held).0 in
     let held : IsHeld leaf serves.parts v.top.member.layer (own_bytes leaf trace) = subst (λ (n : ℕ). IsHeld leaf serves.parts v.top.member.layer (seen (file_of trace n))) serves.number serves.as_held in
     let adds = owned serves.parts v.top.member.layer trace told held in
     let sized = subst (λ (z : ℕ). AddsOwned v.top.member.layer z first count 0 mask new_mask out new_out) l.sector adds in
     subst (λ o. AddsOwned (of_session o v) layers.geometry.sector first count 0 mask new_mask out new_out) (sym is) sized
 
-pub below_adds : (layers : Layers) (was : List ReadLayer) (disk : Disk) (first count : ℕ) (mask new_mask out new_out : List ℕ) (answer : Result (Unit {0}) StoreFault) → was ≡ layers.below.items
-    → OnOk answer ((files : List Placed) → WhereTold disk.told (λ trace. AreRead was trace files → AddsOwned (through (layers_of (members_of files))) layers.geometry.sector first count 0 mask new_mask out new_out))
+pub below_adds : (layers : Layers) (was : List FileLayer) (disk : Disk) (first count : ℕ) (mask new_mask out new_out : List ℕ) (answer : Result (Unit {0}) StoreFault) → was ≡ layers.below.items
+    → OnOk answer ((files : List Placed) → WhereTold disk.told (λ trace. HaveFiles was trace files → AddsOwned (through (layers_of (members_of files))) layers.geometry.sector first count 0 mask new_mask out new_out))
     → OnOk answer (AddsPart of_read first count layers disk mask new_mask out new_out)
 below_adds layers was disk first count mask new_mask out new_out (Err fault) w owned = tt
 below_adds layers was disk first count mask new_mask out new_out (Ok t) w owned = λ trace told v serving. by_leaf layers.leaf trace told v serving.held
   where
-    by_leaf : (o : Option Layer) (trace : Trace) → disk.told ≡ Some trace → (v : State) → AreHeld o layers.below.items trace v.top v.others → AddsOwned (of_read o v) layers.geometry.sector first count 0 mask new_mask out new_out
-    by_leaf None trace told v held = owned (files_of v) trace told (subst (λ (b : List ReadLayer). AreRead b trace (files_of v)) (sym w) held.1)
-    by_leaf (Some leaf) trace told v held = owned v.others trace told (subst (λ (b : List ReadLayer). AreRead b trace v.others) (sym w) held.1)
+    by_leaf : (o : Option Layer) (trace : Trace) → disk.told ≡ Some trace → (v : State) → AreHeld o layers.below.items trace v.top (others_of v.rest) → AddsOwned (of_read o v) layers.geometry.sector first count 0 mask new_mask out new_out
+    by_leaf None trace told v held = owned (files_of v) trace told (subst (λ (b : List FileLayer). HaveFiles b trace (files_of v)) (sym w) held.1)
+    by_leaf (Some leaf) trace told v held = owned (others_of v.rest) trace told (subst (λ (b : List FileLayer). HaveFiles b trace (others_of v.rest)) (sym w) held.1)
 
 -- a mask of zeros has no bit set
 blank : (k : ℕ) → k < 2048 → bit_of (replicate 256 0) (0 + k) ≡ 0

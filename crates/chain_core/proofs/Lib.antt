@@ -1,3 +1,4 @@
+mod Rests
 pub mod Steps
 pub mod Leafs
 pub mod Standing

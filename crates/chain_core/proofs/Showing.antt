@@ -18,7 +18,7 @@ use Rattle.layer_session.specs.Keeping.{Serves}
 use Rattle.layer_session.proofs.Standing.{layers_stand}
 use Rattle.chain_core.specs.declared.layers.Layers.{Layers}
 use Rattle.chain_core.specs.Laws.{SessionsAreHeld, changed_pages}
-use Rattle.chain_core.specs.States.{AreHeld, IsServing, State, files_of, sector_of}
+use Rattle.chain_core.specs.States.{AreHeld, IsServing, State, files_of, sector_of, others_of}
 use Rattle.chain_core.proofs.Steps.{all_right, numbers_apart}
 
 -- a kept file of which nothing is unsynced or loose, and no page changed, is held as it is shown
@@ -83,9 +83,9 @@ both_in trace pages (p ∷ a) b left right = (left.0, both_in trace pages a b le
 pub sessions_are_held : SessionsAreHeld
 sessions_are_held layers leaf v trace is images none serving =
     let pages = changed_pages leaf v in
-    let serves : Serves leaf trace v.top = (subst (λ o. AreHeld o layers.below.items trace v.top v.others) is serving.held).0 in
+    let serves : Serves leaf trace v.top = (subst (λ o. AreHeld o layers.below.items trace v.top (others_of v.rest)) is serving.held).0 in
     let ne = numbers_apart layers v trace serving in
     let kept = all_right (IsKept trace) v.retired (files_of v) serving.served.kept in
-    let rest = all_held trace pages v.others serving.once images kept.1 (still_synced v trace v.others serving.still ne serving.synced.1) serving.loose.1 (no_pages leaf v v.others ne) in
+    let rest = all_held trace pages (others_of v.rest) serving.once images kept.1 (still_synced v trace (others_of v.rest) serving.still ne serving.synced.1) serving.loose.1 (no_pages leaf v (others_of v.rest) ne) in
     held_chains_open (sector_of v) v.opening v.history v.leaf v.retired (files_of v) trace pages serving.served
     (both_in trace pages v.retired (files_of v) (no_retired trace pages v.retired none) (leaf_held leaf v trace serving.once serves, rest))

@@ -16,21 +16,20 @@ use Rattle.chain_model.specs.Images.{Placed, members_of, name_of}
 use Rattle.chain_model.specs.Moments.{IsPhase, HasWholeImages, EachOpens}
 use Rattle.chain_model.specs.Sessions.{ShowsFile, IsKept, GoesOver, LeavesLoose}
 use Rattle.chain_model.specs.PhaseLaws.{LeafCall, CallSurvives, IsNamedOnce}
-use Rattle.chain_model.proofs.Serving.{loose_is_dirty, past_goes_on, served_chains_open}
-use Rattle.chain_model.proofs.Calling.{calls_survive}
-use Rattle.chain_model.proofs.Phasing.{file_goes_over}
+use Rattle.chain_model.proofs.Serving.{past_goes_on}
 use Rattle.layer_session.specs.declared.file.Layer.{Layer}
 use Rattle.layer_session.specs.declared.file.LayerFault.{LayerFault}
 use Rattle.layer_session.specs.declared.file.LayerFault.TheVariants.{Read, Write, FileFull}
-use Rattle.layer_session.specs.declared.read_layer.ReadLayer.{ReadLayer}
+use Rattle.layer_session.specs.declared.file_layer.FileLayer.{FileLayer}
 use Rattle.layer_session.specs.Calls.{IsBeside}
 use Rattle.layer_session.specs.Keeping.{Serves}
-use Rattle.layer_session.specs.ReadOnly.{AreRead}
+use Rattle.layer_session.specs.FileLayers.{HaveFiles}
 use Rattle.layer_session.proofs.Crashes.{layers_are_kept}
 use Rattle.chain_core.specs.declared.layers.Layers.{Layers}
-use Rattle.chain_core.specs.States.{State, IsServing, LeavesOthers, AreHeld, seen_in, sector_of, disk_now, dirty_now, files_of, wide, made}
+use Rattle.chain_core.specs.States.{State, IsServing, LeavesOthers, AreHeld, seen_in, sector_of, disk_now, dirty_now, files_of, wide, made, others_of}
 use Rattle.chain_core.specs.Answering.{IsDone, IsRefused, HasBroken, LayerAnswers}
-use Rattle.layer_session.proofs.ReadOnly.{read_layers_stand}
+use Rattle.layer_session.proofs.FileLayers.{file_layers_stand}
+use Rattle.chain_core.proofs.Rests.{call_survives, leaf_survives, loose_after, opens_now, top_loose}
 
 -- ---- the leaf's answer, of its file
 
@@ -95,14 +94,14 @@ apart : (trace : Trace) (top : Placed) (others : List Placed) → IsKept trace t
 apart trace top [] kept all ne = tt
 apart trace top (p ∷ others) kept all ne = ((λ same. ne.0 (sym all.0.name ∙ ap (name_of trace.attached) same ∙ kept.name)), apart trace top others kept all.1 ne.1)
 
--- so those below are read still
-pub still_read : (number : ℕ) (P : List ℕ → Type 0) (old now : Trace) → IsPhase number P old now → (below : List ReadLayer) (others : List Placed) → AllByRecursion (λ f. f.number ≢ number) others
-    → AreRead below old others → AreRead below now others
+-- so those below stand still
+pub still_read : (number : ℕ) (P : List ℕ → Type 0) (old now : Trace) → IsPhase number P old now → (below : List FileLayer) (others : List Placed) → AllByRecursion (λ f. f.number ≢ number) others
+    → HaveFiles below old others → HaveFiles below now others
 still_read number P old now phase [] [] ne all = tt
 still_read number P old now phase [] (p ∷ others) ne all = absurd all
 still_read number P old now phase (l ∷ below) [] ne all = absurd all
 still_read number P old now phase (l ∷ below) (p ∷ others) ne all =
-    (read_layers_stand.beside l old now p all.0 (phase_beside number P old now phase p.number ne.0), still_read number P old now phase below others ne.1 all.1)
+    (file_layers_stand.beside l old now p all.0 (phase_beside number P old now phase p.number ne.0), still_read number P old now phase below others ne.1 all.1)
 
 -- ---- the leaf
 
@@ -148,16 +147,16 @@ leaves_loose z e top = record {
 }
 
 -- the others' numbers
-pub numbers_apart : (layers : Layers) (v : State) (trace : Trace) → IsServing layers v trace → AllByRecursion (λ f. f.number ≢ v.top.number) v.others
+pub numbers_apart : (layers : Layers) (v : State) (trace : Trace) → IsServing layers v trace → AllByRecursion (λ f. f.number ≢ v.top.number) (others_of v.rest)
 numbers_apart layers v trace serving =
     let kept = all_right (IsKept trace) v.retired (files_of v) serving.served.kept in
-    apart trace v.top v.others kept.0 kept.1 (names_behind v.retired (files_of v) serving.served.linked.once).0
+    apart trace v.top (others_of v.rest) kept.0 kept.1 (names_behind v.retired (files_of v) serving.served.linked.once).0
 
 survives : (e : Entry) (v : State) (layers : Layers) (trace now : Trace) → IsServing layers v trace → IsPhase v.top.number (ShowsFile (wide (sector_of v) e.call v.top)) trace now
-    → CallSurvives (sector_of v) v.opening v.history e v.leaf (dirty_now v) (made (sector_of v) e.call v.top) v.retired (made (sector_of v) e.call v.top ∷ v.others) trace now
+    → CallSurvives (sector_of v) v.opening v.history e v.leaf (dirty_now v) (made (sector_of v) e.call v.top) v.retired (made (sector_of v) e.call v.top ∷ (others_of v.rest)) trace now
 survives e v layers trace now serving phase =
-    calls_survive.settled (sector_of v) v.opening v.history e v.leaf (dirty_now v) (either v.top.is_loose (is_named (sector_of v) e.call)) v.retired v.top (made (sector_of v) e.call v.top) v.others trace now serving.once serving.served
-    (leaf_call e v trace now serving.loose.0 phase) serving.loose
+    call_survives (sector_of v) v.opening v.history e v.leaf (dirty_now v) (either v.top.is_loose (is_named (sector_of v) e.call)) v.retired v.top (made (sector_of v) e.call v.top) v.rest trace now serving.once serving.served
+    (leaf_call e v trace now (top_loose (dirty_now v) v.top v.rest serving.loose) phase) serving.loose
 
 -- what a call names is there
 there_on : (b : Bool) (bytes : List ℕ) (o rest : Option (List ℕ)) → is_some (option_or o rest) ≡ true → is_some (option_or (cond b (Some bytes) o) rest) ≡ true
@@ -174,12 +173,12 @@ still_others v layers P trace now serving phase other ne = phase_others v.top.nu
 
 -- what the layers have, once the leaf's was called
 held_by : (old new : Layers) (leaf next : Layer) (v : State) (top : Placed) (P : List ℕ → Type 0) (trace now : Trace) → LeafStep old new leaf next → IsServing old v trace → IsPhase v.top.number P trace now → Serves next now top
-    → AreHeld new.leaf new.below.items now top v.others
+    → AreHeld new.leaf new.below.items now top (others_of v.rest)
 held_by old new leaf next v top P trace now step serving phase serves =
-    let held : Serves leaf trace v.top × AreRead old.below.items trace v.others = subst (λ o. AreHeld o old.below.items trace v.top v.others) step.was serving.held in
-    let read : AreRead old.below.items now v.others = still_read v.top.number P trace now phase old.below.items v.others (numbers_apart old v trace serving) held.1 in
-    let read' : AreRead new.below.items now v.others = subst (λ b. AreRead b.items now v.others) (sym step.below) read in
-    subst (λ o. AreHeld o new.below.items now top v.others) (sym step.now) (serves, read')
+    let held : Serves leaf trace v.top × HaveFiles old.below.items trace (others_of v.rest) = subst (λ o. AreHeld o old.below.items trace v.top (others_of v.rest)) step.was serving.held in
+    let read : HaveFiles old.below.items now (others_of v.rest) = still_read v.top.number P trace now phase old.below.items (others_of v.rest) (numbers_apart old v trace serving) held.1 in
+    let read' : HaveFiles new.below.items now (others_of v.rest) = subst (λ b. HaveFiles b.items now (others_of v.rest)) (sym step.below) read in
+    subst (λ o. AreHeld o new.below.items now top (others_of v.rest)) (sym step.now) (serves, read')
 
 -- the call was done
 pub done : (e : Entry) (v : State) (old new : Layers) (leaf next : Layer) (trace now : Trace) → LeafStep old new leaf next → IsServing old v trace → IsMade (sector_of v) e.call v.top next trace now → IsDone e v new trace now
@@ -192,9 +191,9 @@ done e v old new leaf next trace now step serving is =
         once = still_once v.top.number (ShowsFile (wide z e.call v.top)) trace now is.moments serving.once;
         geometry = step.geometry ∙ serving.geometry;
         served = call.served (layers_are_kept next now (made z e.call v.top) is.holds).shows;
-        loose = loose_is_dirty.settled z v.history e v.top (made z e.call v.top) v.others (leaves_loose z e v.top) serving.loose;
+        loose = loose_after z v.history e v.top (made z e.call v.top) v.rest (leaves_loose z e v.top) serving.loose;
         held = held_by old new leaf next v (made z e.call v.top) (ShowsFile (wide z e.call v.top)) trace now step serving is.moments is.holds;
-        whole = whole_on z e.call v.top v.others serving.whole;
+        whole = whole_on z e.call v.top (others_of v.rest) serving.whole;
         synced = serving.synced;
         still = still_others v old (ShowsFile (wide z e.call v.top)) trace now serving is.moments;
         past = past_goes_on.call z v.opening v.history e (λ s. false) v.leaf v.began trace now serving.past call.moments;
@@ -205,8 +204,8 @@ done e v old new leaf next trace now step serving is =
 pub as_before : (v : State) (old new : Layers) (leaf next : Layer) (trace now : Trace) → LeafStep old new leaf next → IsServing old v trace → IsAsBefore v.top next trace now → IsRefused v new trace now
 as_before v old new leaf next trace now step serving is =
     let z = sector_of v in
-    let over = file_goes_over z v.opening v.history v.leaf (dirty_now v) v.retired [] v.top v.top v.others trace now serving.once serving.served (goes_over v.top v.top trace now refl refl is.moments)
-    (λ s. refl) refl serving.served.linked serving.loose serving.loose in
+    let over = leaf_survives z v.opening v.history v.leaf (dirty_now v) v.retired v.top v.top v.rest trace now serving.once serving.served (goes_over v.top v.top trace now refl refl is.moments)
+    (λ s. refl) refl serving.loose serving.loose in
     record {
       moments = over.moments;
       serving = record {
@@ -236,7 +235,7 @@ failed e v layers trace now serving has =
 pub at_rest : (v : State) (layers : Layers) (trace : Trace) → IsServing layers v trace → IsRefused v layers trace trace
 at_rest v layers trace serving = record {
   moments = EachMoment-now (EachOpens v.leaf (dirty_now v) (disk_now v)) trace
-      (served_chains_open.settled (sector_of v) v.opening v.history v.leaf (dirty_now v) v.retired (files_of v) trace serving.once serving.served serving.loose);
+      (opens_now (sector_of v) v.opening v.history v.leaf (dirty_now v) v.retired v.top v.rest trace serving.once serving.served serving.loose);
   serving = serving;
 }
 

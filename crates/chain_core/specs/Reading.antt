@@ -9,7 +9,7 @@ use Rattle.chain_model.specs.Layers.{Layer as SectorLayer}
 use Rattle.layer_session.specs.declared.file.Layer.{Layer}
 use Rattle.layer_session.specs.Calls.{AddsOwned}
 use Rattle.chain_core.specs.Sessions.{AreReady}
-use Rattle.chain_core.specs.States.{State, IsServing, disk_now, files_of, seen_in}
+use Rattle.chain_core.specs.States.{State, IsServing, disk_now, files_of, seen_in, others_of}
 use Rattle.chain_core.specs.declared.layers.Layers.{Layers}
 
 -- the number of the last entry of the leaf's log
@@ -38,7 +38,7 @@ of_session (Some leaf) v s = v.top.member.layer s
 
 abbrev pub of_read : Option Layer → State → SectorLayer
 of_read None v s = seen_in (files_of v) s
-of_read (Some leaf) v s = seen_in v.others s
+of_read (Some leaf) v s = seen_in (others_of v.rest) s
 
 -- a part of the files adds its sectors to those that were found
 abbrev pub AddsPart : (Option Layer → State → SectorLayer) → ℕ → ℕ → Layers → Disk → List ℕ → List ℕ → List ℕ → List ℕ → Type 0

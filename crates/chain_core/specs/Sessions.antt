@@ -1,15 +1,14 @@
 -- What stands of a session for every store, whether it tells its content or not.
-use Rattle.std.specs.Prelude.{◌≡◌, ◌≢◌, ◌+◌, ◌^◌, ◌≤◌, ℕ, List, Option, None, IfSome}
-use Rattle.std.specs.List.{AllByRecursion}
+use Rattle.std.specs.Prelude.{◌≡◌, ◌+◌, ◌^◌, ◌≤◌, ℕ, List, Option, None, IfSome}
 use Rattle.vx_base.specs.declared.parts.Geometry.{Geometry}
-use Rattle.store_model.specs.Disk.{Disk, WhereTold}
+use Rattle.store_model.specs.Disk.{Disk}
 use Rattle.store_model.specs.declared.fault.StoreFault.{StoreFault}
 use Rattle.guest_model.specs.declared.call.Entry.{Entry}
 use Rattle.layer_session.specs.declared.file.Layer.{Layer}
-use Rattle.layer_session.specs.declared.read_layer.ReadLayer.{ReadLayer}
+use Rattle.layer_session.specs.declared.file_layer.FileLayer.{FileLayer}
 use Rattle.layer_session.specs.Calls.{own_file}
 use Rattle.layer_session.specs.Keeping.{IsReady}
-use Rattle.layer_session.specs.ReadOnly.{AreReadable}
+use Rattle.layer_session.specs.FileLayers.{AreOthers, AreReadyFiles}
 use Rattle.chain_core.specs.declared.chain.Chain.{Chain}
 use Rattle.chain_core.specs.declared.layers.Layers.{Layers}
 
@@ -38,19 +37,19 @@ seen disk noted told chain = record {
 abbrev pub IsCounted : {S R T : Type 0} → Chain S R T → Chain S R T → Type 0
 IsCounted old new = new ≡ record old { events = new.events }
 
--- the leaf's layer in a session can be written; its file is the store's first, and no other layer's where the store tells its content
-pub record IsReadyLeaf (geometry : Geometry) (below : List ReadLayer) (disk : Disk) (leaf : Layer) : Type 0 where
+-- the leaf's layer in a session can be written; its file is the store's first, and no other layer's
+pub record IsReadyLeaf (geometry : Geometry) (below : List FileLayer) (disk : Disk) (leaf : Layer) : Type 0 where
   pub ready : IsReady leaf disk
   pub number : own_file leaf ≡ 0
   pub sector : leaf.tables.parts.sector ≡ geometry.sector
   pub sectors : leaf.tables.parts.sectors ≡ geometry.sectors
-  pub apart : WhereTold disk.told (λ _. AllByRecursion (λ (l : ReadLayer). l.tables.parts.file ≢ 0) below)
+  pub apart : AreOthers 0 below
 
--- layers of files that can be read, and the leaf written if it is in a session
+-- layers of files that can be read, and those written that are in a session
 pub record AreReady (layers : Layers) (disk : Disk) : Type 0 where
   pub sector : layers.geometry.sector ≡ 512
   pub leaf : IfSome layers.leaf (IsReadyLeaf layers.geometry layers.below.items disk)
-  pub below : AreReadable layers.geometry disk layers.below.items
+  pub below : AreReadyFiles layers.geometry disk layers.below.items
 
 -- the number of the log's last entry is at most this
 abbrev pub IsLow : ℕ → Layers → Type 0

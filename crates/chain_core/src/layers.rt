@@ -10,7 +10,7 @@ ghost use Rattle.chain_core.specs.Answering.{EndsTold, FailsByChange, LayerRoomI
 ghost use Rattle.chain_core.specs.Reading.{AddsPart, Finds, HasOnlyRead, of_read, of_session};
 ghost use Rattle.chain_core.specs.Sessions.{AreReady, IsLow};
 
-use layer_session::{Layer, LayerFault, ReadLayer, own_through};
+use layer_session::{FileLayer, Layer, LayerFault, own_files};
 use store_model::{Store, StoreFault};
 use vx_base::Geometry;
 
@@ -20,8 +20,8 @@ pub struct Layers {
     pub(crate) geometry: Geometry,
     /// The leaf's session; none where the chain is only read.
     pub(crate) leaf: Option<Layer>,
-    /// The files that are only read, the upper one first: those below the leaf, or all.
-    pub(crate) below: Vec<ReadLayer>,
+    /// The other files, the upper one first: those below the leaf's session, or all.
+    pub(crate) below: Vec<FileLayer>,
 }
 
 impl Layers {
@@ -56,7 +56,7 @@ impl Layers {
         }
     }
 
-    // Adds what the files have that are only read.
+    // Adds what the other files have.
     fn own_below<S: Store>(
         &mut self,
         store: &mut S,
@@ -75,7 +75,7 @@ impl Layers {
         ensures err { IfErr result (SomeReadFailed (S.disk store.old) (S.disk store.new)) }
     {
         let below = self.below.as_mut_slice();
-        own_through(below, store, self.geometry, first, count, out, mask, 0)
+        own_files(below, store, self.geometry, first, count, out, mask, 0)
     }
 
     /// Finds sectors of the disk, file by file.
