@@ -4,7 +4,7 @@ use Rattle.std.specs.Prelude.{Option, Some, None, unwrap_or, option_map, Result,
 use Rattle.std.specs.List.{AllByRecursion}
 use Rattle.std.specs.Option.{option_or}
 use Rattle.std.specs.Int.{bit_at}
-use Rattle.std.proofs.lemmas.List.{nil_from_length, take-append-drop, drop-drop, drop_more, length-drop, get_or-replicate}
+use Rattle.std.proofs.lemmas.List.{nil_from_length, take-append-drop, drop-drop, drop_more, length-drop, get_or-replicate, length-map}
 use Rattle.std.proofs.lemmas.Nat.Bits.{bit_at-zero}
 use Rattle.vx_base.specs.declared.parts.Geometry.{Geometry}
 use Rattle.vx_base.specs.declared.parts.Parts.{Parts}
@@ -30,12 +30,13 @@ use Rattle.layer_session.specs.Keeping.{IsHeld, IsReady, Serves}
 use Rattle.layer_session.specs.ReadOnly.{AreRead, AreReadable, AreSameFiles, SomeReadFailed}
 use Rattle.layer_session.proofs.Standing.{layers_stand}
 use Rattle.chain_core.specs.declared.layers.Layers.{Layers}
-use Rattle.chain_core.specs.Reading.{AddsPart, HasOnlyRead, log_number, of_read, of_session}
-use Rattle.chain_core.specs.Sessions.{AreReady, IsReadyLeaf}
-use Rattle.chain_core.specs.States.{AreHeld, State, IsServing, disk_now, files_of, sector_of, seen_in, others_of}
+use Rattle.chain_core.specs.Reading.{AddsPart, HasOnlyRead, of_read, of_session}
+use Rattle.chain_core.specs.declared.layers.Underway.{Underway}
+use Rattle.chain_core.specs.Sessions.{AreApart, AreReady, IsMergeOf, IsReadyLeaf, log_numbers}
+use Rattle.chain_core.specs.States.{AreHeld, State, IsServing, disk_now, files_of, sector_of, seen_in, others_of, AreWritten, IsCourse}
 use Rattle.layer_session.proofs.FileLayers.{file_layers_stand}
-use Rattle.chain_core.proofs.Steps.{LeafStep}
-use Rattle.chain_core.proofs.Standing.{leaf_of}
+use Rattle.chain_core.proofs.Steps.{LeafStep, written_on}
+use Rattle.chain_core.proofs.Standing.{leaf_of, merge_on}
 
 -- ---- the store stays but for its counts of failed reads
 
@@ -82,8 +83,20 @@ leaf_moved g below leaf before after s l = record {
 
 -- ---- the layers serve what they served
 
-swapped : (old new : Layers) (v : State) (trace : Trace) → new.geometry ≡ old.geometry → AreHeld new.leaf new.below.items trace v.top (others_of v.rest) → IsServing old v trace → IsServing new v trace
-swapped old new v trace g held s = record { once = s.once; geometry = g ∙ s.geometry; served = s.served; loose = s.loose; held = held; whole = s.whole; synced = s.synced; still = s.still; past = s.past }
+swapped : (old new : Layers) (v : State) (trace : Trace) → new.geometry ≡ old.geometry → new.merge ≡ old.merge → IfSome new.leaf (λ leaf. (v.writes v.top.number ≡ true) × AreWritten v.writes new.below.items) → AreHeld new.leaf new.below.items trace v.top (others_of v.rest) → IsServing old v trace → IsServing new v trace
+swapped old new v trace g m written held s = record {
+  once = s.once;
+  geometry = g ∙ s.geometry;
+  served = s.served;
+  loose = s.loose;
+  course = subst (λ o. IsCourse (sector_of v) o v.rest) (sym m) s.course;
+  held = held;
+  whole = s.whole;
+  synced = s.synced;
+  written = written;
+  still = s.still;
+  past = s.past;
+}
 
 -- the leaf was read
 pub leaf_reads : (old new : Layers) (leaf next : Layer) (file : ℕ) (before after : Disk) (answer : Result (Unit {0}) StoreFault) → LeafStep old new leaf next → IsSame leaf next before
@@ -103,61 +116,108 @@ leaf_reads old new leaf next file before after answer step same done failed read
     let below = ready_moved old.geometry old.below.items before after s ready.below in
     record {
       geometry = step.geometry;
-      numbers = ap (option_map (λ (l : Layer). l.log.number)) step.now ∙ ap Some same.number ∙ sym (ap (option_map (λ (l : Layer). l.log.number)) step.was);
+      numbers = ap (λ (o : Option Layer). option_map (λ (l : Layer). l.log.number) o ∷ map log_number new.below.items) step.now ∙ ap (λ (n : ℕ). Some n ∷ map log_number new.below.items) same.number
+          ∙ sym (ap (λ (o : Option Layer). option_map (λ (l : Layer). l.log.number) o ∷ map log_number new.below.items) step.was)
+          ∙ ap (λ b. option_map (λ (l : Layer). l.log.number) old.leaf ∷ map log_number b.items) step.below;
+      merge = step.merge;
       ready = record {
         sector = ap (λ (g : Geometry). g.sector) step.geometry ∙ ready.sector;
         leaf = subst (λ o. IfSome o (IsReadyLeaf new.geometry new.below.items after)) (sym step.now) there;
         below = subst (λ b. AreReadyFiles new.geometry after b.items) (sym step.below) (subst (λ (g : Geometry). AreReadyFiles g after old.below.items) (sym step.geometry) below);
+        apart = subst (λ b. AreApart (file_numbers b.items)) (sym step.below) ready.apart;
+        merge = merge_on old new leaf next step ready.merge;
       };
       serves = λ trace is v serving.
           let held : Serves leaf trace v.top × HaveFiles old.below.items trace (others_of v.rest) = subst (λ o. AreHeld o old.below.items trace v.top (others_of v.rest)) step.was serving.held in
           let rest : HaveFiles new.below.items trace (others_of v.rest) = subst (λ b. HaveFiles b.items trace (others_of v.rest)) (sym step.below) held.1 in
-          swapped old new v trace step.geometry (subst (λ o. AreHeld o new.below.items trace v.top (others_of v.rest)) (sym step.now) (same.serves trace v.top is held.0, rest)) serving;
+          swapped old new v trace step.geometry step.merge (written_on old new leaf next v step serving) (subst (λ o. AreHeld o new.below.items trace v.top (others_of v.rest)) (sym step.now) (same.serves trace v.top is held.0, rest)) serving;
       told = s.told;
     }
 
 -- ---- the files below were read
 
--- their numbers are the same
-same_numbers : (n : ℕ) (was now : List FileLayer) → map table_parts now ≡ map table_parts was → AreOthers n was → AreOthers n now
-same_numbers n was [] same others = tt
-same_numbers n [] (l ∷ now) same others = absurd (let never : ◌≡◌ {A = List TableParts} (table_parts l ∷ map table_parts now) [] = same in cc)
-same_numbers n (w ∷ was) (l ∷ now) same others =
+-- what holds of their numbers, and of those of their logs' last entries, holds still
+same_numbers : (P : ℕ → Option ℕ → Type 0) (was now : List FileLayer) → map table_parts now ≡ map table_parts was → map log_number now ≡ map log_number was
+    → AllByRecursion (λ l. P (number_of l) (log_number l)) was → AllByRecursion (λ l. P (number_of l) (log_number l)) now
+same_numbers P was [] parts logs all = tt
+same_numbers P [] (l ∷ now) parts logs all = absurd (let never : ◌≡◌ {A = List TableParts} (table_parts l ∷ map table_parts now) [] = parts in cc)
+same_numbers P (w ∷ was) (l ∷ now) parts logs all =
+    let own : table_parts w ≡ table_parts l = cc in
+    let log : log_number w ≡ log_number l = cc in
+    let rest : map table_parts now ≡ map table_parts was = cc in
+    let others : map log_number now ≡ map log_number was = cc in
+    (subst (λ (n : ℕ). P n (log_number l)) (ap (λ (p : TableParts). p.file) own) (subst (λ (k : Option ℕ). P (number_of w) k) log all.0), same_numbers P was now rest others all.1)
+
+numbers_same : (was now : List FileLayer) → map table_parts now ≡ map table_parts was → file_numbers now ≡ file_numbers was
+numbers_same was [] parts = by_was was parts
+  where
+    by_was : (was : List FileLayer) → map table_parts [] ≡ map table_parts was → [] ≡ file_numbers was
+    by_was [] parts = refl
+    by_was (w ∷ was) parts = absurd (let never : ◌≡◌ {A = List TableParts} [] (table_parts w ∷ map table_parts was) = parts in cc)
+numbers_same [] (l ∷ now) parts = absurd (let never : ◌≡◌ {A = List TableParts} (table_parts l ∷ map table_parts now) [] = parts in cc)
+numbers_same (w ∷ was) (l ∷ now) parts =
     let own : table_parts l ≡ table_parts w = cc in
     let rest : map table_parts now ≡ map table_parts was = cc in
-    ((λ e. others.0 (sym (ap (λ (p : TableParts). p.file) own) ∙ e)), same_numbers n was now rest others.1)
+    let first : number_of l ≡ number_of w = ap (λ (p : TableParts). p.file) own in
+    let others : file_numbers now ≡ file_numbers was = numbers_same was now rest in
+    cc
+
+-- a merge is one of them still
+merge_same : (g : Geometry) (leaf : Option Layer) (was now : List FileLayer) (merge : Option Underway) → HaveSameNumbers was now → IfSome merge (IsMergeOf g leaf was) → IfSome merge (IsMergeOf g leaf now)
+merge_same g leaf was now None same is = tt
+merge_same g leaf was now (Some u) same is =
+    let long : length now ≡ length was = sym (length-map table_parts now) ∙ ap length same.parts ∙ length-map table_parts was in
+    record { leaf = is.leaf; there = let below : u.source + 1 < length was = is.there in omega arith; target = ap (λ (logs : List (Option ℕ)). is_some (get_or logs (u.source + 1) None)) same.logs ∙ is.target; stripes = is.stripes }
 
 leaf_beside : (o : Option Layer) (g : Geometry) (was now : List FileLayer) (before after : Disk) → Stays before after → HaveSameNumbers was now
     → IfSome o (IsReadyLeaf g was before) → IfSome o (IsReadyLeaf g now after)
 leaf_beside None g was now before after s same leaf = tt
 leaf_beside (Some leaf) g was now before after s same l =
-    leaf_moved g now leaf before after s (record { ready = l.ready; number = l.number; sector = l.sector; sectors = l.sectors; apart = same_numbers 0 was now same.parts l.apart })
+    leaf_moved g now leaf before after s (record { ready = l.ready; number = l.number; sector = l.sector; sectors = l.sectors; apart = same_numbers (λ n k. n ≢ 0) was now same.parts same.logs l.apart })
 
 held_beside : (o : Option Layer) (was now : List FileLayer) (trace : Trace) (v : State) → ((files : List Placed) → HaveFiles was trace files → HaveFiles now trace files) → AreHeld o was trace v.top (others_of v.rest) → AreHeld o now trace v.top (others_of v.rest)
 held_beside None was now trace v reads held = (held.0, reads (files_of v) held.1)
 held_beside (Some leaf) was now trace v reads held = (held.0, reads (others_of v.rest) held.1)
 
-pub below_reads : (old new : Layers) (was now : List FileLayer) (before after : Disk) (answer : Result (Unit {0}) StoreFault) → was ≡ old.below.items → new.geometry ≡ old.geometry → new.leaf ≡ old.leaf → new.below.items ≡ now
+written_beside : (old new : Layers) (now : List FileLayer) (v : State) → HaveSameNumbers old.below.items now → new.leaf ≡ old.leaf → new.below.items ≡ now
+    → IfSome old.leaf (λ leaf. (v.writes v.top.number ≡ true) × AreWritten v.writes old.below.items) → IfSome new.leaf (λ leaf. (v.writes v.top.number ≡ true) × AreWritten v.writes new.below.items)
+written_beside old new now v same l n written =
+    subst (λ o. IfSome o (λ leaf. (v.writes v.top.number ≡ true) × AreWritten v.writes new.below.items)) (sym l)
+    (subst (λ (b : List FileLayer). IfSome old.leaf (λ leaf. (v.writes v.top.number ≡ true) × AreWritten v.writes b)) (sym n) (by_leaf old.leaf written))
+  where
+    by_leaf : (o : Option Layer) → IfSome o (λ leaf. (v.writes v.top.number ≡ true) × AreWritten v.writes old.below.items) → IfSome o (λ leaf. (v.writes v.top.number ≡ true) × AreWritten v.writes now)
+    by_leaf None h = tt
+    by_leaf (Some leaf) h = (h.0, same_numbers (λ n k. v.writes n ≡ is_some k) old.below.items now same.parts same.logs h.1)
+
+pub below_reads : (old new : Layers) (was now : List FileLayer) (before after : Disk) (answer : Result (Unit {0}) StoreFault) → was ≡ old.below.items → new.geometry ≡ old.geometry → new.leaf ≡ old.leaf → new.merge ≡ old.merge → new.below.items ≡ now
     → AreSameFiles old.geometry was now before → HaveSameNumbers was now → OnOk answer (after ≡ before) → IfErr answer (SomeReadFailed before after) → AreReady old before → HasOnlyRead old new before after
-below_reads old new was now before after answer w g l n same numbers done failed ready =
+below_reads old new was now before after answer w g l m n same numbers done failed ready =
     let s = stays_by before after answer done (of_some before after answer failed) in
     let same' : AreSameFiles old.geometry old.below.items now before = subst (λ (b : List FileLayer). AreSameFiles old.geometry b now before) w same in
-    let leaf : IfSome old.leaf (IsReadyLeaf old.geometry now after) = leaf_beside old.leaf old.geometry old.below.items now before after s (subst (λ (b : List FileLayer). HaveSameNumbers b now) w numbers) ready.leaf in
+    let numbers' : HaveSameNumbers old.below.items now = subst (λ (b : List FileLayer). HaveSameNumbers b now) w numbers in
+    let leaf : IfSome old.leaf (IsReadyLeaf old.geometry now after) = leaf_beside old.leaf old.geometry old.below.items now before after s numbers' ready.leaf in
     let leaf' : IfSome new.leaf (IsReadyLeaf new.geometry new.below.items after) =
     subst (λ o. IfSome o (IsReadyLeaf new.geometry new.below.items after)) (sym l)
     (subst (λ (b : List FileLayer). IfSome old.leaf (IsReadyLeaf new.geometry b after)) (sym n) (subst (λ (k : Geometry). IfSome old.leaf (IsReadyLeaf k now after)) (sym g) leaf)) in
     let below = ready_moved old.geometry now before after s (same'.ready ready.below) in
     record {
       geometry = g;
-      numbers = ap (option_map (λ (l : Layer). l.log.number)) l;
+      numbers = ap (λ (o : Option Layer). option_map (λ (l : Layer). l.log.number) o ∷ map log_number new.below.items) l
+          ∙ ap (λ (logs : List (Option ℕ)). option_map (λ (l : Layer). l.log.number) old.leaf ∷ logs) (ap (map log_number) n ∙ numbers'.logs);
+      merge = m;
       ready = record {
         sector = ap (λ (k : Geometry). k.sector) g ∙ ready.sector;
         leaf = leaf';
         below = subst (λ (b : List FileLayer). AreReadyFiles new.geometry after b) (sym n) (subst (λ (k : Geometry). AreReadyFiles k after now) (sym g) below);
+        apart = subst AreApart (sym (ap file_numbers n ∙ numbers_same old.below.items now numbers'.parts)) ready.apart;
+        merge = subst (λ o. IfSome o (IsMergeOf new.geometry new.leaf new.below.items)) (sym m)
+            (subst (λ (k : Geometry). IfSome old.merge (IsMergeOf k new.leaf new.below.items)) (sym g)
+            (subst (λ o. IfSome old.merge (IsMergeOf old.geometry o new.below.items)) (sym l)
+            (subst (λ (b : List FileLayer). IfSome old.merge (IsMergeOf old.geometry old.leaf b)) (sym n) (merge_same old.geometry old.leaf old.below.items now old.merge numbers' ready.merge))));
       };
       serves = λ trace is v serving.
           let held : AreHeld old.leaf now trace v.top (others_of v.rest) = held_beside old.leaf old.below.items now trace v (λ files. same'.have trace files is) serving.held in
-          swapped old new v trace g (subst (λ o. AreHeld o new.below.items trace v.top (others_of v.rest)) (sym l) (subst (λ (b : List FileLayer). AreHeld old.leaf b trace v.top (others_of v.rest)) (sym n) held)) serving;
+          swapped old new v trace g m (written_beside old new now v numbers' l n serving.written) (subst (λ o. AreHeld o new.below.items trace v.top (others_of v.rest)) (sym l) (subst (λ (b : List FileLayer). AreHeld old.leaf b trace v.top (others_of v.rest)) (sym n) held)) serving;
       told = s.told;
     }
 
@@ -255,6 +315,9 @@ replied z first count v layers trace out sized serving inside len has =
     sector_at-flat z g.sectors all (first + k) (omega arith)
     ∙ sym (ap (λ (m : ℕ). take z (drop m out)) (mul_comm k z) ∙ has k (unwrap_or (seen_in (files_of v) (first + k)) (zeros z)) below (some_of (seen_in (files_of v) (first + k)) (zeros z) (serving.whole (first + k) (omega arith))))))
 
+first_of : (a b : Option ℕ) (x y : List (Option ℕ)) → a ∷ x ≡ b ∷ y → a ≡ b
+first_of a b x y e = cc
+
 pub finds : (old mid : Layers) (disk mid_disk : Disk) (first count : ℕ) (mask1 mask2 out out1 out2 : List ℕ) (answer : Result (Unit {0}) StoreFault) → count ≤ 2048 → first + count ≤ old.geometry.sectors → length out2 ≡ old.geometry.sector * count
     → HasOnlyRead old mid disk mid_disk → mid_disk ≡ disk → AddsPart of_session first count old disk (replicate 256 0) mask1 out out1 → OnOk answer (AddsPart of_read first count mid mid_disk mask1 mask2 out1 out2)
     → OnOk answer (WhereTold disk.told (λ trace. (v : State) → IsServing old v trace → reply (disk_now v) (calls.Read first count) ≡ replies.Bytes out2))
@@ -264,6 +327,7 @@ finds old mid disk mid_disk first count mask1 mask2 out out1 out2 (Ok t) few ins
     let a = one trace told v serving in
     let b' = two trace (ap (λ (d : Disk). d.told) same ∙ told) v (reads.serves trace told v serving) in
     let b = subst (λ (n : ℕ). AddsOwned (of_read mid.leaf v) n first count 0 mask1 mask2 out1 out2) (ap (λ (g : Geometry). g.sector) reads.geometry) b' in
+    let heads : option_map (λ (l : Layer). l.log.number) mid.leaf ≡ option_map (λ (l : Layer). l.log.number) old.leaf = first_of _ _ _ _ reads.numbers in
     replied z first count v old trace out2 (ap (λ (g : Geometry). g.sector) serving.geometry) serving (subst (λ (g : Geometry). first + count ≤ g.sectors) serving.geometry inside) len
     (λ k bytes below is. found (of_session old.leaf v) (of_read mid.leaf v) z first count k bytes (replicate 256 0) mask1 mask2 out out1 out2 a b below (blank k (omega arith))
-    (all_parts old.leaf mid.leaf v (first + k) reads.numbers ∙ is))
+    (all_parts old.leaf mid.leaf v (first + k) heads ∙ is))

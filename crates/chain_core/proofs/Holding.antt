@@ -56,25 +56,25 @@ leaf_ends leaf result (Some x) None moments ended = moments
 leaf_ends leaf (Ok t) (Some x) (Some y) moments ended = record { moments = moments; ended = ended }
 leaf_ends leaf (Err f) (Some x) (Some y) moments ended = record { moments = moments; ended = tt }
 
-ends : (v : State) (layers : Layers) (trace now : Trace) → IsServing layers v trace → (leaf : Layer) → Serves leaf trace v.top → KeepsOver leaf trace now → HasEnded v trace now
-ends v layers trace now serving leaf serves keeps =
+ends : (v : State) (layers : Layers) (trace now : Trace) → IsServing layers v trace → (leaf : Layer) → layers.leaf ≡ Some leaf → Serves leaf trace v.top → KeepsOver leaf trace now → HasEnded v trace now
+ends v layers trace now serving leaf is serves keeps =
     let phase = keeps.over v.top serves in
     let over = leaf_survives (sector_of v) v.opening v.history v.leaf (dirty_now v) v.retired v.top v.top v.rest trace now serving.once serving.served (goes_over v.top v.top trace now refl refl phase)
     (λ s. refl) refl serving.loose serving.loose in
     record {
       moments = over.moments;
-      still = still_others v layers (ShowsFile v.top) trace now serving phase;
+      still = still_others v layers leaf (ShowsFile v.top) trace now is serving phase;
       past = past_goes_on.quiet (sector_of v) v.opening v.history (λ s. false) v.leaf v.began trace now serving.past over.moments;
     }
 
-ends_whole : (v : State) (layers : Layers) (trace now : Trace) → IsServing layers v trace → (leaf : Layer) → Serves leaf trace v.top → KeepsOver leaf trace now → HasEndedLeaf leaf trace now → HasEndedWhole true v trace now
-ends_whole v layers trace now serving leaf serves keeps ended =
+ends_whole : (v : State) (layers : Layers) (trace now : Trace) → IsServing layers v trace → (leaf : Layer) → layers.leaf ≡ Some leaf → Serves leaf trace v.top → KeepsOver leaf trace now → HasEndedLeaf leaf trace now → HasEndedWhole true v trace now
+ends_whole v layers trace now serving leaf is serves keeps ended =
     let phase = keeps.over v.top serves in
     let none : Placed = settled v.top in
     let over = leaf_survives (sector_of v) v.opening v.history v.leaf (dirty_now v) v.retired v.top none v.rest trace now serving.once serving.served (goes_over v.top none trace now refl refl phase)
     (λ s. refl) refl serving.loose (new_top (dirty_now v) (dirty_now v) v.top none v.rest serving.loose (λ s clean. refl)) in
     record {
-      ended = ends v layers trace now serving leaf serves keeps;
+      ended = ends v layers trace now serving leaf is serves keeps;
       all = opens_now (sector_of v) v.opening v.history v.leaf (λ s. false) v.retired none v.rest now (still_once v.top.number (ShowsFile v.top) trace now phase serving.once)
           (over.served (ended.kept v.top serves).shows) (new_top (dirty_now v) (λ s. false) v.top none v.rest serving.loose (λ s clean. refl));
       synced = λ session. ended.synced v.top serves;
@@ -82,9 +82,9 @@ ends_whole v layers trace now serving leaf serves keeps ended =
 
 closed : (leaf : Layer) (v : State) (layers : Layers) (trace now : Trace) (result : Result (Unit {0}) StoreFault) → layers.leaf ≡ Some leaf → IsServing layers v trace → EndsLeaf leaf result trace now → HasClosed true v trace now result
 closed leaf v layers trace now (Ok t) is serving e =
-    let serves : Serves leaf trace v.top = (subst (λ o. AreHeld o layers.below.items trace v.top (others_of v.rest)) is serving.held).0 in ends_whole v layers trace now serving leaf serves e.moments e.ended
+    let serves : Serves leaf trace v.top = (subst (λ o. AreHeld o layers.below.items trace v.top (others_of v.rest)) is serving.held).0 in ends_whole v layers trace now serving leaf is serves e.moments e.ended
 closed leaf v layers trace now (Err f) is serving e =
-    let serves : Serves leaf trace v.top = (subst (λ o. AreHeld o layers.below.items trace v.top (others_of v.rest)) is serving.held).0 in ends v layers trace now serving leaf serves e.moments
+    let serves : Serves leaf trace v.top = (subst (λ o. AreHeld o layers.below.items trace v.top (others_of v.rest)) is serving.held).0 in ends v layers trace now serving leaf is serves e.moments
 
 pub close_told : (layers : Layers) (leaf : Layer) (before after : Disk) (result : Result (Unit {0}) StoreFault) → layers.leaf ≡ Some leaf
     → WhereBothTold (KeepsOver leaf) before.told after.told → OnOk result (WhereBothTold (HasEndedLeaf leaf) before.told after.told)

@@ -53,9 +53,11 @@ read_on first count who v layers trace s =
       geometry = s.geometry;
       served = record { linked = s.served.linked; kept = s.served.kept; disk = s.served.disk ∙ sym (replay_unchanged z v.opening v.history e refl) };
       loose = loose_after z v.history e v.top v.top v.rest (record { call = λ sector loose named. loose; flush = λ flush. absurd (let never : false ≡ true = flush in cc) }) s.loose;
+      course = s.course;
       held = s.held;
       whole = s.whole;
       synced = s.synced;
+      written = s.written;
       still = s.still;
       past = past_goes_on.call z v.opening v.history e (λ s. false) v.leaf v.began trace trace s.past (opens_still first count who v layers trace s);
     } in

@@ -1,5 +1,5 @@
 -- Layers stay ready while the leaf's is called.
-use Rattle.std.proofs.Common.{◌≡◌, ◌≢◌, ℕ, ◌+◌, ◌/◌, ◌≤◌, Bool, List, [], ◌∷◌, length, refl, sym, ap, subst, ◌∙◌, arith}
+use Rattle.std.proofs.Common.{◌≡◌, ◌≢◌, ℕ, ◌+◌, ◌/◌, ◌≤◌, Bool, List, [], ◌∷◌, length, refl, sym, ap, subst, ◌∙◌, arith, true, is_some, ◌<◌}
 use Rattle.std.specs.Prelude.{Option, Some, None, Result, Ok, Err, OnOk, IfErr, IfSome}
 use Rattle.vx_base.specs.declared.parts.Geometry.{Geometry}
 use Rattle.store_model.specs.declared.fault.StoreFault.{StoreFault}
@@ -10,10 +10,12 @@ use Rattle.layer_session.specs.declared.file.LayerFault.{LayerFault}
 use Rattle.layer_session.specs.declared.file.LayerFault.TheVariants.{Read, Write, FileFull}
 use Rattle.layer_session.specs.Calls.{Fails, OnRefused, OnRoom, own_file}
 use Rattle.layer_session.specs.Keeping.{IsReady}
-use Rattle.layer_session.specs.FileLayers.{AreOthers, AreReadyFiles, LeavesOthers}
+use Rattle.layer_session.specs.FileLayers.{AreOthers, AreReadyFiles, LeavesOthers, file_numbers}
 use Rattle.layer_session.specs.Steps.{has_room, is_full}
 use Rattle.chain_core.specs.declared.layers.Layers.{Layers}
-use Rattle.chain_core.specs.Sessions.{AreReady, IsReadyLeaf}
+use Rattle.chain_core.specs.declared.layers.Underway.{Underway}
+use Rattle.chain_model.specs.Stripes.{stripe_count}
+use Rattle.chain_core.specs.Sessions.{AreApart, AreReady, IsMergeOf, IsReadyLeaf, is_session_at}
 use Rattle.chain_core.specs.Answering.{LayerRoomIs, UnlessBroken, as_change}
 use Rattle.layer_session.proofs.FileLayers.{others_stand}
 use Rattle.chain_core.proofs.Steps.{LeafStep}
@@ -23,6 +25,20 @@ use Rattle.chain_core.proofs.Steps.{LeafStep}
 -- the leaf of layers that are ready
 pub leaf_of : (layers : Layers) (leaf : Layer) (disk : Disk) → layers.leaf ≡ Some leaf → AreReady layers disk → IsReadyLeaf layers.geometry layers.below.items disk leaf
 leaf_of layers leaf disk is ready = subst (λ o. IfSome o (IsReadyLeaf layers.geometry layers.below.items disk)) is ready.leaf
+
+-- the merge is one of the same files
+pub merge_on : (old new : Layers) (leaf next : Layer) → LeafStep old new leaf next → IfSome old.merge (IsMergeOf old.geometry old.leaf old.below.items) → IfSome new.merge (IsMergeOf new.geometry new.leaf new.below.items)
+merge_on old new leaf next step merge =
+    subst (λ o. IfSome o (IsMergeOf new.geometry new.leaf new.below.items)) (sym step.merge) (by_merge old.merge merge)
+  where
+    by_merge : (o : Option Underway) → IfSome o (IsMergeOf old.geometry old.leaf old.below.items) → IfSome o (IsMergeOf new.geometry new.leaf new.below.items)
+    by_merge None is = tt
+    by_merge (Some u) is = record {
+      leaf = ap is_some step.now;
+      there = subst (λ b. u.source + 1 < length b.items) (sym step.below) is.there;
+      target = subst (λ b. is_session_at b.items (u.source + 1) ≡ true) (sym step.below) is.target;
+      stripes = is.stripes ∙ ap (λ (g : Geometry). stripe_count g.sector g.sectors) (sym step.geometry);
+    }
 
 ready_on : (old new : Layers) (leaf next : Layer) (before after : Disk) → LeafStep old new leaf next → next.tables.parts ≡ leaf.tables.parts → AreReady old before → WhereBothTold (LeavesOthers (own_file leaf)) before.told after.told
     → after.files ≡ before.files → IsReady next after → AreReady new after
@@ -37,6 +53,8 @@ ready_on old new leaf next before after step parts ready others files next_ready
       sector = ap (λ (g : Geometry). g.sector) step.geometry ∙ ready.sector;
       leaf = subst (λ o. IfSome o (IsReadyLeaf new.geometry new.below.items after)) (sym step.now) same;
       below = subst (λ b. AreReadyFiles new.geometry after b.items) (sym step.below) (subst (λ (g : Geometry). AreReadyFiles g after old.below.items) (sym step.geometry) below);
+      apart = subst (λ b. AreApart (file_numbers b.items)) (sym step.below) ready.apart;
+      merge = merge_on old new leaf next step ready.merge;
     }
 
 -- how many files the store has stays

@@ -1,6 +1,6 @@
 -- What the answer of the leaf's layer makes of a session.
 use Rattle.std.proofs.Common.{◌≡◌, ◌≢◌, ◌⊎◌, ℕ, Bool, true, false, cond, List, [], ◌∷◌, ◌++◌, map, refl, sym, ap, subst, ◌∙◌, arith, inl, ◌<◌, is_some}
-use Rattle.std.specs.Prelude.{Option, Some, None, Result, Ok, Err}
+use Rattle.std.specs.Prelude.{Option, Some, None, Result, Ok, Err, IfSome}
 use Rattle.std.specs.List.{AllByRecursion}
 use Rattle.std.specs.Option.{option_or}
 use Rattle.std.proofs.lemmas.Bool.{or_parts, or_from}
@@ -26,7 +26,7 @@ use Rattle.layer_session.specs.Keeping.{Serves}
 use Rattle.layer_session.specs.FileLayers.{HaveFiles}
 use Rattle.layer_session.proofs.Crashes.{layers_are_kept}
 use Rattle.chain_core.specs.declared.layers.Layers.{Layers}
-use Rattle.chain_core.specs.States.{State, IsServing, LeavesOthers, AreHeld, seen_in, sector_of, disk_now, dirty_now, files_of, wide, made, others_of}
+use Rattle.chain_core.specs.States.{State, IsServing, LeavesOthers, AreHeld, seen_in, sector_of, disk_now, dirty_now, files_of, wide, made, others_of, AreWritten, IsCourse}
 use Rattle.chain_core.specs.Answering.{IsDone, IsRefused, HasBroken, LayerAnswers}
 use Rattle.layer_session.proofs.FileLayers.{file_layers_stand}
 use Rattle.chain_core.proofs.Rests.{call_survives, leaf_survives, loose_after, opens_now, top_loose}
@@ -57,6 +57,7 @@ AnswersCall z call file leaf trace now (Err (Write fault)) = HasFailed z call fi
 pub record LeafStep (old new : Layers) (leaf next : Layer) : Type 0 where
   pub geometry : new.geometry ≡ old.geometry
   pub below : new.below ≡ old.below
+  pub merge : new.merge ≡ old.merge
   pub was : old.leaf ≡ Some leaf
   pub now : new.leaf ≡ Some next
 
@@ -168,8 +169,11 @@ whole_on : (z : ℕ) (call : Call) (top : Placed) (others : List Placed) → ((s
 whole_on z call top others whole s below = there_on (is_named z call s) (content z call s) (top.member.layer s) (seen_in others s) (whole s below)
 
 -- no other file was changed
-pub still_others : (v : State) (layers : Layers) (P : List ℕ → Type 0) (trace now : Trace) → IsServing layers v trace → IsPhase v.top.number P trace now → LeavesOthers v now
-still_others v layers P trace now serving phase other ne = phase_others v.top.number P trace now phase other ne ∙ serving.still other ne
+pub still_others : (v : State) (layers : Layers) (leaf : Layer) (P : List ℕ → Type 0) (trace now : Trace) → layers.leaf ≡ Some leaf → IsServing layers v trace → IsPhase v.top.number P trace now → LeavesOthers v now
+still_others v layers leaf P trace now is serving phase other none =
+    let own : v.writes v.top.number ≡ true = (subst (λ o. IfSome o (λ leaf. (v.writes v.top.number ≡ true) × AreWritten v.writes layers.below.items)) is serving.written).0 in
+    let ne : other ≢ v.top.number = λ same. (let never : true ≡ false = sym own ∙ ap v.writes (sym same) ∙ none in cc) in
+    phase_others v.top.number P trace now phase other ne ∙ serving.still other none
 
 -- what the layers have, once the leaf's was called
 held_by : (old new : Layers) (leaf next : Layer) (v : State) (top : Placed) (P : List ℕ → Type 0) (trace now : Trace) → LeafStep old new leaf next → IsServing old v trace → IsPhase v.top.number P trace now → Serves next now top
@@ -179,6 +183,13 @@ held_by old new leaf next v top P trace now step serving phase serves =
     let read : HaveFiles old.below.items now (others_of v.rest) = still_read v.top.number P trace now phase old.below.items (others_of v.rest) (numbers_apart old v trace serving) held.1 in
     let read' : HaveFiles new.below.items now (others_of v.rest) = subst (λ b. HaveFiles b.items now (others_of v.rest)) (sym step.below) read in
     subst (λ o. AreHeld o new.below.items now top (others_of v.rest)) (sym step.now) (serves, read')
+
+-- the files that it may change are those in a session still
+pub written_on : (old new : Layers) (leaf next : Layer) (v : State) → LeafStep old new leaf next → {trace : Trace} → IsServing old v trace → IfSome new.leaf (λ leaf. (v.writes v.top.number ≡ true) × AreWritten v.writes new.below.items)
+written_on old new leaf next v step serving =
+    let was : (v.writes v.top.number ≡ true) × AreWritten v.writes old.below.items = subst (λ o. IfSome o (λ leaf. (v.writes v.top.number ≡ true) × AreWritten v.writes old.below.items)) step.was serving.written in
+    subst (λ o. IfSome o (λ leaf. (v.writes v.top.number ≡ true) × AreWritten v.writes new.below.items)) (sym step.now)
+    (subst (λ b. (v.writes v.top.number ≡ true) × AreWritten v.writes b.items) (sym step.below) was)
 
 -- the call was done
 pub done : (e : Entry) (v : State) (old new : Layers) (leaf next : Layer) (trace now : Trace) → LeafStep old new leaf next → IsServing old v trace → IsMade (sector_of v) e.call v.top next trace now → IsDone e v new trace now
@@ -192,10 +203,12 @@ done e v old new leaf next trace now step serving is =
         geometry = step.geometry ∙ serving.geometry;
         served = call.served (layers_are_kept next now (made z e.call v.top) is.holds).shows;
         loose = loose_after z v.history e v.top (made z e.call v.top) v.rest (leaves_loose z e v.top) serving.loose;
+        course = subst (λ o. IsCourse z o v.rest) (sym step.merge) serving.course;
         held = held_by old new leaf next v (made z e.call v.top) (ShowsFile (wide z e.call v.top)) trace now step serving is.moments is.holds;
         whole = whole_on z e.call v.top (others_of v.rest) serving.whole;
         synced = serving.synced;
-        still = still_others v old (ShowsFile (wide z e.call v.top)) trace now serving is.moments;
+        written = written_on old new leaf next v step serving;
+        still = still_others v old leaf (ShowsFile (wide z e.call v.top)) trace now step.was serving is.moments;
         past = past_goes_on.call z v.opening v.history e (λ s. false) v.leaf v.began trace now serving.past call.moments;
       };
     }
@@ -213,21 +226,23 @@ as_before v old new leaf next trace now step serving is =
         geometry = step.geometry ∙ serving.geometry;
         served = over.served (layers_are_kept next now v.top is.holds).shows;
         loose = serving.loose;
+        course = subst (λ o. IsCourse z o v.rest) (sym step.merge) serving.course;
         held = held_by old new leaf next v v.top (ShowsFile v.top) trace now step serving is.moments is.holds;
         whole = serving.whole;
         synced = serving.synced;
-        still = still_others v old (ShowsFile v.top) trace now serving is.moments;
+        written = written_on old new leaf next v step serving;
+        still = still_others v old leaf (ShowsFile v.top) trace now step.was serving is.moments;
         past = past_goes_on.quiet z v.opening v.history (λ s. false) v.leaf v.began trace now serving.past over.moments;
       };
     }
 
 -- a change of the leaf failed
-pub failed : (e : Entry) (v : State) (layers : Layers) (trace now : Trace) → IsServing layers v trace → HasFailed (sector_of v) e.call v.top trace now → HasBroken e v trace now
-failed e v layers trace now serving has =
+pub failed : (e : Entry) (v : State) (layers : Layers) (trace now : Trace) → IsServing layers v trace → LeavesOthers v now → HasFailed (sector_of v) e.call v.top trace now → HasBroken e v trace now
+failed e v layers trace now serving still has =
     let call = survives e v layers trace now serving has.moments in
     record {
       moments = call.moments;
-      still = still_others v layers (ShowsFile (wide (sector_of v) e.call v.top)) trace now serving has.moments;
+      still = still;
       past = past_goes_on.broken (sector_of v) v.opening v.history (λ s. false) (is_named (sector_of v) e.call) v.leaf v.began trace now (λ s out. refl) serving.past call.moments;
     }
 
@@ -245,4 +260,4 @@ pub concluded : (e : Entry) (v : State) (old new : Layers) (leaf next : Layer) (
 concluded e v old new leaf next trace now (Ok t) step serving is = done e v old new leaf next trace now step serving is
 concluded e v old new leaf next trace now (Err (Read fault)) step serving is = as_before v old new leaf next trace now step serving is
 concluded e v old new leaf next trace now (Err (FileFull n)) step serving is = as_before v old new leaf next trace now step serving is
-concluded e v old new leaf next trace now (Err (Write fault)) step serving is = failed e v old trace now serving is
+concluded e v old new leaf next trace now (Err (Write fault)) step serving is = failed e v old trace now serving (still_others v old leaf (ShowsFile (wide (sector_of v) e.call v.top)) trace now step.was serving is.moments) is

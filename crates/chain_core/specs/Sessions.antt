@@ -1,5 +1,5 @@
 -- What stands of a session for every store, whether it tells its content or not.
-use Rattle.std.specs.Prelude.{◌≡◌, ◌+◌, ◌^◌, ◌≤◌, ℕ, List, Option, None, IfSome}
+use Rattle.std.specs.Prelude.{◌≡◌, ◌≢◌, ◌+◌, ◌^◌, ◌<◌, ◌≤◌, ⊤, ℕ, Bool, true, false, is_some, List, [], ◌∷◌, length, map, slice_index_or, Option, None, option_map, IfSome}
 use Rattle.vx_base.specs.declared.parts.Geometry.{Geometry}
 use Rattle.store_model.specs.Disk.{Disk}
 use Rattle.store_model.specs.declared.fault.StoreFault.{StoreFault}
@@ -8,7 +8,10 @@ use Rattle.layer_session.specs.declared.file.Layer.{Layer}
 use Rattle.layer_session.specs.declared.file_layer.FileLayer.{FileLayer}
 use Rattle.layer_session.specs.Calls.{own_file}
 use Rattle.layer_session.specs.Keeping.{IsReady}
-use Rattle.layer_session.specs.FileLayers.{AreOthers, AreReadyFiles}
+use Rattle.layer_session.specs.FileLayers.{AreOthers, AreReadyFiles, file_numbers, log_number}
+use Rattle.std.specs.List.{AllByRecursion}
+use Rattle.chain_model.specs.Stripes.{stripe_count}
+use Rattle.chain_core.specs.declared.layers.Underway.{Underway}
 use Rattle.chain_core.specs.declared.chain.Chain.{Chain}
 use Rattle.chain_core.specs.declared.layers.Layers.{Layers}
 
@@ -45,15 +48,38 @@ pub record IsReadyLeaf (geometry : Geometry) (below : List FileLayer) (disk : Di
   pub sectors : leaf.tables.parts.sectors ≡ geometry.sectors
   pub apart : AreOthers 0 below
 
+-- no number stands twice
+abbrev pub AreApart : List ℕ → Type 0
+AreApart [] = ⊤
+AreApart (n ∷ numbers) = AllByRecursion (λ other. other ≢ n) numbers × AreApart numbers
+
+-- the layer at a place is that of a file in a session
+abbrev pub is_session_at : List FileLayer → ℕ → Bool
+is_session_at layers at = is_some (slice_index_or (map log_number layers) at None)
+
+-- A merge of files below the leaf, which is in a session: its source and its target are among them, the target in a session, and each
+-- stripe of the disk has its mark.
+pub record IsMergeOf (geometry : Geometry) (leaf : Option Layer) (below : List FileLayer) (merge : Underway) : Type 0 where
+  pub leaf : is_some leaf ≡ true
+  pub there : merge.source + 1 < length below
+  pub target : is_session_at below (merge.source + 1) ≡ true
+  pub stripes : merge.marks.stripes ≡ stripe_count geometry.sector geometry.sectors
+
 -- layers of files that can be read, and those written that are in a session
 pub record AreReady (layers : Layers) (disk : Disk) : Type 0 where
   pub sector : layers.geometry.sector ≡ 512
   pub leaf : IfSome layers.leaf (IsReadyLeaf layers.geometry layers.below.items disk)
   pub below : AreReadyFiles layers.geometry disk layers.below.items
+  pub apart : AreApart (file_numbers layers.below.items)
+  pub merge : IfSome layers.merge (IsMergeOf layers.geometry layers.leaf layers.below.items)
 
--- the number of the log's last entry is at most this
+-- the numbers of the last entries of the logs, of the files that are in a session
+abbrev pub log_numbers : Layers → List (Option ℕ)
+log_numbers layers = option_map (λ (leaf : Layer). leaf.log.number) layers.leaf ∷ map log_number layers.below.items
+
+-- each is at most this
 abbrev pub IsLow : ℕ → Layers → Type 0
-IsLow most layers = IfSome layers.leaf (λ leaf. leaf.log.number ≤ most)
+IsLow most layers = AllByRecursion (λ number. IfSome number (λ n. n ≤ most)) (log_numbers layers)
 
 -- Each entry of the history was an event, and each event wrote at most one entry of the log; until a change fails the layers are ready.
 pub record IsSound (s : Session) : Type 0 where

@@ -1,5 +1,5 @@
 -- What a chain keeps in a session, where its store tells its content.
-use Rattle.std.specs.Prelude.{◌≡◌, ◌≢◌, ◌<◌, ℕ, Bool, true, false, if◌then◌else◌, is_some, List, [], ◌∷◌, ◌++◌, Option, Some, None}
+use Rattle.std.specs.Prelude.{◌≡◌, ◌<◌, ℕ, Bool, true, false, if◌then◌else◌, is_some, List, [], ◌∷◌, ◌++◌, length, Option, Some, None, IfSome, ⊤}
 use Rattle.std.specs.List.{AllByRecursion}
 use Rattle.store_model.specs.File.{is_synced}
 use Rattle.store_model.specs.Trace.{Trace, file_of}
@@ -17,7 +17,10 @@ use Rattle.chain_model.specs.PhaseLaws.{IsNamedOnce, loosened}
 use Rattle.layer_session.specs.declared.file.Layer.{Layer}
 use Rattle.layer_session.specs.declared.file_layer.FileLayer.{FileLayer}
 use Rattle.layer_session.specs.Keeping.{Serves}
-use Rattle.layer_session.specs.FileLayers.{HaveFiles}
+use Rattle.layer_session.specs.FileLayers.{HaveFiles, log_number, number_of}
+use Rattle.chain_model.specs.Merges.{IsUnderWay}
+use Rattle.merge_core.specs.Copied.{marks_of}
+use Rattle.chain_core.specs.declared.layers.Underway.{Underway}
 use Rattle.chain_core.specs.declared.layers.Layers.{Layers}
 
 -- How a merge stands: what source and target had of each sector when it began, and which stripes are copied.
@@ -46,6 +49,8 @@ pub record State : Type 0 where
   pub opening : Disk
   pub history : History
   pub began : Trace
+  -- the files that it may change, by their numbers
+  pub writes : ℕ → Bool
 
 -- the files of the chain, from the leaf to the base
 abbrev pub files_of : State → List Placed
@@ -97,26 +102,51 @@ abbrev pub AreHeld : Option Layer → List FileLayer → Trace → Placed → Li
 AreHeld None below trace top others = ((s : ℕ) → top.is_loose s ≡ false) × HaveFiles below trace (top ∷ others)
 AreHeld (Some leaf) below trace top others = Serves leaf trace top × HaveFiles below trace others
 
+-- a file is in a session: its log has a last entry
+abbrev pub is_session : FileLayer → Bool
+is_session l = is_some (log_number l)
+
 -- Only the leaf has loose sectors, which are dirty ones; while a merge is under way the target has, too, of those that the source owns.
 abbrev pub IsLoose : (ℕ → Bool) → Placed → Rest → Type 0
 IsLoose is_dirty top (plain others) = LooseAtTop is_dirty (top ∷ others)
 IsLoose is_dirty top (merging above source target below m) = LooseInMerge is_dirty (top ∷ above) source target below
 
--- no file but the leaf was changed since the session began
+-- no file was changed since the session began but those that it may change
 abbrev pub LeavesOthers : State → Trace → Type 0
-LeavesOthers v trace = (other : ℕ) → other ≢ v.top.number → file_of trace other ≡ file_of v.began other
+LeavesOthers v trace = (other : ℕ) → v.writes other ≡ false → file_of trace other ≡ file_of v.began other
 
--- A session in which no change failed, with no merge: the history's disk is that of its files, which its layers have; only the leaf has
--- loose sectors, which are dirty ones; and each moment since it began opens to a prefix of the history.
+-- of some files those in a session are the ones that it may change
+abbrev pub AreWritten : (ℕ → Bool) → List FileLayer → Type 0
+AreWritten writes layers = AllByRecursion (λ l. writes (number_of l) ≡ is_session l) layers
+
+-- A merge that the code keeps is the one under way: of the source at its place, with the marks of the stripes that are copied. What the
+-- source owns in a marked stripe is in the target, and elsewhere both are as they were.
+pub record IsUnder (z : ℕ) (u : Underway) (above : List Placed) (source target : Placed) (m : Merging) : Type 0 where
+  pub place : u.source ≡ length above
+  pub marks : (t : ℕ) → marks_of u.marks t ≡ m.marks t
+  pub under_way : IsUnderWay z m.first m.before [] m.marks source.member.layer target.member.layer
+
+-- the code keeps a merge where one is under way
+abbrev pub IsCourse : ℕ → Option Underway → Rest → Type 0
+IsCourse z None (plain others) = ⊤
+IsCourse z None (merging above source target below m) = ⊥
+IsCourse z (Some u) (plain others) = ⊥
+IsCourse z (Some u) (merging above source target below m) = IsUnder z u above source target m
+
+-- A session in which no change failed: the history's disk is that of its files, which its layers have; only the leaf has loose sectors,
+-- which are dirty ones, and the target of a merge under way, of those that its source owns; and each moment since it began opens to a
+-- prefix of the history.
 pub record IsServing (layers : Layers) (v : State) (trace : Trace) : Type 0 where
   pub once : IsNamedOnce trace
   pub geometry : layers.geometry ≡ v.top.member.ties.geometry
   pub served : IsServed (sector_of v) v.opening v.history v.leaf v.retired (files_of v) trace
   pub loose : IsLoose (dirty_now v) v.top v.rest
+  pub course : IsCourse (sector_of v) layers.merge v.rest
   pub held : AreHeld layers.leaf layers.below.items trace v.top (others_of v.rest)
   -- each sector of the disk is in one of the files
   pub whole : (s : ℕ) → s < v.top.member.ties.geometry.sectors → is_some (seen_in (files_of v) s) ≡ true
-  -- nothing of any file was unsynced when it began, and no other has changed since
+  -- nothing of any file was unsynced when it began, and none that is only read has changed since
   pub synced : AllByRecursion (λ f. is_synced (file_of v.began f.number) ≡ true) (files_of v)
+  pub written : IfSome layers.leaf (λ leaf. (v.writes v.top.number ≡ true) × AreWritten v.writes layers.below.items)
   pub still : LeavesOthers v trace
   pub past : EachOpensToPrefix (sector_of v) v.opening v.history (λ s. false) v.leaf v.began trace

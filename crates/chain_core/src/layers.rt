@@ -11,8 +11,18 @@ ghost use Rattle.chain_core.specs.Reading.{AddsPart, Finds, HasOnlyRead, of_read
 ghost use Rattle.chain_core.specs.Sessions.{AreReady, IsLow};
 
 use layer_session::{FileLayer, Layer, LayerFault, own_files};
+use merge_core::Marks;
 use store_model::{Store, StoreFault};
 use vx_base::Geometry;
+
+/// A merge that is under way, of the file at a place below the leaf into the one behind it.
+#[derive(Drop)]
+pub struct Underway {
+    /// The source's place among the files below the leaf.
+    pub(crate) source: usize,
+    /// Which stripes are copied.
+    pub(crate) marks: Marks,
+}
 
 /// The layers of a chain's files, whose disk has this geometry.
 #[derive(Drop)]
@@ -22,6 +32,8 @@ pub struct Layers {
     pub(crate) leaf: Option<Layer>,
     /// The other files, the upper one first: those below the leaf's session, or all.
     pub(crate) below: Vec<FileLayer>,
+    /// The merge, once one is prepared and until it is finished.
+    pub(crate) merge: Option<Underway>,
 }
 
 impl Layers {
@@ -188,6 +200,7 @@ impl Layers {
             geometry: _,
             leaf,
             below: _,
+            merge: _,
         } = self;
         match leaf {
             Some(leaf) => leaf.end(store),

@@ -283,6 +283,7 @@ impl Layers {
             geometry: leaf.parts.geometry,
             leaf: Some(session),
             below,
+            merge: None,
         })
     }
 
@@ -315,6 +316,7 @@ impl Layers {
         requires few { length files.now ≤ 64 }
         requires served { All IsServed files.now }
         ensures leaf { IfOk result (λ layers. layers.leaf ≡ None) }
+        ensures merge { IfOk result (λ layers. layers.merge ≡ None) }
         ensures geometry { IfOk result (λ layers. IsOfDisk files.now layers.geometry) }
         ensures below { IfOk result (λ layers. AreReadOf 0 files.now layers.below.items) }
     {
@@ -326,6 +328,7 @@ impl Layers {
             geometry: leaf.parts.geometry,
             leaf: None,
             below,
+            merge: None,
         })
     }
 

@@ -13,11 +13,11 @@ returns-in_ok-open-in-ReadOnly-clause-moments g c = files_rest c.args.files.now 
 pub returns-in_ok-open-in-ReadOnly-clause-started : goal.returns-in_ok-open-in-ReadOnly-clause-started
 returns-in_ok-open-in-ReadOnly-clause-started g c =
     subst (λ (mode : Mode). HasStarted mode c.args.files.now c.in_ok-open-in-ReadOnly.field-0 (g.S.Store.disk c.args.store.now) (g.S.Store.disk c.args.store.now) (g.I.Ids.drawn c.args.ids.now) (g.I.Ids.drawn c.args.ids.now)) (sym c.in-ReadOnly.is)
-    (reading_started c.args.files.now c.in_ok-open-in-ReadOnly.field-0 (g.S.Store.disk c.args.store.now) (g.I.Ids.drawn c.args.ids.now) c.requires.files c.in_ok-open-in-ReadOnly.ensures.geometry c.in_ok-open-in-ReadOnly.ensures.leaf c.in_ok-open-in-ReadOnly.ensures.below)
+    (reading_started c.args.files.now c.in_ok-open-in-ReadOnly.field-0 (g.S.Store.disk c.args.store.now) (g.I.Ids.drawn c.args.ids.now) c.requires.files c.in_ok-open-in-ReadOnly.ensures.geometry c.in_ok-open-in-ReadOnly.ensures.leaf c.in_ok-open-in-ReadOnly.ensures.merge c.in_ok-open-in-ReadOnly.ensures.below)
 
 pub returns-in_ok-open-in-ReadOnly-clause-ready : goal.returns-in_ok-open-in-ReadOnly-clause-ready
 returns-in_ok-open-in-ReadOnly-clause-ready g c =
-    reading_ready c.args.files.now c.in_ok-open-in-ReadOnly.field-0 (g.S.Store.disk c.args.store.now) c.requires.files c.in_ok-open-in-ReadOnly.ensures.geometry c.in_ok-open-in-ReadOnly.ensures.leaf c.in_ok-open-in-ReadOnly.ensures.below
+    reading_ready c.args.files.now c.in_ok-open-in-ReadOnly.field-0 (g.S.Store.disk c.args.store.now) c.requires.files c.in_ok-open-in-ReadOnly.ensures.geometry c.in_ok-open-in-ReadOnly.ensures.leaf c.in_ok-open-in-ReadOnly.ensures.merge c.in_ok-open-in-ReadOnly.ensures.below
 
 pub returns-in_err-open-in-ReadOnly-clause-still : goal.returns-in_err-open-in-ReadOnly-clause-still
 returns-in_err-open-in-ReadOnly-clause-still g c = none_changed (g.S.Store.disk c.args.store.now).told _ refl
