@@ -16,7 +16,8 @@ use Rattle.vhdx_format.proofs.LayerLemmas.{div-div_ceil, entries_apart, entries_
 use Rattle.vhdx_format.proofs.SizeLemmas.{ratio_in_range}
 use Rattle.log_write.specs.Sessions.{IsKept}
 use Rattle.layer_session.specs.Keeping.{IsTablePlace, StandsAt, bitmap as bitmap_place, entries, metadata, regions}
-use Rattle.layer_session.proofs.Numbers.{are_numbers, part_alike, same_numbers}
+use Rattle.chain_model.specs.Images.{metadata_of}
+use Rattle.layer_session.proofs.Numbers.{are_numbers, part_alike, same_metadata, same_numbers}
 use Rattle.layer_file.proofs.Sectors.{in_block, read_back}
 
 -- the sizes of a file of these numbers
@@ -123,6 +124,12 @@ module _ (parts : Parts) (old new : List ℕ) (longer : length old ≤ length ne
         let within : parts.meta_at + parts.meta_len ≤ length old = placed.metadata.within in
         same_numbers parts.header old new parts numbers longer (part_alike old new 196608 131072 (omega (arith, long)) longer (λ i a b. same i (regions a (omega (arith, b))) (omega (arith, b, long))))
         (part_alike old new parts.meta_at parts.meta_len within longer (λ i a b. same i (metadata a b) (omega (arith, b, within))))
+
+    -- so are its metadata
+    pub metadata_alike : metadata_of parts new ≡ metadata_of parts old
+    metadata_alike =
+        let within : parts.meta_at + parts.meta_len ≤ length old = (are_numbers parts.header old parts numbers).0.metadata.within in
+        same_metadata parts old new (part_alike old new parts.meta_at parts.meta_len within longer (λ i a b. same i (metadata a b) (omega (arith, b, within))))
 
     entry_alike : (index : ℕ) → 8 * index + 8 ≤ parts.bat_len → table_entry p new index ≡ table_entry p old index
     unfolding table_entry

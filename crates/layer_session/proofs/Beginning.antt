@@ -11,7 +11,7 @@ use Rattle.vhdx_format.specs.declared.log_entry.Page.{Page}
 use Rattle.std.specs.Int.{div_ceil}
 use Rattle.block_alloc.specs.Spaces.{Space}
 use Rattle.block_alloc.specs.declared.freed.Freed.{Freed}
-use Rattle.chain_model.specs.Images.{Placed, name_of}
+use Rattle.chain_model.specs.Images.{Placed, metadata_of, name_of}
 use Rattle.layer_session.specs.declared.file.Layer.{Layer}
 use Rattle.layer_session.proofs.Apart.{beside_self}
 use Rattle.layer_session.proofs.Committed.{held_none}
@@ -44,7 +44,7 @@ use Rattle.chain_model.specs.Sessions.{IsKept as IsKeptFile}
 use Rattle.chain_model.proofs.Serving.{chains_begin}
 use Rattle.layer_session.specs.Begins.{BeginsOver, CanServe, HasBegun, as_found, in_session}
 use Rattle.layer_session.specs.Keeping.{AreBeside, Covers, IsLayerOf, IsNobodys, IsPlaced, IsReady, IsTablePlace, Serves, area_of, bitmap as bitmap_place, entries, metadata, regions}
-use Rattle.layer_session.proofs.Alike.{AreSizes, block_kept, layer_alike, numbers_alike, off_range, places_alike, sector_kept, sound_alike}
+use Rattle.layer_session.proofs.Alike.{AreSizes, block_kept, layer_alike, metadata_alike, numbers_alike, off_range, places_alike, sector_kept, sound_alike}
 use Rattle.layer_session.proofs.Crashes.{IsSafe, in_layer, off_layer, shown}
 use Rattle.layer_session.proofs.Ending.{back_place, safe_under, same_kept, same_place}
 use Rattle.layer_session.proofs.Numbers.{are_numbers}
@@ -246,6 +246,7 @@ module _ (parts : Parts) (ids : SessionIds) (file : ℕ) (t u : Trace) (tables_o
     parts = in_session parts ids;
     header = header_is;
     ties = refl;
+    metadata = subst (λ (z : List ℕ). metadata_of parts was ≡ metadata_of parts z) held_is (sym (metadata_alike parts was X no_shorter of_was.sizes read_was can.reads.blocks table_same long_was));
     as_held = record {
       sizes = subst HasTables (sym made.new.parts_are) (have_sizes parts tables_of numbers made.shape made.region);
       shape = ap tables.shape_of made.new.parts_are ∙ made.shape;

@@ -18,7 +18,7 @@ use Rattle.table_pages.specs.Held as tables
 use Rattle.table_pages.specs.Pages.{is_kept}
 use Rattle.table_pages.specs.declared.tables.TableParts.{TableParts}
 use Rattle.table_pages.specs.declared.tables.Tables.{Tables}
-use Rattle.chain_model.specs.Images.{Placed}
+use Rattle.chain_model.specs.Images.{Placed, metadata_of}
 use Rattle.chain_model.specs.Layers as chain
 use Rattle.layer_session.specs.declared.file.Layer.{Layer}
 use Rattle.layer_session.specs.Bringing.{HasBrought}
@@ -153,6 +153,7 @@ module _ (l : Layer) (new : Tables) (disk : Disk) (brings : HasBrought l.tables 
       parts = s.parts;
       header = s.header;
       ties = s.ties;
+      metadata = subst (λ z. file.metadata ≡ metadata_of s.parts z) (sym same_held) s.metadata;
       as_held = subst (λ n. IsHeld layer_then s.parts file.member.layer (seen (file_of t n))) (sym s.number) (holds_on t s.parts file.member.layer told (subst (λ n. IsHeld l s.parts file.member.layer (seen (file_of t n))) s.number s.as_held));
       bytes = s.bytes;
       tables = s.tables;

@@ -20,11 +20,11 @@ use Rattle.log_write.specs.Writing.{committed}
 use Rattle.log_write.specs.Writing.{HasCommitted as HasCommittedPages}
 use Rattle.block_alloc.specs.declared.freed.Freed.{Freed}
 use Rattle.block_alloc.specs.Spaces as spaces
-use Rattle.chain_model.specs.Images.{Placed, name_of}
+use Rattle.chain_model.specs.Images.{Placed, metadata_of, name_of}
 use Rattle.layer_session.specs.declared.file.Layer.{Layer}
 use Rattle.layer_session.specs.Calls.{settled}
 use Rattle.layer_session.specs.Keeping.{AreBeside, Covers, HasSpace, IsLayerOf, IsNobodys, IsPlaced, IsTablePlace, Serves, area_of}
-use Rattle.layer_session.proofs.Alike.{holds_alike, layer_alike, numbers_alike, places_alike, places_stay, sector_kept, sound_alike}
+use Rattle.layer_session.proofs.Alike.{holds_alike, layer_alike, metadata_alike, numbers_alike, places_alike, places_stay, sector_kept, sound_alike}
 use Rattle.layer_session.proofs.Apart.{beside_self}
 use Rattle.layer_session.proofs.Crashes.{IsSafe, safe_of}
 
@@ -123,6 +123,8 @@ module _ (l : Layer) (trace new : Trace) (file : Placed) (serves : Serves l trac
     parts = serves.parts;
     header = serves.header ∙ sym (same_header l.log l.tables.pending);
     ties = serves.ties;
+    metadata = subst (λ (z : List ℕ). file.metadata ≡ metadata_of serves.parts z) (sym (held_none X))
+        (serves.metadata ∙ sym (metadata_alike serves.parts h X longer sf.sizes serves.as_held.numbers serves.as_held.sound table_same long));
     as_held = record {
       sizes = serves.as_held.sizes;
       shape = serves.as_held.shape;

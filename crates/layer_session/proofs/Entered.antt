@@ -23,14 +23,14 @@ use Rattle.log_format.specs.PendingPages.{has_place}
 use Rattle.log_write.specs.Sessions.{IsKept, IsRunning}
 use Rattle.log_write.specs.Writing.{CanCommit}
 use Rattle.block_alloc.specs.Spaces.{Space}
-use Rattle.chain_model.specs.Images.{Placed}
+use Rattle.chain_model.specs.Images.{Placed, metadata_of}
 use Rattle.chain_model.specs.Layers as chain
 use Rattle.layer_session.specs.declared.file.Layer.{Layer}
 use Rattle.layer_session.specs.Calls.{placed_with}
 use Rattle.layer_session.specs.Keeping.{AreBeside, AreOfTables, Covers, HasSpace, IsCommitted, IsHeld, IsLayerOf, IsTablePlace, Serves, bitmap as bitmap_place, entries, metadata, regions}
 use Rattle.layer_session.proofs.Alike.{AreSizes, block_kept}
 use Rattle.layer_session.proofs.Crashes.{IsSafe, safe_of}
-use Rattle.layer_session.proofs.Entries.{IsGoodEntry, apart_of, entry_here, table_low, holds_beside, places_before, places_still, set_file, set_numbers, set_sound}
+use Rattle.layer_session.proofs.Entries.{IsGoodEntry, apart_of, entry_here, table_low, holds_beside, places_before, places_still, set_file, set_metadata, set_numbers, set_sound}
 use Rattle.layer_session.proofs.Numbers.{AreNumbers, are_numbers}
 use Rattle.layer_session.proofs.Pages.{all_places, of_places}
 
@@ -217,6 +217,8 @@ module _ (l : Layer) (trace : Trace) (file : Placed) (serves : Serves l trace fi
       parts = serves.parts;
       header = serves.header;
       ties = serves.ties;
+      metadata = subst (λ z. file.metadata ≡ metadata_of serves.parts z) (sym held_new)
+          (serves.metadata ∙ sym (set_metadata serves.parts sizes H serves.as_held.numbers serves.as_held.sound long index word inside small));
       as_held = held_then;
       bytes = serves.bytes;
       tables = tables;

@@ -19,7 +19,8 @@ use Rattle.vhdx_format.proofs.SizeLemmas.{ratio_in_range}
 use Rattle.table_pages.proofs.Laying.{length_over, over_in, over_out, part_byte, part_len}
 use Rattle.layer_session.specs.Keeping.{IsPlaced, IsTablePlace, bitmap as bitmap_place, entries, metadata, regions}
 use Rattle.layer_session.proofs.Alike.{AreSizes, bitmap_there, block_in_file, by_state_other, off_range}
-use Rattle.layer_session.proofs.Numbers.{are_numbers, part_alike, same_numbers}
+use Rattle.chain_model.specs.Images.{metadata_of}
+use Rattle.layer_session.proofs.Numbers.{are_numbers, part_alike, same_metadata, same_numbers}
 use Rattle.layer_file.proofs.Sectors.{in_block, read_back}
 
 -- what is read of a number that was written
@@ -112,14 +113,11 @@ module _ (parts : Parts) (sizes : AreSizes parts) (old : List ℕ) (numbers : re
   off_table i (inl l) = beside_entry i (inl (omega (arith, l)))
   off_table i (inr l) = beside_entry i (inr (omega (arith, l, inside)))
 
-  pub set_numbers : read_parts parts.header set_file ≡ Ok parts
-  set_numbers =
+  region_same : bytes_at set_file parts.meta_at parts.meta_len ≡ bytes_at old parts.meta_at parts.meta_len
+  region_same =
       let n = (are_numbers parts.header old parts numbers).0 in
       let within : parts.meta_at + parts.meta_len ≤ length old = n.metadata.within in
-      let low = table_low in
-      same_numbers parts.header old set_file parts numbers (omega (arith, as_long))
-      (part_alike old set_file 196608 131072 (omega (arith, long)) (omega (arith, as_long)) (λ i a b. off_table i (inl (omega (arith, b, low)))))
-      (part_alike old set_file parts.meta_at parts.meta_len within (omega (arith, as_long)) (λ i a b. off_table i (off_metadata i a b (cases_lt i parts.bat_at) (cases_lt i (parts.bat_at + parts.bat_len)) n.apart)))
+      part_alike old set_file parts.meta_at parts.meta_len within (omega (arith, as_long)) (λ i a b. off_table i (off_metadata i a b (cases_lt i parts.bat_at) (cases_lt i (parts.bat_at + parts.bat_len)) n.apart))
     where
       off_metadata : (i : ℕ) → parts.meta_at ≤ i → i < parts.meta_at + parts.meta_len → (i < parts.bat_at) ⊎ (parts.bat_at ≤ i) → (i < parts.bat_at + parts.bat_len) ⊎ (parts.bat_at + parts.bat_len ≤ i)
           → overlaps parts.bat_at parts.bat_len parts.meta_at parts.meta_len ≡ false → (i < parts.bat_at) ⊎ (parts.bat_at + parts.bat_len ≤ i)
@@ -130,6 +128,16 @@ module _ (parts : Parts) (sizes : AreSizes parts) (old : List ℕ) (numbers : re
           by_range : (i < parts.meta_at) ⊎ (parts.meta_at + parts.meta_len ≤ i) → ⊥
           by_range (inl m) = omega (arith, m, a)
           by_range (inr m) = omega (arith, m, b)
+
+  pub set_metadata : metadata_of parts set_file ≡ metadata_of parts old
+  set_metadata = same_metadata parts old set_file region_same
+
+  pub set_numbers : read_parts parts.header set_file ≡ Ok parts
+  set_numbers =
+      let low = table_low in
+      same_numbers parts.header old set_file parts numbers (omega (arith, as_long))
+      (part_alike old set_file 196608 131072 (omega (arith, long)) (omega (arith, as_long)) (λ i a b. off_table i (inl (omega (arith, b, low)))))
+      region_same
 
   -- ---- entries
 

@@ -27,7 +27,7 @@ use Rattle.block_alloc.specs.Spaces.{Space}
 use Rattle.chain_model.specs.Images.{Placed, name_of}
 use Rattle.layer_session.specs.declared.file.Layer.{Layer}
 use Rattle.layer_session.specs.Keeping.{Covers, HasSpace, IsClean, IsCommitted, IsNobodys, IsPlaced, IsTablePlace, Serves, StandsAt, area_of, bitmap as bitmap_place, entries, metadata, regions}
-use Rattle.layer_session.proofs.Alike.{block_in_file, holds_alike, layer_alike, numbers_alike, places_alike, places_stay, sound_alike}
+use Rattle.layer_session.proofs.Alike.{block_in_file, holds_alike, layer_alike, metadata_alike, numbers_alike, places_alike, places_stay, sound_alike}
 use Rattle.layer_session.proofs.Allocating.{may_take, more, off_tables, safe_grown, safe_taken}
 use Rattle.layer_file.proofs.Sectors.{in_block}
 use Rattle.layer_session.proofs.Crashes.{IsSafe, safe_of}
@@ -100,6 +100,7 @@ module _ (l : Layer) (trace new : Trace) (file : Placed) (serves : Serves l trac
     parts = serves.parts;
     header = serves.header ∙ sym leaves.header;
     ties = serves.ties;
+    metadata = serves.metadata ∙ sym (metadata_alike serves.parts h now leaves.longer sf.sizes serves.as_held.numbers serves.as_held.sound table_same long);
     as_held = record {
       sizes = serves.as_held.sizes;
       shape = serves.as_held.shape;

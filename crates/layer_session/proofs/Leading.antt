@@ -203,6 +203,7 @@ module _ (l n : Layer) where
     parts = s.parts;
     header = s.header;
     ties = s.ties;
+    metadata = s.metadata;
     as_held = s.as_held;
     bytes = s.bytes;
     tables = s.tables;

@@ -57,6 +57,7 @@ pub mod Parted
 pub mod Readable
 pub mod Tests
 pub mod ReadOnly
+pub mod FileLayers
 pub mod Beginning
 pub mod BitRuns
 pub mod Brought

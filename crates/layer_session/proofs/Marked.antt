@@ -22,7 +22,7 @@ use Rattle.layer_session.specs.Keeping.{HasSpace, IsHeld, IsLayerOf, IsTablePlac
 use Rattle.layer_session.proofs.Alike.{IsInFile, block_in_file}
 use Rattle.layer_session.proofs.Entered.{held_as_long, layer_by, long, short_ring, sizes}
 use Rattle.layer_session.proofs.Entries.{apart_of}
-use Rattle.layer_session.proofs.Marking.{marked_entry, marked_numbers}
+use Rattle.layer_session.proofs.Marking.{marked_entry, marked_metadata, marked_numbers}
 use Rattle.layer_session.proofs.Pages.{all_places, of_places}
 use Rattle.layer_session.proofs.SameTables.{holds_same, places_kept, places_same, sound_same}
 use Rattle.vhdx_format.specs.SettledFiles.{ring_of}
@@ -132,6 +132,7 @@ module _ (l : Layer) (trace : Trace) (file : Placed) (serves : Serves l trace fi
       parts = serves.parts;
       header = serves.header;
       ties = serves.ties;
+      metadata = serves.metadata ∙ sym (marked_metadata serves.parts (sizes l trace file serves) H now serves.as_held.numbers serves.as_held.sound (long l trace file serves) index from count on entry six into.sets room);
       as_held = held_then;
       bytes = serves.bytes;
       tables = serves.tables;

@@ -17,7 +17,8 @@ use Rattle.vhdx_format.proofs.SizeLemmas.{ratio_in_range}
 use Rattle.table_pages.specs.Held.{SetsBits}
 use Rattle.layer_session.proofs.Alike.{AreSizes, IsInFile, block_in_file, by_state_other, off_range}
 use Rattle.layer_session.proofs.Apart.{beside_self}
-use Rattle.layer_session.proofs.Numbers.{are_numbers, part_alike, same_numbers}
+use Rattle.chain_model.specs.Images.{metadata_of}
+use Rattle.layer_session.proofs.Numbers.{are_numbers, part_alike, same_metadata, same_numbers}
 use Rattle.layer_session.proofs.SameTables.{bitmap_same, payload_same}
 use Rattle.layer_file.proofs.Sectors.{in_block, read_back}
 
@@ -55,14 +56,20 @@ module _ (parts : Parts) (sizes : AreSizes parts) (old new : List ℕ) (numbers 
           by_range (inl m) = omega (arith, m, a)
           by_range (inr m) = omega (arith, m, b)
 
+  region_same : bytes_at new parts.meta_at parts.meta_len ≡ bytes_at old parts.meta_at parts.meta_len
+  region_same =
+      let within : parts.meta_at + parts.meta_len ≤ length old = (are_numbers parts.header old parts numbers).0.metadata.within in
+      part_alike old new parts.meta_at parts.meta_len within (omega (arith, sets.as_long)) (λ i a b. beside_bits i (off i parts.meta_at parts.meta_len lies.off_metadata a b))
+
+  pub marked_metadata : metadata_of parts new ≡ metadata_of parts old
+  marked_metadata = same_metadata parts old new region_same
+
   pub marked_numbers : read_parts parts.header new ≡ Ok parts
   marked_numbers =
-      let n = (are_numbers parts.header old parts numbers).0 in
-      let within : parts.meta_at + parts.meta_len ≤ length old = n.metadata.within in
       let low = lies.low in
       same_numbers parts.header old new parts numbers (omega (arith, sets.as_long))
       (part_alike old new 196608 131072 (omega (arith, long)) (omega (arith, sets.as_long)) (λ i a b. beside_bits i (inl (omega (arith, b, low)))))
-      (part_alike old new parts.meta_at parts.meta_len within (omega (arith, sets.as_long)) (λ i a b. beside_bits i (off i parts.meta_at parts.meta_len lies.off_metadata a b)))
+      region_same
 
   pub marked_entry : (j : ℕ) → 8 * j + 8 ≤ parts.bat_len → table_entry p new j ≡ table_entry p old j
   unfolding table_entry

@@ -18,6 +18,7 @@ use Rattle.vhdx_format.specs.declared.TheConstants.{BAT_REGION, METADATA_REGION}
 use Rattle.vhdx_format.specs.declared.regions.RegionEntry.{RegionEntry}
 use Rattle.vhdx_format.specs.Rules.{BrokenRule, UnknownRegion, MissingRegion, RegionPlace, NoRegionTable, ◌>>=◌, unless_some}
 use Rattle.table_pages.proofs.Laying.{part_byte, part_len}
+use Rattle.chain_model.specs.Images.{RegionBytes, metadata_of}
 
 -- ---- bytes
 
@@ -27,6 +28,10 @@ part_alike old new at n inside longer same = ext_get_or 0 _ _ (part_len new at n
   where
     byte : (i : ℕ) → i < n → get_or (bytes_at new at n) i 0 ≡ get_or (bytes_at old at n) i 0
     byte i l = part_byte new at n i l ∙ same (at + i) (omega arith) (omega (arith, l)) ∙ sym (part_byte old at n i l)
+
+-- the metadata's regions of two files, by their bytes
+pub same_metadata : (parts : Parts) (old new : List ℕ) → bytes_at new parts.meta_at parts.meta_len ≡ bytes_at old parts.meta_at parts.meta_len → metadata_of parts new ≡ metadata_of parts old
+same_metadata parts old new e = ap (λ (z : List ℕ). (let region : RegionBytes = record { at = parts.meta_at; bytes = z } in region)) e
 
 -- ---- regions
 

@@ -217,6 +217,7 @@ module _ (l : Layer) (new : Tables) (disk : Disk) (reads : HasRead l.tables new 
     parts = s.parts;
     header = s.header;
     ties = s.ties;
+    metadata = s.metadata;
     as_held = subst (λ n. IsHeld (with_tables l mine) s.parts file.member.layer (seen (file_of t n))) (sym s.number) (holds_on t s.parts file.member.layer told (subst (λ n. IsHeld l s.parts file.member.layer (seen (file_of t n))) s.number s.as_held));
     bytes = s.bytes;
     tables = s.tables;

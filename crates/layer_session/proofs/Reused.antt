@@ -25,6 +25,7 @@ spaced_serves l trace file space serves h = record {
   parts = serves.parts;
   header = serves.header;
   ties = serves.ties;
+  metadata = serves.metadata;
   as_held = record {
     sizes = serves.as_held.sizes;
     shape = serves.as_held.shape;

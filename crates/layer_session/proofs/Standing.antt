@@ -8,7 +8,7 @@ use Rattle.store_model.specs.Disk.{Disk, WhereBothTold, WhereTold}
 use Rattle.store_model.specs.File.{File, seen}
 use Rattle.store_model.specs.Trace.{NamedBytes, Trace, file_of}
 use Rattle.log_write.specs.Sessions.{IsRunning}
-use Rattle.chain_model.specs.Images.{Placed, name_of}
+use Rattle.chain_model.specs.Images.{Placed, metadata_of, name_of}
 use Rattle.chain_model.specs.Layers as chain
 use Rattle.chain_model.specs.Members.{Ties}
 use Rattle.chain_model.specs.PhaseLaws.{loosened}
@@ -33,6 +33,7 @@ looser l trace file more s h = record {
   parts = s.parts;
   header = s.header;
   ties = s.ties;
+  metadata = s.metadata;
   as_held = s.as_held;
   bytes = s.bytes;
   tables = s.tables;
@@ -60,6 +61,7 @@ moved l old new file s long names e = record {
   parts = s.parts;
   header = s.header;
   ties = s.ties;
+  metadata = subst (λ (z : File). file.metadata ≡ metadata_of s.parts (tables.held l.tables.pending (seen z))) e s.metadata;
   as_held = subst (λ (z : File). IsHeld l s.parts file.member.layer (seen z)) e s.as_held;
   bytes = s.bytes;
   tables = s.tables;

@@ -17,14 +17,14 @@ use Rattle.table_pages.proofs.Changing.{held_beside_writes, stand_beside_writes}
 use Rattle.table_pages.proofs.Laying.{length_over, over_in, over_out, part_byte, part_len, part_same}
 use Rattle.table_pages.proofs.Words.{held_long}
 use Rattle.log_write.specs.Sessions.{IsRunning}
-use Rattle.chain_model.specs.Images.{Placed}
+use Rattle.chain_model.specs.Images.{Placed, metadata_of}
 use Rattle.chain_model.specs.Layers as chain
 use Rattle.layer_session.specs.declared.file.Layer.{Layer}
 use Rattle.layer_session.specs.Calls.{is_among, loose_or_named, placed_with, with_bytes}
 use Rattle.layer_session.specs.Keeping.{AreBeside, Covers, HasSpace, IsClean, IsCommitted, IsHeld, IsLayerOf, IsPlaced, IsRunAt, IsTablePlace, Serves, StandsAt, area_of}
 use Rattle.layer_session.specs.Laws.{WritesAreServed}
 use Rattle.layer_session.specs.Steps.{StandFrom}
-use Rattle.layer_session.proofs.Alike.{not_true, bit_alike, holds_alike, layer_alike, numbers_alike, places_alike, places_stay, sound_alike, state_alike}
+use Rattle.layer_session.proofs.Alike.{not_true, bit_alike, holds_alike, layer_alike, metadata_alike, numbers_alike, places_alike, places_stay, sound_alike, state_alike}
 use Rattle.layer_session.proofs.Apart.{beside_self}
 use Rattle.layer_session.proofs.Beside.{named_only, off_tables}
 use Rattle.layer_session.proofs.Crashes.{IsSafe, safe_of}
@@ -301,6 +301,8 @@ module _ (l : Layer) (trace : Trace) (file : Placed) (serves : Serves l trace fi
         parts = serves.parts;
         header = serves.header;
         ties = serves.ties;
+        metadata = subst (λ (z : File). file.metadata ≡ metadata_of serves.parts (held l.tables.pending (seen z))) e
+            (serves.metadata ∙ sym (metadata_alike serves.parts h now longer sf.sizes serves.as_held.numbers serves.as_held.sound table_same long));
         as_held = subst (λ (z : File). IsHeld l serves.parts layer_then (seen z)) e held_rest;
         bytes = serves.bytes;
         tables = serves.tables;

@@ -34,10 +34,12 @@ BeginsOver parts ids file old new = GoesOver (as_found old file parts) (as_found
 abbrev pub HasBegun : Parts → SessionIds → ℕ → Layer → Trace → Trace → Type 0
 HasBegun parts ids file l old new = Serves l new (as_found old file (in_session parts ids))
 
--- The layer is that of this file: its sizes, whether blocks of zeros stay where they are, and the first entry of its log.
+-- The layer is that of this file: its sizes, how long its table's region is, whether blocks of zeros stay where they are, and
+-- the first entry of its log.
 pub record IsOf (parts : Parts) (file : ℕ) (l : Layer) : Type 0 where
   pub number : l.tables.parts.file ≡ file
   pub sector : l.tables.parts.sector ≡ parts.geometry.sector
   pub sectors : l.tables.parts.sectors ≡ parts.geometry.sectors
+  pub table : l.tables.parts.bat_len ≡ parts.bat_len
   pub leave : l.leave ≡ parts.leave
   pub first : l.log.number ≡ 1

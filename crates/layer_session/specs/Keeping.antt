@@ -19,7 +19,7 @@ use Rattle.log_write.specs.Writing.{CanCommit, IsOfTables}
 use Rattle.block_alloc.specs.declared.freed.Freed.{Freed}
 use Rattle.chain_model.specs.Layers as chain
 use Rattle.chain_model.specs.Members.{ties_of}
-use Rattle.chain_model.specs.Images.{Placed, name_of}
+use Rattle.chain_model.specs.Images.{Placed, metadata_of, name_of}
 use Rattle.layer_session.specs.declared.file.Layer.{Layer}
 
 -- ---- places of a file
@@ -142,6 +142,7 @@ pub record Serves (l : Layer) (trace : Trace) (file : Placed) : Type 0 where
   pub parts : Parts
   pub header : parts.header ≡ l.log.header
   pub ties : file.member.ties ≡ ties_of parts
+  pub metadata : file.metadata ≡ metadata_of parts (held l.tables.pending (seen (file_of trace file.number)))
   pub as_held : IsHeld l parts file.member.layer (seen (file_of trace file.number))
   -- what was committed, and the places of tables and of payload written since
   pub bytes : List ℕ

@@ -10,4 +10,5 @@ pub mod Prepared
 pub mod Bringing
 pub mod Taking
 pub mod ReadOnly
+pub mod FileLayers
 pub mod Laws

@@ -2,6 +2,7 @@
 #![tactic(auto)]
 
 mod file;
+mod file_layer;
 mod geometry;
 mod laws;
 mod planning;
@@ -12,6 +13,7 @@ mod steps;
 mod writing;
 
 pub use file::{Layer, LayerFault};
+pub use file_layer::{FileLayer, file_layers_stand, own_files};
 pub use laws::{
     commits_are_served, layers_are_added, layers_are_kept, layers_stand, places_are_taken,
     writes_are_served,

@@ -4,14 +4,14 @@ use Rattle.std.specs.Prelude.{All}
 use Rattle.std.proofs.lemmas.Bool.{cases_lt, cases_eq, eq-eqb, ne_eqb, le-leb, lt-leb}
 use Rattle.std.proofs.lemmas.List.{at_drop_more, at_drop_all, drop_all, append-nil}
 use Rattle.std.proofs.lemmas.List.Elements.{All-head, All-tail, All-cons, All-nil}
-use Rattle.store_model.proofs.Parts.{length-overwritten, length-part, part-overwritten_apart}
+use Rattle.store_model.proofs.Parts.{length-overwritten, length-part, part-overwritten, part-overwritten_apart}
 use Rattle.vx_base.specs.Fields.{bytes_at, extended, written_over}
 use Rattle.vhdx_format.specs.SettledFiles.{with_bytes, with_updates}
 use Rattle.vhdx_format.specs.declared.log_entry.Page.{Page}
 use Rattle.log_format.specs.PendingPages.{has_place, HasOnePageEach, with_page, place_of}
 use Rattle.meta_edit.specs.Pages.{with_pages, IsPageIn}
 use Rattle.meta_edit.specs.Steps.{part_with, part_with_all}
-use Rattle.meta_edit.proofs.ByteLaws.{part-over_in, over-over_in, over-over_apart, over_itself}
+use Rattle.meta_edit.proofs.ByteLaws.{Shows, part-over_in, over-over_in, over-over_apart, over_itself, shows_first, shows_next}
 
 -- the file with pages written over it, one after another
 laid_over : List Page → List ℕ → List ℕ
@@ -249,3 +249,31 @@ pub pages_joined : (pages more : List Page) (file : List ℕ) → with_pages (pa
 unfolding with_updates
 pages_joined [] more file = refl
 pages_joined (p ∷ ps) more file = pages_joined ps more (with_bytes p.at p.bytes file)
+
+-- ---- they change a region alone, and by what stands there alone
+
+laid_shows : (m n : ℕ) (pages : List Page) (file shown r : List ℕ) → All (IsPageIn m n) pages → m + n ≤ length file → Shows m n file shown r
+    → (t : List ℕ) × Shows m n file (laid_over pages shown) t
+unfolding laid_over
+laid_shows m n [] file shown r h w s = (r, s)
+laid_shows m n (p ∷ ps) file shown r h w s =
+    let head : IsPageIn m n p = All-head (IsPageIn m n) p ps h in
+    let place : p.at ≡ m + (p.at - m) = omega (arith, head.first) in
+    let fits : 0 < length p.bytes → p.at - m + length p.bytes ≤ n = λ some. omega (arith, head.first, head.last, head.whole) in
+    laid_shows m n ps file (written_over shown p.at p.bytes) (written_over r (p.at - m) p.bytes) (All-tail (IsPageIn m n) p ps h) w
+    (shows_next m n file shown r (written_over shown p.at p.bytes) p.at (p.at - m) p.bytes p.bytes w s refl place refl fits)
+
+pub turns_alike : (m n : ℕ) (pages : List Page) (file other new : List ℕ) → All (IsPageIn m n) pages → m % 4096 ≡ 0 → n % 4096 ≡ 0 → m + n ≤ length file → m + n ≤ length other
+    → bytes_at other m n ≡ bytes_at file m n → with_pages pages file ≡ written_over file m new → length new ≡ n → with_pages pages other ≡ written_over other m new
+turns_alike m n pages file other new h a b w x same is l =
+    let first = laid_shows m n pages other other (bytes_at other m n) h x (shows_first m n other other x refl) in
+    let shows : with_pages pages other ≡ written_over other m first.0 = is_laid m n pages other h x ∙ first.1.is in
+    let region : first.0 ≡ new =
+    sym (part-overwritten other first.0 m n (omega (arith, x)) (sym first.1.len))
+    ∙ ap (λ (z : List ℕ). bytes_at z m n) (sym shows)
+    ∙ sym (part_with_all-is m n pages other m n h x a b x)
+    ∙ ap (λ (part : List ℕ). part_with_all m part pages) same
+    ∙ part_with_all-is m n pages file m n h w a b w
+    ∙ ap (λ (z : List ℕ). bytes_at z m n) is
+    ∙ part-overwritten file new m n (omega (arith, w)) (sym l) in
+    shows ∙ ap (written_over other m) region

@@ -1,0 +1,107 @@
+//! A file of a chain, in a session or only read.
+
+ghost use Rattle.std.specs.Prelude.{◌≡◌, ◌+◌, ◌*◌, ◌^◌, ◌<◌, ◌≤◌, ℕ, List, length, Contains, IfErr, OnOk};
+ghost use Rattle.store_model.specs.Disk.{ReadFailed, WhereTold};
+ghost use Rattle.chain_model.specs.Images.{Placed, members_of};
+ghost use Rattle.chain_model.specs.Layers as chain;
+ghost use Rattle.chain_model.specs.Layers.{through};
+ghost use Rattle.chain_model.specs.Members.{layers_of};
+ghost use Rattle.layer_session.specs.Calls.{AddsOwned};
+ghost use Rattle.layer_session.specs.ReadOnly.{SomeReadFailed};
+ghost use Rattle.layer_session.specs.FileLayers.{AreReadableFiles, AreSameFiles, FileCanBeRead, FileLayersStand, HaveFiles, HaveSameNumbers, HasFile, Hold, Holds, IsSameFile, OthersStand, file_numbers, number_of, table_parts};
+
+use crate::file::Layer;
+use crate::read_layer::ReadLayer;
+use sector_bits::are_set;
+use store_model::{Store, StoreFault};
+use vx_base::Geometry;
+
+/// A file of a chain: of each sector of the disk its bytes, or that the file doesn't have it.
+#[derive(Drop)]
+pub enum FileLayer {
+    /// In a session, so that it may be changed.
+    Session(Layer),
+    /// Only read.
+    Read(ReadLayer),
+}
+
+impl FileLayer {
+    /// The number of the file in the store.
+    pub fn number(&self) -> u32
+        ensures { result ≡ number_of self.now }
+    {
+        match self {
+            FileLayer::Session(layer) => layer.tables.parts.file,
+            FileLayer::Read(layer) => layer.tables.parts.file,
+        }
+    }
+
+    /// Adds what the file has of so many sectors from `first` on to what was found of them: their bytes, and their bits in the
+    /// mask from `at` on. What was found stays as it is.
+    pub fn own<S: Store>(
+        &mut self,
+        store: &mut S,
+        first: u64,
+        count: u64,
+        out: &mut [u8],
+        mask: &mut [u8],
+        at: usize,
+    ) -> Result<(), StoreFault>
+        requires readable { FileCanBeRead self.old (S.disk store.old) }
+        requires on_disk { first + count ≤ (table_parts self.old).sectors }
+        requires out { length out.old ≡ (table_parts self.old).sector * count }
+        requires mask { at + count ≤ 8 * length mask.old }
+        requires ends { at + count < 2 ^ 64 }
+        ensures held { OnOk result ((layer : chain.Layer) → WhereTold (S.disk store.old).told (λ trace. Holds self.old trace layer → AddsOwned layer (table_parts self.old).sector first count at mask.old mask.new out.old out.new)) }
+        ensures owned { OnOk result ((file : Placed) → WhereTold (S.disk store.old).told (λ trace. HasFile self.old trace file → AddsOwned file.member.layer (table_parts self.old).sector first count at mask.old mask.new out.old out.new)) }
+        ensures same { IsSameFile self.old self.new (S.disk store.old) }
+        ensures stays { OnOk result (S.disk store.new ≡ S.disk store.old) }
+        ensures err { IfErr result (ReadFailed (number_of self.old) (S.disk store.old) (S.disk store.new)) }
+    {
+        match self {
+            FileLayer::Session(layer) => layer.own(store, first, count, out, mask, at),
+            FileLayer::Read(layer) => layer.own(store, first, count, out, mask, at),
+        }
+    }
+}
+
+/// Adds what files have of so many sectors from `first` on to what was found of them, file by file, the upper one first, until
+/// all is found: their bytes, and their bits in the mask from `at` on. All have the disk of this geometry.
+pub fn own_files<S: Store>(
+    layers: &mut [FileLayer],
+    store: &mut S,
+    geometry: Geometry,
+    first: u64,
+    count: u64,
+    out: &mut [u8],
+    mask: &mut [u8],
+    at: usize,
+) -> Result<(), StoreFault>
+    requires readable { AreReadableFiles geometry (S.disk store.old) layers.old }
+    requires on_disk { first + count ≤ geometry.sectors }
+    requires out { length out.old ≡ geometry.sector * count }
+    requires mask { at + count ≤ 8 * length mask.old }
+    requires ends { at + count < 2 ^ 64 }
+    ensures held { OnOk result ((each : List chain.Layer) → WhereTold (S.disk store.old).told (λ trace. Hold layers.old trace each → AddsOwned (through each) geometry.sector first count at mask.old mask.new out.old out.new)) }
+    ensures owned { OnOk result ((files : List Placed) → WhereTold (S.disk store.old).told (λ trace. HaveFiles layers.old trace files → AddsOwned (through (layers_of (members_of files))) geometry.sector first count at mask.old mask.new out.old out.new)) }
+    ensures same { AreSameFiles geometry layers.old layers.new (S.disk store.old) }
+    ensures numbers { HaveSameNumbers layers.old layers.new }
+    ensures stays { OnOk result (S.disk store.new ≡ S.disk store.old) }
+    ensures err { IfErr result (SomeReadFailed (S.disk store.old) (S.disk store.new)) }
+    ensures whose { IfErr result (λ fault. Contains (file_numbers layers.old) fault.file) }
+{
+    if are_set(mask, at, count as usize) {
+        return Ok(());
+    }
+    let Some((upper, below)) = layers.split_first_mut() else {
+        return Ok(());
+    };
+    upper.own(store, first, count, out, mask, at)?;
+    own_files(below, store, geometry, first, count, out, mask, at)
+}
+
+/// What a file's layer has hangs on that file and on the files' names alone: it stands while other files are changed.
+pub fn file_layers_stand()
+    ensures one { FileLayersStand }
+    ensures all { OthersStand }
+{}

@@ -1,0 +1,12 @@
+//! What a merge of a file into its parent keeps and does below the chain: which stripes are copied, when each was last changed,
+//! and the pieces that are taken from the source and put into the target.
+#![tactic(auto)]
+
+mod marking;
+mod marks;
+mod stamps;
+mod stripes;
+
+pub use marks::Marks;
+pub use stamps::Stamps;
+pub use stripes::{stripe_count, stripe_range, stripes_touched};
