@@ -2,7 +2,7 @@
 use Rattle.std.proofs.lemmas.List.{length-take, take_more}
 use Rattle.std.proofs.lemmas.Grind.{common_steps}
 use Rattle.std.proofs.Common.{drop, take, ◌-◌, ◌≡◌, ◌≢◌, ℕ, zero, suc, ◌+◌, ◌<◌, ◌≤◌, ◌^◌, Bool, true, false, List, [], ◌∷◌, ◌++◌, length, map, get_or, All, refl, sym, ap, subst, ◌∙◌, arith, is_some, inl, inr, ne_eqb, ◌==◌}
-use Rattle.std.specs.Prelude.{Option, Some, None, ◌⊎◌, IfSome, Result, Ok, Err, IfOk, OnOk}
+use Rattle.std.specs.Prelude.{Option, Some, None, option_map, ◌⊎◌, IfSome, Result, Ok, Err, IfOk, OnOk}
 use Rattle.std.specs.List.{AllByRecursion}
 use Rattle.std.specs.Option.{option_or}
 use Rattle.vx_base.specs.declared.parts.Geometry.{Geometry}
@@ -46,7 +46,7 @@ use Rattle.chain_core.specs.Starting.{AreAsOpened, AreAttached, AreReadOf, CanSt
 use Rattle.chain_core.specs.Starting.{HasBegun as HasBegunSession, IsRead as IsReadOnly}
 use Rattle.chain_core.specs.declared.starting.NewIds.{NewIds}
 use Rattle.chain_core.specs.declared.starting.StartRefusal.{StartRefusal}
-use Rattle.chain_core.specs.Sessions.{AreApart, AreReady, IsMergeOf, IsReadyLeaf}
+use Rattle.chain_core.specs.Sessions.{AreApart, AreReady, IsLow, IsMergeOf, IsReadyLeaf}
 use Rattle.chain_core.specs.States.{AreHeld, AreWritten, IsCourse, IsServing, State, plain, seen_in}
 use Rattle.chain_core.proofs.Steps.{phase_others, still_once, still_read}
 
@@ -177,7 +177,7 @@ all_apart n (f ∷ files) (Read l ∷ layers) of =
     (subst (λ m. AllByRecursion (λ other. other ≢ m) (file_numbers layers)) same (far_apart n (n + 1) files layers (omega arith) of.1), all_apart (n + 1) files layers of.1)
 
 -- none of them has a log
-none_logged : (n most : ℕ) (files : List LinkedFile) (layers : List FileLayer) → AreReadOf n files layers → AllByRecursion (λ number. IfSome number (λ n. n ≤ most)) (map log_number layers)
+pub none_logged : (n most : ℕ) (files : List LinkedFile) (layers : List FileLayer) → AreReadOf n files layers → AllByRecursion (λ number. IfSome number (λ n. n ≤ most)) (map log_number layers)
 none_logged n most [] [] of = tt
 none_logged n most [] (l ∷ layers) of = absurd of
 none_logged n most (f ∷ files) [] of = absurd of
@@ -267,7 +267,7 @@ module _ (trace : Trace) (leaf : LinkedFile) (others : List LinkedFile) (attache
     geometry = geometry;
     served = served;
     loose = tight (is_dirty z []);
-    course = subst (λ o. IsCourse z o (plain rest)) (sym no_merge) tt;
+    course = subst (λ o. IsCourse z (λ n. n == 0) o (plain rest)) (sym no_merge) tt;
     held = subst (λ o. AreHeld o layers.below.items trace top rest) (sym none) ((λ s. refl), read);
     whole = whole;
     synced = all_synced trace 0 (leaf ∷ others) attached.each;
@@ -303,7 +303,7 @@ module _ (trace : Trace) (leaf : LinkedFile) (others : List LinkedFile) (attache
       geometry = geometry;
       served = goes.served (layers_are_kept l now next serves).shows;
       loose = ((λ s out. refl), none_loose_in trace 1 others);
-      course = subst (λ o. IsCourse z o (plain rest)) (sym no_merge) tt;
+      course = subst (λ o. IsCourse z (λ n. n == 0) o (plain rest)) (sym no_merge) tt;
       held = subst (λ o. AreHeld o layers.below.items now next rest) (sym is) (serves, read);
       whole = whole;
       synced = all_synced trace 0 (leaf ∷ others) attached.each;
@@ -494,3 +494,9 @@ of_disk files leaf others (Err e) is geometry = tt
 pub first_of_disk : (files : List LinkedFile) (f : LinkedFile) (g : Geometry) → f ≡ get_or files 0 f → g ≡ f.parts.geometry → IsOfDisk files g
 first_of_disk [] f g is same = tt
 first_of_disk (leaf ∷ others) f g is same = same ∙ ap (λ (x : LinkedFile). x.parts.geometry) is
+
+-- with no session there is no log
+pub low_read : (files : List LinkedFile) (layers : Layers) → layers.leaf ≡ None → AreReadOf 0 files layers.below.items → IsLow 1 layers
+low_read files layers none of =
+    subst (λ (o : Option Layer). AllByRecursion (λ number. IfSome number (λ n. n ≤ 1)) (option_map (λ (leaf : Layer). leaf.log.number) o ∷ map log_number layers.below.items)) (sym none)
+    (tt, none_logged 0 1 files layers.below.items of)

@@ -27,7 +27,8 @@ use Rattle.layer_session.specs.declared.file.Layer.{Layer}
 use Rattle.layer_session.specs.declared.file_layer.FileLayer.{FileLayer}
 use Rattle.layer_session.specs.Calls.{AddsOwned, IsBeside, IsSame, own_bytes, own_file}
 use Rattle.layer_session.specs.Keeping.{IsHeld, IsReady, Serves}
-use Rattle.layer_session.specs.ReadOnly.{AreRead, AreReadable, AreSameFiles, SomeReadFailed}
+use Rattle.layer_session.specs.ReadOnly.{SomeReadFailed}
+use Rattle.layer_session.specs.FileLayers.{AreOthers, AreReadyFiles, AreSameFiles, HaveFiles, HaveSameNumbers, file_numbers, log_number, number_of, table_parts}
 use Rattle.layer_session.proofs.Standing.{layers_stand}
 use Rattle.chain_core.specs.declared.layers.Layers.{Layers}
 use Rattle.chain_core.specs.Reading.{AddsPart, HasOnlyRead, of_read, of_session}
@@ -89,7 +90,7 @@ swapped old new v trace g m written held s = record {
   geometry = g ∙ s.geometry;
   served = s.served;
   loose = s.loose;
-  course = subst (λ o. IsCourse (sector_of v) o v.rest) (sym m) s.course;
+  course = subst (λ o. IsCourse (sector_of v) v.writes o v.rest) (sym m) s.course;
   held = held;
   whole = s.whole;
   synced = s.synced;
@@ -166,8 +167,8 @@ numbers_same (w ∷ was) (l ∷ now) parts =
 merge_same : (g : Geometry) (leaf : Option Layer) (was now : List FileLayer) (merge : Option Underway) → HaveSameNumbers was now → IfSome merge (IsMergeOf g leaf was) → IfSome merge (IsMergeOf g leaf now)
 merge_same g leaf was now None same is = tt
 merge_same g leaf was now (Some u) same is =
-    let long : length now ≡ length was = sym (length-map table_parts now) ∙ ap length same.parts ∙ length-map table_parts was in
-    record { leaf = is.leaf; there = let below : u.source + 1 < length was = is.there in omega arith; target = ap (λ (logs : List (Option ℕ)). is_some (get_or logs (u.source + 1) None)) same.logs ∙ is.target; stripes = is.stripes }
+    let long : length now ≡ length was = simp length-map at (ap length same.parts) in
+    record { session = is.session; there = let below : u.source + 1 < length was = is.there in omega arith; target = ap (λ (logs : List (Option ℕ)). is_some (get_or logs (u.source + 1) None)) same.logs ∙ is.target; stripes = is.stripes }
 
 leaf_beside : (o : Option Layer) (g : Geometry) (was now : List FileLayer) (before after : Disk) → Stays before after → HaveSameNumbers was now
     → IfSome o (IsReadyLeaf g was before) → IfSome o (IsReadyLeaf g now after)

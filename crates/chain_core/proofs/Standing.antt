@@ -34,7 +34,7 @@ merge_on old new leaf next step merge =
     by_merge : (o : Option Underway) → IfSome o (IsMergeOf old.geometry old.leaf old.below.items) → IfSome o (IsMergeOf new.geometry new.leaf new.below.items)
     by_merge None is = tt
     by_merge (Some u) is = record {
-      leaf = ap is_some step.now;
+      session = ap is_some step.now;
       there = subst (λ b. u.source + 1 < length b.items) (sym step.below) is.there;
       target = subst (λ b. is_session_at b.items (u.source + 1) ≡ true) (sym step.below) is.target;
       stripes = is.stripes ∙ ap (λ (g : Geometry). stripe_count g.sector g.sectors) (sym step.geometry);

@@ -85,12 +85,12 @@ pub still_once : (file : ℕ) (P : List ℕ → Type 0) (old now : Trace) → Is
 still_once file P old now phase once = subst (λ (files : List NamedBytes). NoneTwice (map (λ f. f.name) files)) (sym (phase_attached file P old now phase)) once
 
 -- the names behind retired leaves
-names_behind : (r c : List Placed) → NoneTwice (names_of (members_of r ++ members_of c)) → NoneTwice (names_of (members_of c))
+pub names_behind : (r c : List Placed) → NoneTwice (names_of (members_of r ++ members_of c)) → NoneTwice (names_of (members_of c))
 names_behind [] c once = once
 names_behind (p ∷ r) c once = names_behind r c once.1
 
 -- files of other names have other numbers
-apart : (trace : Trace) (top : Placed) (others : List Placed) → IsKept trace top → AllByRecursion (IsKept trace) others → AllByRecursion (λ name. name ≢ top.member.name) (names_of (members_of others))
+pub apart : (trace : Trace) (top : Placed) (others : List Placed) → IsKept trace top → AllByRecursion (IsKept trace) others → AllByRecursion (λ name. name ≢ top.member.name) (names_of (members_of others))
     → AllByRecursion (λ f. f.number ≢ top.number) others
 apart trace top [] kept all ne = tt
 apart trace top (p ∷ others) kept all ne = ((λ same. ne.0 (sym all.0.name ∙ ap (name_of trace.attached) same ∙ kept.name)), apart trace top others kept all.1 ne.1)
@@ -203,13 +203,13 @@ done e v old new leaf next trace now step serving is =
         geometry = step.geometry ∙ serving.geometry;
         served = call.served (layers_are_kept next now (made z e.call v.top) is.holds).shows;
         loose = loose_after z v.history e v.top (made z e.call v.top) v.rest (leaves_loose z e v.top) serving.loose;
-        course = subst (λ o. IsCourse z o v.rest) (sym step.merge) serving.course;
+        course = subst (λ o. IsCourse z v.writes o v.rest) (sym step.merge) serving.course;
         held = held_by old new leaf next v (made z e.call v.top) (ShowsFile (wide z e.call v.top)) trace now step serving is.moments is.holds;
         whole = whole_on z e.call v.top (others_of v.rest) serving.whole;
         synced = serving.synced;
         written = written_on old new leaf next v step serving;
         still = still_others v old leaf (ShowsFile (wide z e.call v.top)) trace now step.was serving is.moments;
-        past = past_goes_on.call z v.opening v.history e (λ s. false) v.leaf v.began trace now serving.past call.moments;
+        past = past_goes_on.call z v.opening v.history e (λ s. false) (λ s. false) v.leaf v.began trace now (λ s out. refl) serving.past call.moments;
       };
     }
 
@@ -226,7 +226,7 @@ as_before v old new leaf next trace now step serving is =
         geometry = step.geometry ∙ serving.geometry;
         served = over.served (layers_are_kept next now v.top is.holds).shows;
         loose = serving.loose;
-        course = subst (λ o. IsCourse z o v.rest) (sym step.merge) serving.course;
+        course = subst (λ o. IsCourse z v.writes o v.rest) (sym step.merge) serving.course;
         held = held_by old new leaf next v v.top (ShowsFile v.top) trace now step serving is.moments is.holds;
         whole = serving.whole;
         synced = serving.synced;

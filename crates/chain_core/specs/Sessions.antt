@@ -59,8 +59,8 @@ is_session_at layers at = is_some (slice_index_or (map log_number layers) at Non
 
 -- A merge of files below the leaf, which is in a session: its source and its target are among them, the target in a session, and each
 -- stripe of the disk has its mark.
-pub record IsMergeOf (geometry : Geometry) (leaf : Option Layer) (below : List FileLayer) (merge : Underway) : Type 0 where
-  pub leaf : is_some leaf ≡ true
+pub record IsMergeOf (geometry : Geometry) (top : Option Layer) (below : List FileLayer) (merge : Underway) : Type 0 where
+  pub session : is_some top ≡ true
   pub there : merge.source + 1 < length below
   pub target : is_session_at below (merge.source + 1) ≡ true
   pub stripes : merge.marks.stripes ≡ stripe_count geometry.sector geometry.sectors

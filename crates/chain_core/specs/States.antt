@@ -121,17 +121,18 @@ AreWritten writes layers = AllByRecursion (λ l. writes (number_of l) ≡ is_ses
 
 -- A merge that the code keeps is the one under way: of the source at its place, with the marks of the stripes that are copied. What the
 -- source owns in a marked stripe is in the target, and elsewhere both are as they were.
-pub record IsUnder (z : ℕ) (u : Underway) (above : List Placed) (source target : Placed) (m : Merging) : Type 0 where
+pub record IsUnder (z : ℕ) (writes : ℕ → Bool) (u : Underway) (above : List Placed) (source target : Placed) (m : Merging) : Type 0 where
   pub place : u.source ≡ length above
+  pub written : writes target.number ≡ true
   pub marks : (t : ℕ) → marks_of u.marks t ≡ m.marks t
   pub under_way : IsUnderWay z m.first m.before [] m.marks source.member.layer target.member.layer
 
 -- the code keeps a merge where one is under way
-abbrev pub IsCourse : ℕ → Option Underway → Rest → Type 0
-IsCourse z None (plain others) = ⊤
-IsCourse z None (merging above source target below m) = ⊥
-IsCourse z (Some u) (plain others) = ⊥
-IsCourse z (Some u) (merging above source target below m) = IsUnder z u above source target m
+abbrev pub IsCourse : ℕ → (ℕ → Bool) → Option Underway → Rest → Type 0
+IsCourse z writes None (plain others) = ⊤
+IsCourse z writes None (merging above source target below m) = ⊥
+IsCourse z writes (Some u) (plain others) = ⊥
+IsCourse z writes (Some u) (merging above source target below m) = IsUnder z writes u above source target m
 
 -- A session in which no change failed: the history's disk is that of its files, which its layers have; only the leaf has loose sectors,
 -- which are dirty ones, and the target of a merge under way, of those that its source owns; and each moment since it began opens to a
@@ -141,7 +142,7 @@ pub record IsServing (layers : Layers) (v : State) (trace : Trace) : Type 0 wher
   pub geometry : layers.geometry ≡ v.top.member.ties.geometry
   pub served : IsServed (sector_of v) v.opening v.history v.leaf v.retired (files_of v) trace
   pub loose : IsLoose (dirty_now v) v.top v.rest
-  pub course : IsCourse (sector_of v) layers.merge v.rest
+  pub course : IsCourse (sector_of v) v.writes layers.merge v.rest
   pub held : AreHeld layers.leaf layers.below.items trace v.top (others_of v.rest)
   -- each sector of the disk is in one of the files
   pub whole : (s : ℕ) → s < v.top.member.ties.geometry.sectors → is_some (seen_in (files_of v) s) ≡ true

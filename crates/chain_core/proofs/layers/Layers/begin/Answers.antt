@@ -5,7 +5,7 @@ use Rattle.layer_session.specs.Begins.{in_session}
 use Rattle.chain_core.specs.declared.layers.Layers.{Layers}
 use Rattle.chain_core.specs.Starting.{StartsWith, session_ids}
 use Rattle.std.specs.Prelude.{◌∷◌}
-use Rattle.chain_core.proofs.Beginning.{begun_moments, begun_ready, begun_serving, none_changed, others_stay, rest_moments}
+use Rattle.chain_core.proofs.Beginning.{begun_moments, begun_ready, begun_serving, none_changed, none_logged, others_stay, rest_moments}
 use Rattle.chain_core.proofs.layers.Layers.begin.Goals as goal
 
 pub returns-in_err-below-clause-moments : goal.returns-in_err-below-clause-moments
@@ -48,3 +48,6 @@ layers_of-requires-clause-served g c = λ k d below. c.requires.files.served (su
 
 pub begin-requires-clause-numbers : goal.begin-requires-clause-numbers
 begin-requires-clause-numbers g c = (c.requires.files.served 0 c.args.leaf.now (omega arith)).numbers
+
+pub returns-clause-low : goal.returns-clause-low
+returns-clause-low g c = (omega (arith, c.in_ok-session.ensures.parts.first), none_logged 1 1 c.args.others.now c.in_ok-below.below.items c.in_ok-below.ensures)

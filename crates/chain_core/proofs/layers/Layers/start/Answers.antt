@@ -1,7 +1,7 @@
 use Rattle.std.proofs.Common.{◌≡◌, refl, sym, subst}
 use Rattle.chain_core.specs.Starting.{HasStarted}
 use Rattle.chain_core.specs.declared.starting.Mode.{Mode}
-use Rattle.chain_core.proofs.Beginning.{files_rest, none_changed, reading_ready, reading_started}
+use Rattle.chain_core.proofs.Beginning.{files_rest, low_read, none_changed, reading_ready, reading_started}
 use Rattle.chain_core.proofs.layers.Layers.start.Goals as goal
 
 pub returns-in_err-open-in-ReadOnly-clause-moments : goal.returns-in_err-open-in-ReadOnly-clause-moments
@@ -24,3 +24,7 @@ returns-in_err-open-in-ReadOnly-clause-still g c = none_changed (g.S.Store.disk 
 
 pub returns-in_ok-open-in-ReadOnly-clause-still : goal.returns-in_ok-open-in-ReadOnly-clause-still
 returns-in_ok-open-in-ReadOnly-clause-still g c = none_changed (g.S.Store.disk c.args.store.now).told _ refl
+
+pub returns-in_ok-open-in-ReadOnly-clause-low : goal.returns-in_ok-open-in-ReadOnly-clause-low
+returns-in_ok-open-in-ReadOnly-clause-low g c =
+    low_read c.args.files.now c.in_ok-open-in-ReadOnly.field-0 c.in_ok-open-in-ReadOnly.ensures.leaf c.in_ok-open-in-ReadOnly.ensures.below

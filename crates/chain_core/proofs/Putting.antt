@@ -1,0 +1,177 @@
+-- A piece is put into the target of a merge.
+use Rattle.std.proofs.Common.{◌≡◌, ◌≢◌, ◌<◌, ◌+◌, ℕ, suc, Bool, true, false, List, [], ◌∷◌, ◌++◌, length, map, refl, sym, ap, subst, ◌∙◌, arith, is_some}
+use Rattle.std.specs.Prelude.{Option, Some, None, IfSome, Result, Ok, Err}
+use Rattle.std.specs.List.{AllByRecursion}
+use Rattle.std.specs.Option.{option_or}
+use Rattle.std.proofs.lemmas.Bool.{or_parts, or_from}
+use Rattle.std.proofs.lemmas.List.{append_assoc, length-append, map-append}
+use Rattle.store_model.specs.File.{is_synced}
+use Rattle.store_model.specs.Trace.{Trace, file_of}
+use Rattle.guest_model.specs.History.{either, replay}
+use Rattle.chain_model.specs.Layers.{Layer as SectorLayer, over, through}
+use Rattle.chain_model.specs.Merges.{IsTrue, IsUnderWay, Piece}
+use Rattle.chain_model.specs.Stripes.{per_stripe, stamp, stripe_of}
+use Rattle.chain_model.specs.Members.{Member, NoneTwice, layers_of, names_of}
+use Rattle.chain_model.specs.Images.{Placed, members_of}
+use Rattle.chain_model.specs.Moments.{EachOpens, HasWholeImages, IsPhase}
+use Rattle.chain_model.specs.Sessions.{GoesOver, HasGoneOver, IsKept, IsServed, LooseInMerge, ShowsFile}
+use Rattle.chain_model.specs.PhaseLaws.{Survives, loosened}
+use Rattle.chain_model.proofs.Calling.{loosened_is_kept}
+use Rattle.chain_model.proofs.Phasing.{members_append, target_goes_over}
+use Rattle.chain_model.proofs.Serving.{loose_is_dirty, past_goes_on}
+use Rattle.chain_model.proofs.Merging.{kept_by_put, true_pieces}
+use Rattle.layer_session.specs.declared.file.Layer.{Layer}
+use Rattle.layer_session.specs.declared.file.LayerFault.{LayerFault}
+use Rattle.layer_session.specs.declared.file.LayerFault.TheVariants.{Read, Write, FileFull}
+use Rattle.layer_session.specs.declared.file_layer.FileLayer.{FileLayer}
+use Rattle.layer_session.specs.declared.file_layer.FileLayer.TheVariants.{Session}
+use Rattle.layer_session.specs.FileLayers.{HasFile, HaveFiles}
+use Rattle.layer_session.specs.Keeping.{Serves}
+use Rattle.layer_session.proofs.Crashes.{layers_are_kept}
+use Rattle.layer_session.proofs.FileLayers.{file_layers_stand}
+use Rattle.layer_session.proofs.Standing.{layers_stand}
+use Rattle.merge_core.specs.Copied.{marks_of}
+use Rattle.chain_core.specs.declared.layers.Layers.{Layers}
+use Rattle.chain_core.specs.declared.layers.Underway.{Underway}
+use Rattle.chain_core.specs.Answering.{HasEnded, IsRefused}
+use Rattle.chain_core.specs.Merging.{IsCopied, IsTruePiece, PutAnswers, is_in, put_on, with_piece, with_put}
+use Rattle.chain_core.specs.States.{AreHeld, AreWritten, IsCourse, IsServing, IsUnder, LeavesOthers, Merging, Rest, State, dirty_now, disk_now, files_of, merging, others_of, plain, sector_of, seen_in}
+use Rattle.chain_core.proofs.Steps.{all_right, apart, goes_over, names_behind, phase_beside, phase_others, still_once, still_read}
+
+-- ---- one file among others
+
+pub have_parts : (a : List FileLayer) (x : FileLayer) (b : List FileLayer) (trace : Trace) (p : List Placed) (file : Placed) (q : List Placed) → length a ≡ length p → HaveFiles (a ++ x ∷ b) trace (p ++ file ∷ q)
+    → HaveFiles a trace p × (HasFile x trace file × HaveFiles b trace q)
+have_parts [] x b trace [] file q same have = (tt, (have.0, have.1))
+have_parts [] x b trace (r ∷ p) file q same have = absurd (omega arith)
+have_parts (l ∷ a) x b trace [] file q same have = absurd (omega arith)
+have_parts (l ∷ a) x b trace (r ∷ p) file q same have =
+    let rest = have_parts a x b trace p file q (omega arith) have.1 in
+    ((have.0, rest.0), rest.1)
+
+pub have_all : (a : List FileLayer) (x : FileLayer) (b : List FileLayer) (trace : Trace) (p : List Placed) (file : Placed) (q : List Placed) → HaveFiles a trace p → HasFile x trace file → HaveFiles b trace q
+    → HaveFiles (a ++ x ∷ b) trace (p ++ file ∷ q)
+have_all [] x b trace [] file q first own rest = (own, rest)
+have_all [] x b trace (r ∷ p) file q first own rest = absurd first
+have_all (l ∷ a) x b trace [] file q first own rest = absurd first
+have_all (l ∷ a) x b trace (r ∷ p) file q first own rest = (first.0, have_all a x b trace p file q first.1 own rest)
+
+-- the numbers of the files round one are others than its own
+pub apart_around : (trace : Trace) (p : List Placed) (file : Placed) (q : List Placed) → AllByRecursion (IsKept trace) (p ++ file ∷ q) → NoneTwice (names_of (members_of (p ++ file ∷ q)))
+    → AllByRecursion (λ f. f.number ≢ file.number) p × AllByRecursion (λ f. f.number ≢ file.number) q
+apart_around trace [] file q kept once = (tt, apart trace file q kept.0 kept.1 once.0)
+apart_around trace (r ∷ p) file q kept once =
+    let far = apart trace r (p ++ file ∷ q) kept.0 kept.1 once.0 in
+    let rest = apart_around trace p file q kept.1 once.1 in
+    (((λ same. all_there p file q far (sym same)), rest.0), rest.1)
+  where
+    all_there : (p : List Placed) (file : Placed) (q : List Placed) → AllByRecursion (λ f. f.number ≢ r.number) (p ++ file ∷ q) → file.number ≢ r.number
+    all_there [] file q all = all.0
+    all_there (x ∷ p) file q all = all_there p file q all.1
+
+pub all_split : (P : Placed → Type 0) (p : List Placed) (file new : Placed) (q : List Placed) → (P file → P new) → AllByRecursion P (p ++ file ∷ q) → AllByRecursion P (p ++ new ∷ q)
+all_split P [] file new q h all = (h all.0, all.1)
+all_split P (r ∷ p) file new q h all = (all.0, all_split P p file new q h all.1)
+
+there_first : (o x y : Option (List ℕ)) → (is_some x ≡ true → is_some y ≡ true) → is_some (option_or o x) ≡ true → is_some (option_or o y) ≡ true
+there_first (Some k) x y more there = refl
+there_first None x y more there = more there
+
+-- what is seen through layers is there still, where one of them owns more
+pub there_through : (a : List SectorLayer) (x y : SectorLayer) (b : List SectorLayer) (s : ℕ) → (is_some (x s) ≡ true → is_some (y s) ≡ true) → is_some (through (a ++ x ∷ b) s) ≡ true → is_some (through (a ++ y ∷ b) s) ≡ true
+there_through [] x y b s more there = by_first (x s) (y s) more there
+  where
+    by_first : (o n : Option (List ℕ)) → (is_some o ≡ true → is_some n ≡ true) → is_some (option_or o (through b s)) ≡ true → is_some (option_or n (through b s)) ≡ true
+    by_first o (Some k) more there = refl
+    by_first None None more there = there
+    by_first (Some k) None more there = absurd (let never : false ≡ true = more refl in cc)
+there_through (l ∷ a) x y b s more there = there_first (l s) (through (a ++ x ∷ b) s) (through (a ++ y ∷ b) s) (there_through a x y b s more) there
+
+-- ---- the target
+
+-- the target's layer before and after, the other layers staying
+pub record TargetStep (old new : Layers) (u : Underway) (a : List FileLayer) (l next : Layer) (b : List FileLayer) : Type 0 where
+  pub leaf : Layer
+  pub geometry : new.geometry ≡ old.geometry
+  pub leaf_was : old.leaf ≡ Some leaf
+  pub leaf_now : new.leaf ≡ Some leaf
+  pub merge : old.merge ≡ Some u
+  pub place : length a ≡ u.source + 1
+  pub was : old.below.items ≡ a ++ Session l ∷ b
+  pub now : new.below.items ≡ a ++ Session next ∷ b
+
+-- what its layer does with a piece
+pub record IsPut (piece : Piece) (target : Placed) (next : Layer) (trace now : Trace) : Type 0 where
+  pub moments : IsPhase target.number (ShowsFile (loosened (either target.is_loose (is_in piece)) target)) trace now
+  pub holds : Serves next now (with_piece piece target)
+
+pub record IsKeptAs (target : Placed) (next : Layer) (trace now : Trace) : Type 0 where
+  pub moments : IsPhase target.number (ShowsFile target) trace now
+  pub holds : Serves next now target
+
+pub record HasFailedPut (piece : Piece) (target : Placed) (trace now : Trace) : Type 0 where
+  pub moments : IsPhase target.number (ShowsFile (loosened (either target.is_loose (is_in piece)) target)) trace now
+
+abbrev pub AnswersPut : Piece → Placed → Layer → Trace → Trace → Result (Unit {0}) LayerFault → Type 0
+AnswersPut piece target next trace now (Ok done) = IsPut piece target next trace now
+AnswersPut piece target next trace now (Err (Read fault)) = IsKeptAs target next trace now
+AnswersPut piece target next trace now (Err (FileFull n)) = IsKeptAs target next trace now
+AnswersPut piece target next trace now (Err (Write fault)) = HasFailedPut piece target trace now
+
+-- ---- a chain in which a merge is under way
+
+module _ (v : State) (top : Placed) (above : List Placed) (source target : Placed) (below : List Placed) (m : Merging) where
+  -- the state
+  abbrev here : State
+  here = record v { top = top; rest = merging above source target below m }
+
+  -- the files before the target, and all of them with another target
+  abbrev front : List Placed
+  front = above ++ source ∷ []
+
+  abbrev files_with : Placed → List Placed
+  files_with t = top ∷ above ++ (source ∷ t ∷ below)
+
+  pub parted : (t : Placed) → front ++ t ∷ below ≡ above ++ (source ∷ t ∷ below)
+  parted t = append_assoc above (source ∷ []) (t ∷ below)
+
+  -- those below the leaf and the others' numbers
+  module _ (layers : Layers) (leaf : Layer) (trace : Trace) (serving : IsServing layers here trace) (is : layers.leaf ≡ Some leaf) where
+    abbrev kept : AllByRecursion (IsKept trace) (files_with target)
+    kept = all_right (IsKept trace) v.retired (files_with target) serving.served.kept
+
+    abbrev once_all : NoneTwice (names_of (members_of (files_with target)))
+    once_all = names_behind v.retired (files_with target) serving.served.linked.once
+
+    pub round : AllByRecursion (λ f. f.number ≢ target.number) (top ∷ front) × AllByRecursion (λ f. f.number ≢ target.number) below
+    round =
+        apart_around trace (top ∷ front) target below (subst (λ (c : List Placed). AllByRecursion (IsKept trace) (top ∷ c)) (sym (parted target)) kept)
+        (subst (λ (c : List Placed). NoneTwice (names_of (members_of (top ∷ c)))) (sym (parted target)) once_all)
+
+    pub held : Serves leaf trace top × HaveFiles layers.below.items trace (front ++ target ∷ below)
+    held =
+        let h : Serves leaf trace top × HaveFiles layers.below.items trace (above ++ (source ∷ target ∷ below)) =
+        subst (λ o. AreHeld o layers.below.items trace top (above ++ (source ∷ target ∷ below))) is serving.held in
+        (h.0, subst (λ (c : List Placed). HaveFiles layers.below.items trace c) (sym (parted target)) h.1)
+
+    -- the target's file goes over to another state, under another layer
+    module _ (a : List FileLayer) (l : Layer) (b : List FileLayer) (was : layers.below.items ≡ a ++ Session l ∷ b) (place : length a ≡ length above + 1) where
+      abbrev lined : HaveFiles a trace front × (Serves l trace target × HaveFiles b trace below)
+      lined =
+          let same : length a ≡ length front = place ∙ sym (length-append above (source ∷ [])) in
+          have_parts a (Session l) b trace front target below same (subst (λ (c : List FileLayer). HaveFiles c trace (front ++ target ∷ below)) was held.1)
+
+      pub serves_target : Serves l trace target
+      serves_target = lined.1.0
+
+      -- the others stand while it does
+      pub held_on : (new : Layers) (next : Layer) (other : Placed) (P : List ℕ → Type 0) (now : Trace) → IsPhase target.number P trace now → new.leaf ≡ Some leaf → new.below.items ≡ a ++ Session next ∷ b → Serves next now other
+          → AreHeld new.leaf new.below.items now top (above ++ (source ∷ other ∷ below))
+      held_on new next other P now phase leaf_now items serves =
+          let first : HaveFiles a now front = still_read target.number P trace now phase a front round.0.1 lined.0 in
+          let rest : HaveFiles b now below = still_read target.number P trace now phase b below round.1 lined.1.1 in
+          let all : HaveFiles (a ++ Session next ∷ b) now (front ++ other ∷ below) = have_all a (Session next) b now front other below first serves rest in
+          let here_all : HaveFiles new.below.items now (above ++ (source ∷ other ∷ below)) =
+          subst (λ (c : List FileLayer). HaveFiles c now (above ++ (source ∷ other ∷ below))) (sym items) (subst (λ (c : List Placed). HaveFiles (a ++ Session next ∷ b) now c) (parted other) all) in
+          let top_stands : Serves leaf now top = layers_stand.beside leaf trace now top held.0 (phase_beside target.number P trace now phase top.number round.0.0) in
+          subst (λ o. AreHeld o new.below.items now top (above ++ (source ∷ other ∷ below))) (sym leaf_now) (top_stands, here_all)
