@@ -33,7 +33,7 @@ use Rattle.layer_session.proofs.Standing.{layers_stand}
 use Rattle.merge_core.specs.Copied.{marks_of}
 use Rattle.chain_core.specs.declared.layers.Layers.{Layers}
 use Rattle.chain_core.specs.declared.layers.Underway.{Underway}
-use Rattle.chain_core.specs.Answering.{HasEnded, IsRefused}
+use Rattle.chain_core.specs.Answering.{EachOpensNow, HasEnded, IsRefused}
 use Rattle.chain_core.specs.Merging.{IsCopied, IsTruePiece, PutAnswers, is_in, put_on, with_piece, with_put}
 use Rattle.chain_core.specs.States.{AreHeld, AreWritten, IsCourse, IsServing, IsUnder, LeavesOthers, Merging, Rest, State, dirty_now, disk_now, files_of, merging, others_of, plain, sector_of, seen_in}
 use Rattle.chain_core.proofs.Steps.{all_right, apart, goes_over, names_behind, phase_beside, phase_others, still_once, still_read}
@@ -118,6 +118,9 @@ AnswersPut piece target next trace now (Err (Read fault)) = IsKeptAs target next
 AnswersPut piece target next trace now (Err (FileFull n)) = IsKeptAs target next trace now
 AnswersPut piece target next trace now (Err (Write fault)) = HasFailedPut piece target trace now
 
+layers_append : (p q : List Placed) → layers_of (members_of (p ++ q)) ≡ layers_of (members_of p) ++ layers_of (members_of q)
+layers_append p q = ap layers_of (members_append p q) ∙ map-append (λ (x : Member). x.layer) (members_of p) (members_of q)
+
 -- ---- a chain in which a merge is under way
 
 module _ (v : State) (top : Placed) (above : List Placed) (source target : Placed) (below : List Placed) (m : Merging) where
@@ -175,3 +178,38 @@ module _ (v : State) (top : Placed) (above : List Placed) (source target : Place
           subst (λ (c : List FileLayer). HaveFiles c now (above ++ (source ∷ other ∷ below))) (sym items) (subst (λ (c : List Placed). HaveFiles (a ++ Session next ∷ b) now c) (parted other) all) in
           let top_stands : Serves leaf now top = layers_stand.beside leaf trace now top held.0 (phase_beside target.number P trace now phase top.number round.0.0) in
           subst (λ o. AreHeld o new.below.items now top (above ++ (source ∷ other ∷ below))) (sym leaf_now) (top_stands, here_all)
+
+      -- what a phase of the target leaves of the session, once it shows the other state
+      pub serving_on : (new : Layers) (u : Underway) (next : Layer) (other : Placed) (marks : ℕ → Bool) (P : List ℕ → Type 0) (now : Trace) → IsPhase target.number P trace now → new.geometry ≡ layers.geometry → new.leaf ≡ Some leaf → new.merge ≡ Some u
+          → new.below.items ≡ a ++ Session next ∷ b → Serves next now other → other.number ≡ target.number → v.writes target.number ≡ true
+          → ((s : ℕ) → is_some (target.member.layer s) ≡ true → is_some (other.member.layer s) ≡ true)
+          → IsServed (sector_of here) v.opening v.history v.leaf v.retired (files_with other) now
+          → LooseInMerge (dirty_now here) (top ∷ above) source other below
+          → IsUnder (sector_of here) v.writes u above source other (record m { marks = marks })
+          → AreWritten v.writes new.below.items
+          → EachOpensNow here trace now
+          → IsServing new (record v { top = top; rest = merging above source other below (record m { marks = marks }) }) now
+      serving_on new u next other marks P now phase geometry leaf_now merge items serves number written more served loose under all_written moments = record {
+        once = still_once target.number P trace now phase serving.once;
+        geometry = geometry ∙ serving.geometry;
+        served = served;
+        loose = loose;
+        course = subst (λ o. IsCourse (sector_of here) v.writes o (merging above source other below (record m { marks = marks }))) (sym merge) under;
+        held = held_on new next other P now phase leaf_now items serves;
+        whole = λ s inside. there_on s (serving.whole s inside);
+        synced = subst (AllByRecursion (λ f. is_synced (file_of v.began f.number) ≡ true)) (ap (λ (c : List Placed). top ∷ c) (parted other))
+            (all_split (λ f. is_synced (file_of v.began f.number) ≡ true) (top ∷ front) target other below (λ h. ap (λ (n : ℕ). is_synced (file_of v.began n)) number ∙ h)
+            (subst (AllByRecursion (λ f. is_synced (file_of v.began f.number) ≡ true)) (ap (λ (c : List Placed). top ∷ c) (sym (parted target))) serving.synced));
+        written = subst (λ o. IfSome o (λ leaf. (v.writes top.number ≡ true) × AreWritten v.writes new.below.items)) (sym leaf_now)
+            ((subst (λ o. IfSome o (λ leaf. (v.writes top.number ≡ true) × AreWritten v.writes layers.below.items)) is serving.written).0, all_written);
+        still = λ n none. phase_others target.number P trace now phase n (λ same. let never : true ≡ false = sym written ∙ ap v.writes (sym same) ∙ none in cc) ∙ serving.still n none;
+        past = past_goes_on.quiet (sector_of here) v.opening v.history (λ s. false) v.leaf v.began trace now serving.past moments;
+      }
+        where
+          there_on : (s : ℕ) → is_some (seen_in (files_with target) s) ≡ true → is_some (seen_in (files_with other) s) ≡ true
+          there_on s there =
+              subst (λ (c : List Placed). is_some (seen_in (top ∷ c) s) ≡ true) (parted other)
+              (subst (λ (c : List SectorLayer). is_some (through c s) ≡ true) (sym (layers_append (top ∷ front) (other ∷ below)))
+              (there_through (layers_of (members_of (top ∷ front))) target.member.layer other.member.layer (layers_of (members_of below)) s (more s)
+              (subst (λ (c : List SectorLayer). is_some (through c s) ≡ true) (layers_append (top ∷ front) (target ∷ below))
+              (subst (λ (c : List Placed). is_some (seen_in (top ∷ c) s) ≡ true) (sym (parted target)) there))))
