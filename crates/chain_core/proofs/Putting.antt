@@ -1,17 +1,18 @@
 -- A piece is put into the target of a merge.
-use Rattle.std.proofs.Common.{◌≡◌, ◌≢◌, ◌<◌, ◌+◌, ℕ, suc, Bool, true, false, List, [], ◌∷◌, ◌++◌, length, map, refl, sym, ap, subst, ◌∙◌, arith, is_some}
+use Rattle.std.proofs.Common.{◌⊎◌, inl, inr, ◌==◌, ◌||◌, ◌≡◌, ◌≢◌, ◌<◌, ◌+◌, ℕ, suc, Bool, true, false, List, [], ◌∷◌, ◌++◌, length, map, refl, sym, ap, subst, ◌∙◌, arith, is_some}
 use Rattle.std.specs.Prelude.{Option, Some, None, IfSome, Result, Ok, Err}
 use Rattle.std.specs.List.{AllByRecursion}
 use Rattle.std.specs.Option.{option_or}
 use Rattle.std.proofs.lemmas.Bool.{or_parts, or_from}
+use Rattle.std.proofs.lemmas.Bool.{cases_eq}
 use Rattle.std.proofs.lemmas.List.{append_assoc, length-append, map-append}
 use Rattle.store_model.specs.File.{is_synced}
 use Rattle.store_model.specs.Trace.{Trace, file_of}
 use Rattle.guest_model.specs.History.{either, replay}
 use Rattle.chain_model.specs.Layers.{Layer as SectorLayer, over, through}
-use Rattle.chain_model.specs.Merges.{IsTrue, IsUnderWay, Piece}
+use Rattle.chain_model.specs.Merges.{IsTrue, IsUnderWay, Piece, with_mark}
 use Rattle.chain_model.specs.Stripes.{per_stripe, stamp, stripe_of}
-use Rattle.chain_model.specs.Members.{Member, NoneTwice, layers_of, names_of}
+use Rattle.chain_model.specs.Members.{IsChainOf, Member, NoneTwice, disk_of, layers_of, names_of}
 use Rattle.chain_model.specs.Images.{Placed, members_of}
 use Rattle.chain_model.specs.Moments.{EachOpens, HasWholeImages, IsPhase}
 use Rattle.chain_model.specs.Sessions.{GoesOver, HasGoneOver, IsKept, IsServed, LooseInMerge, ShowsFile}
@@ -20,6 +21,7 @@ use Rattle.chain_model.proofs.Calling.{loosened_is_kept}
 use Rattle.chain_model.proofs.Phasing.{members_append, target_goes_over}
 use Rattle.chain_model.proofs.Serving.{loose_is_dirty, past_goes_on}
 use Rattle.chain_model.proofs.Merging.{kept_by_put, true_pieces}
+use Rattle.chain_model.proofs.Stamping.{stamps_by_call}
 use Rattle.layer_session.specs.declared.file.Layer.{Layer}
 use Rattle.layer_session.specs.declared.file.LayerFault.{LayerFault}
 use Rattle.layer_session.specs.declared.file.LayerFault.TheVariants.{Read, Write, FileFull}
@@ -213,3 +215,102 @@ module _ (v : State) (top : Placed) (above : List Placed) (source target : Place
               (there_through (layers_of (members_of (top ∷ front))) target.member.layer other.member.layer (layers_of (members_of below)) s (more s)
               (subst (λ (c : List SectorLayer). is_some (through c s) ≡ true) (layers_append (top ∷ front) (target ∷ below))
               (subst (λ (c : List Placed). is_some (seen_in (top ∷ c) s) ≡ true) (sym (parted target)) there))))
+
+      -- ---- a put
+
+      module _ (new : Layers) (u u' : Underway) (next : Layer) (piece : Piece) (now : Trace) (geometry : new.geometry ≡ layers.geometry) (leaf_now : new.leaf ≡ Some leaf) (merge : layers.merge ≡ Some u) (items : new.below.items ≡ a ++ Session next ∷ b)
+          (stripes : 0 < per_stripe (sector_of here)) (true_piece : IsTrue (sector_of here) m.first [] piece) (stamp_is : piece.stamp ≡ 0) (all_written : AreWritten v.writes new.below.items) where
+        abbrev z : ℕ
+        z = sector_of here
+
+        abbrev wide : Placed
+        wide = loosened (either target.is_loose (is_in piece)) target
+
+        abbrev after : Placed
+        after = with_piece piece target
+
+        under_old : IsUnder z v.writes u above source target m
+        under_old = subst (λ o. IsCourse z v.writes o (merging above source target below m)) merge serving.course
+
+        -- what the source doesn't own isn't in the piece
+        none_there : (s : ℕ) → source.member.layer s ≡ None → piece.sectors s ≡ None
+        none_there s none = by_stripe (cases_eq (stripe_of z s) piece.stripe)
+          where
+            by_stripe : (stripe_of z s ≡ piece.stripe) ⊎ (stripe_of z s ≢ piece.stripe) → piece.sectors s ≡ None
+            by_stripe (inr out) = true_piece.within s out
+            by_stripe (inl same) = true_pieces.current z m.first [] piece s stripes true_piece (stamp_is ∙ sym (stamps_by_call.none z piece.stripe)) same ∙ sym (under_old.under_way.source_is s) ∙ none
+
+        loose_before : LooseInMerge (dirty_now here) (top ∷ above) source wide below
+        loose_before = record { others = serving.loose.others; owned = λ s none. or_from (target.is_loose s) (is_in piece s) (serving.loose.owned s none) (ap is_some (none_there s none)) }
+
+        loose_after : LooseInMerge (dirty_now here) (top ∷ above) source after below
+        loose_after = record { others = serving.loose.others; owned = loose_before.owned }
+
+        served_wide : IsServed z v.opening v.history v.leaf v.retired (files_with wide) trace
+        served_wide =
+            let same : members_of (files_with wide) ≡ members_of (files_with target) = ap (λ (c : List Placed). members_of (top ∷ c)) (sym (parted wide)) ∙ members_append (top ∷ front) (wide ∷ below) ∙ sym (members_append (top ∷ front) (target ∷ below))
+                ∙ ap (λ (c : List Placed). members_of (top ∷ c)) (parted target) in
+            record {
+              linked = subst (λ c. IsChainOf v.leaf (members_of v.retired) c) (sym same) serving.served.linked;
+              kept = kept_wide v.retired serving.served.kept;
+              disk = ap disk_of same ∙ serving.served.disk;
+            }
+          where
+            kept_in : AllByRecursion (IsKept trace) (files_with target) → AllByRecursion (IsKept trace) (files_with wide)
+            kept_in all =
+                subst (λ (c : List Placed). AllByRecursion (IsKept trace) (top ∷ c)) (parted wide)
+                (all_split (IsKept trace) (top ∷ front) target wide below (loosened_is_kept wide.is_loose target trace (λ s out. (or_parts (target.is_loose s) (is_in piece s) out).0))
+                (subst (λ (c : List Placed). AllByRecursion (IsKept trace) (top ∷ c)) (sym (parted target)) all))
+            kept_wide : (r : List Placed) → AllByRecursion (IsKept trace) (r ++ files_with target) → AllByRecursion (IsKept trace) (r ++ files_with wide)
+            kept_wide [] all = kept_in all
+            kept_wide (p ∷ r) all = (all.0, kept_wide r all.1)
+
+        survives : IsPhase target.number (ShowsFile wide) trace now → Survives z v.opening v.history v.leaf (dirty_now here) after v.retired (files_with after) trace now
+        survives phase =
+            target_goes_over z v.opening v.history v.leaf (dirty_now here) v.retired (top ∷ above) source wide after below trace now serving.once served_wide (goes_over wide after trace now refl refl phase)
+            (λ s none. over_none (piece.sectors s) (target.member.layer s) (none_there s none)) refl loose_before loose_after
+          where
+            over_none : (o t : Option (List ℕ)) → o ≡ None → option_or o t ≡ t
+            over_none None t h = refl
+            over_none (Some k) t h = absurd (let never : Some k ≡ None = h in cc)
+
+        pub copied : IsPut piece target next trace now → new.merge ≡ Some u' → u'.source ≡ u.source → ((t : ℕ) → marks_of u'.marks t ≡ with_mark piece.stripe (marks_of u.marks) t)
+            → IsCopied piece here new trace now
+        copied put merge_now place_now marks_now =
+            let over = survives put.moments in
+            record {
+              moments = over.moments;
+              serving = serving_on new u' next after (with_mark piece.stripe m.marks) (ShowsFile wide) now put.moments geometry leaf_now merge_now items put.holds refl under_old.written
+                  (λ s there. more (piece.sectors s) (target.member.layer s) there) (over.served (layers_are_kept next now after put.holds).shows) loose_after
+                  (record {
+                    place = place_now ∙ under_old.place;
+                    written = under_old.written;
+                    marks = λ t. marks_now t ∙ ap (λ b. (t == piece.stripe) || b) (under_old.marks t);
+                    under_way = kept_by_put z m.first m.before [] piece m.marks source.member.layer target.member.layer after.member.layer stripes true_piece (stamp_is ∙ sym (stamps_by_call.none z piece.stripe)) (λ s. refl) under_old.under_way;
+                  })
+                  all_written over.moments;
+            }
+          where
+            more : (o t : Option (List ℕ)) → is_some t ≡ true → is_some (option_or o t) ≡ true
+            more (Some k) t h = refl
+            more None t h = h
+
+        pub put_failed : HasFailedPut piece target trace now → HasEnded here trace now
+        put_failed failed =
+            let over = survives failed.moments in
+            record {
+              moments = over.moments;
+              still = λ n none. phase_others target.number (ShowsFile wide) trace now failed.moments n (λ same. let never : true ≡ false = sym under_old.written ∙ ap v.writes (sym same) ∙ none in cc) ∙ serving.still n none;
+              past = past_goes_on.quiet z v.opening v.history (λ s. false) v.leaf v.began trace now serving.past over.moments;
+            }
+
+        pub put_refused : IsKeptAs target next trace now → new.merge ≡ Some u → IsRefused here new trace now
+        put_refused kept_as merge_now =
+            let over =
+                target_goes_over z v.opening v.history v.leaf (dirty_now here) v.retired (top ∷ above) source target target below trace now serving.once serving.served (goes_over target target trace now refl refl kept_as.moments)
+                (λ s none. refl) refl serving.loose serving.loose in
+            record {
+              moments = over.moments;
+              serving = serving_on new u next target m.marks (ShowsFile target) now kept_as.moments geometry leaf_now merge_now items kept_as.holds refl under_old.written (λ s there. there)
+                  (over.served (layers_are_kept next now target kept_as.holds).shows) serving.loose under_old all_written over.moments;
+            }
