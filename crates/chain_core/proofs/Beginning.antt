@@ -1,8 +1,8 @@
 -- Where a session begins.
 use Rattle.std.proofs.lemmas.List.{length-take, take_more}
 use Rattle.std.proofs.lemmas.Grind.{common_steps}
-use Rattle.std.proofs.Common.{drop, take, ◌-◌, ◌≡◌, ◌≢◌, ℕ, zero, suc, ◌+◌, ◌<◌, ◌≤◌, ◌^◌, Bool, true, false, List, [], ◌∷◌, ◌++◌, length, map, get_or, All, refl, sym, ap, subst, ◌∙◌, arith, is_some, inl, inr}
-use Rattle.std.specs.Prelude.{Option, Some, None, ◌⊎◌, IfSome, Result, Ok, Err, IfOk, OnOk}
+use Rattle.std.proofs.Common.{drop, take, ◌-◌, ◌≡◌, ◌≢◌, ℕ, zero, suc, ◌+◌, ◌<◌, ◌≤◌, ◌^◌, Bool, true, false, List, [], ◌∷◌, ◌++◌, length, map, get_or, All, refl, sym, ap, subst, ◌∙◌, arith, is_some, inl, inr, ne_eqb, ◌==◌}
+use Rattle.std.specs.Prelude.{Option, Some, None, option_map, ◌⊎◌, IfSome, Result, Ok, Err, IfOk, OnOk}
 use Rattle.std.specs.List.{AllByRecursion}
 use Rattle.std.specs.Option.{option_or}
 use Rattle.vx_base.specs.declared.parts.Geometry.{Geometry}
@@ -35,15 +35,19 @@ use Rattle.layer_session.specs.declared.file.Layer.{Layer}
 use Rattle.layer_session.specs.declared.read_layer.ReadLayer.{ReadLayer}
 use Rattle.layer_session.specs.Begins.{BeginsOver, HasBegun, IsOf, as_found, in_session}
 use Rattle.layer_session.specs.Keeping.{IsReady, Serves}
-use Rattle.layer_session.specs.ReadOnly.{AreRead, AreReadable, IsRead, IsReadOf}
+use Rattle.layer_session.specs.ReadOnly.{IsRead}
+use Rattle.layer_session.specs.FileLayers.{AreOthers, AreReadyFiles, HaveFiles, file_numbers, log_number}
+use Rattle.layer_session.specs.ReadOnly.{IsReadOf}
+use Rattle.layer_session.specs.declared.file_layer.FileLayer.{FileLayer}
+use Rattle.layer_session.specs.declared.file_layer.FileLayer.TheVariants.{Read, Session}
 use Rattle.layer_session.proofs.Crashes.{layers_are_kept}
 use Rattle.chain_core.specs.declared.layers.Layers.{Layers}
 use Rattle.chain_core.specs.Starting.{AreAsOpened, AreAttached, AreReadOf, CanStart, EachOpensAlike, IsAsOpened, IsOfDisk, JudgesIds, LeavesOthersFrom, StartsWith, under, opening_disk, placed_from, started}
 use Rattle.chain_core.specs.Starting.{HasBegun as HasBegunSession, IsRead as IsReadOnly}
 use Rattle.chain_core.specs.declared.starting.NewIds.{NewIds}
 use Rattle.chain_core.specs.declared.starting.StartRefusal.{StartRefusal}
-use Rattle.chain_core.specs.Sessions.{AreReady, IsReadyLeaf}
-use Rattle.chain_core.specs.States.{AreHeld, IsServing, State, seen_in}
+use Rattle.chain_core.specs.Sessions.{AreApart, AreReady, IsLow, IsMergeOf, IsReadyLeaf}
+use Rattle.chain_core.specs.States.{AreHeld, AreWritten, IsCourse, IsServing, State, plain, seen_in}
 use Rattle.chain_core.proofs.Steps.{phase_others, still_once, still_read}
 
 -- ---- lists
@@ -127,38 +131,76 @@ all_synced t n (f ∷ files) o = (o.0.synced, all_synced t (n + 1) files o.1)
 
 -- ---- layers that are only read
 
-pub all_read : (t : Trace) (n : ℕ) (files : List LinkedFile) (layers : List ReadLayer) → AreReadOf n files layers → AreAsOpened t n files → AreRead layers t (placed_from t n files)
+pub all_read : (t : Trace) (n : ℕ) (files : List LinkedFile) (layers : List FileLayer) → AreReadOf n files layers → AreAsOpened t n files → HaveFiles layers t (placed_from t n files)
 all_read t n [] [] of o = tt
 all_read t n [] (l ∷ layers) of o = absurd of
 all_read t n (f ∷ files) [] of o = absurd of
-all_read t n (f ∷ files) (l ∷ layers) of o = (of.0.reads t o.0.within o.0.most o.0.reads, all_read t (n + 1) files layers of.1 o.1)
+all_read t n (f ∷ files) (Session l ∷ layers) of o = absurd of.0
+all_read t n (f ∷ files) (Read l ∷ layers) of o = (of.0.reads t o.0.within o.0.most o.0.reads, all_read t (n + 1) files layers of.1 o.1)
 
 placed_apart : (t : Trace) (n : ℕ) (files : List LinkedFile) → 0 < n → AllByRecursion (λ f. f.number ≢ 0) (placed_from t n files)
 placed_apart t n [] some = tt
 placed_apart t n (f ∷ files) some = ((λ e. let never : n ≡ 0 = e in absurd (omega arith)), placed_apart t (n + 1) files (omega arith))
 
-pub layers_apart : (n : ℕ) (files : List LinkedFile) (layers : List ReadLayer) → 0 < n → AreReadOf n files layers → AllByRecursion (λ (l : ReadLayer). l.tables.parts.file ≢ 0) layers
+pub layers_apart : (n : ℕ) (files : List LinkedFile) (layers : List FileLayer) → 0 < n → AreReadOf n files layers → AreOthers 0 layers
 layers_apart n [] [] some of = tt
 layers_apart n [] (l ∷ layers) some of = absurd of
 layers_apart n (f ∷ files) [] some of = absurd of
-layers_apart n (f ∷ files) (l ∷ layers) some of = ((λ e. let same : l.tables.parts.file ≡ n = of.0.number in let never : l.tables.parts.file ≡ 0 = e in absurd (omega arith)), layers_apart (n + 1) files layers (omega arith) of.1)
+layers_apart n (f ∷ files) (Session l ∷ layers) some of = absurd of.0
+layers_apart n (f ∷ files) (Read l ∷ layers) some of =
+    ((λ e. let same : l.tables.parts.file ≡ n = of.0.number in let never : l.tables.parts.file ≡ 0 = e in absurd (omega arith)), layers_apart (n + 1) files layers (omega arith) of.1)
 
-read_first : (l : ReadLayer) (layers : List ReadLayer) (t : Trace) (files : List Placed) → AreRead (l ∷ layers) t files → (file : Placed) × IsRead l t file
+none_written : (n : ℕ) (files : List LinkedFile) (layers : List FileLayer) → 0 < n → AreReadOf n files layers → AreWritten (λ k. k == 0) layers
+none_written n [] [] some of = tt
+none_written n [] (l ∷ layers) some of = absurd of
+none_written n (f ∷ files) [] some of = absurd of
+none_written n (f ∷ files) (Session l ∷ layers) some of = absurd of.0
+none_written n (f ∷ files) (Read l ∷ layers) some of =
+    (ne_eqb l.tables.parts.file 0 (λ e. let same : l.tables.parts.file ≡ n = of.0.number in let never : l.tables.parts.file ≡ 0 = e in absurd (omega arith)), none_written (n + 1) files layers (omega arith) of.1)
+
+-- no two of them are one file
+far_apart : (m n : ℕ) (files : List LinkedFile) (layers : List FileLayer) → m < n → AreReadOf n files layers → AllByRecursion (λ other. other ≢ m) (file_numbers layers)
+far_apart m n [] [] less of = tt
+far_apart m n [] (l ∷ layers) less of = absurd of
+far_apart m n (f ∷ files) [] less of = absurd of
+far_apart m n (f ∷ files) (Session l ∷ layers) less of = absurd of.0
+far_apart m n (f ∷ files) (Read l ∷ layers) less of =
+    ((λ e. let same : l.tables.parts.file ≡ n = of.0.number in let never : l.tables.parts.file ≡ m = e in absurd (omega arith)), far_apart m (n + 1) files layers (omega arith) of.1)
+
+all_apart : (n : ℕ) (files : List LinkedFile) (layers : List FileLayer) → AreReadOf n files layers → AreApart (file_numbers layers)
+all_apart n [] [] of = tt
+all_apart n [] (l ∷ layers) of = absurd of
+all_apart n (f ∷ files) [] of = absurd of
+all_apart n (f ∷ files) (Session l ∷ layers) of = absurd of.0
+all_apart n (f ∷ files) (Read l ∷ layers) of =
+    let same : n ≡ l.tables.parts.file = sym of.0.number in
+    (subst (λ m. AllByRecursion (λ other. other ≢ m) (file_numbers layers)) same (far_apart n (n + 1) files layers (omega arith) of.1), all_apart (n + 1) files layers of.1)
+
+-- none of them has a log
+pub none_logged : (n most : ℕ) (files : List LinkedFile) (layers : List FileLayer) → AreReadOf n files layers → AllByRecursion (λ number. IfSome number (λ n. n ≤ most)) (map log_number layers)
+none_logged n most [] [] of = tt
+none_logged n most [] (l ∷ layers) of = absurd of
+none_logged n most (f ∷ files) [] of = absurd of
+none_logged n most (f ∷ files) (Session l ∷ layers) of = absurd of.0
+none_logged n most (f ∷ files) (Read l ∷ layers) of = (tt, none_logged (n + 1) most files layers of.1)
+
+read_first : (l : ReadLayer) (layers : List FileLayer) (t : Trace) (files : List Placed) → HaveFiles (Read l ∷ layers) t files → (file : Placed) × IsRead l t file
 read_first l layers t [] r = absurd r
 read_first l layers t (p ∷ files) r = (p, r.0)
 
-read_others : (l : ReadLayer) (layers : List ReadLayer) (t : Trace) (files : List Placed) → AreRead (l ∷ layers) t files → (rest : List Placed) × AreRead layers t rest
+read_others : (l : ReadLayer) (layers : List FileLayer) (t : Trace) (files : List Placed) → HaveFiles (Read l ∷ layers) t files → (rest : List Placed) × HaveFiles layers t rest
 read_others l layers t [] r = absurd r
 read_others l layers t (p ∷ files) r = (files, r.1)
 
-pub all_readable : (g : Geometry) (disk : Disk) (n : ℕ) (files : List LinkedFile) (layers : List ReadLayer) → AreReadOf n files layers → n + length files ≤ disk.files → AllByRecursion (λ (f : LinkedFile). f.parts.geometry ≡ g) files
-    → ((t : Trace) → disk.told ≡ Some t → (placed : List Placed) × AreRead layers t placed) → AreReadable g disk layers
+pub all_readable : (g : Geometry) (disk : Disk) (n : ℕ) (files : List LinkedFile) (layers : List FileLayer) → AreReadOf n files layers → n + length files ≤ disk.files → AllByRecursion (λ (f : LinkedFile). f.parts.geometry ≡ g) files
+    → ((t : Trace) → disk.told ≡ Some t → (placed : List Placed) × HaveFiles layers t placed) → AreReadyFiles g disk layers
 all_readable g disk n [] [] of there same read = tt
 all_readable g disk n [] (l ∷ layers) of there same read = absurd of
 all_readable g disk n (f ∷ files) [] of there same read = absurd of
-all_readable g disk n (f ∷ files) (l ∷ layers) of there same read = (
+all_readable g disk n (f ∷ files) (Session l ∷ layers) of there same read = absurd of.0
+all_readable g disk n (f ∷ files) (Read l ∷ layers) of there same read = (
   record {
-    can = record {
+    ready = record {
       there = let is : l.tables.parts.file ≡ n = of.0.number in omega arith;
       sizes = of.0.sizes;
       told = λ t e. read_first l layers t (read t e).0 (read t e).1;
@@ -219,16 +261,18 @@ module _ (trace : Trace) (leaf : LinkedFile) (others : List LinkedFile) (attache
   opens_at_rest = EachMoment-now (EachOpens leaf.name (λ s. false) opening) trace rests
 
   -- a chain that is only read
-  pub reads_from : (layers : Layers) → layers.geometry ≡ leaf.parts.geometry → layers.leaf ≡ None → AreRead layers.below.items trace chain → IsServing layers (started trace leaf others leaf.parts) trace
-  reads_from layers geometry none read = record {
+  pub reads_from : (layers : Layers) → layers.geometry ≡ leaf.parts.geometry → layers.leaf ≡ None → layers.merge ≡ None → HaveFiles layers.below.items trace chain → IsServing layers (started trace leaf others leaf.parts) trace
+  reads_from layers geometry none no_merge read = record {
     once = attached.once;
     geometry = geometry;
     served = served;
     loose = tight (is_dirty z []);
+    course = subst (λ o. IsCourse z (λ n. n == 0) o (plain rest)) (sym no_merge) tt;
     held = subst (λ o. AreHeld o layers.below.items trace top rest) (sym none) ((λ s. refl), read);
     whole = whole;
     synced = all_synced trace 0 (leaf ∷ others) attached.each;
-    still = λ other ne. refl;
+    written = subst (λ o. IfSome o (λ l. ((0 == 0) ≡ true) × AreWritten (λ n. n == 0) layers.below.items)) (sym none) tt;
+    still = λ other none. refl;
     past = EachMoment-now (OpensToPrefix z opening [] (λ s. false) leaf.name) trace (prefixes_stay.broken z opening [] (λ s. false) leaf.name trace rests);
   }
 
@@ -249,20 +293,22 @@ module _ (trace : Trace) (leaf : LinkedFile) (others : List LinkedFile) (attache
     abbrev Goes : List ℕ → Type 0
     Goes bytes = ShowsFile top bytes ⊎ ShowsFile next bytes
 
-    pub rest_read : (below : List ReadLayer) → AreReadOf 1 others below → AreRead below now rest
+    pub rest_read : (below : List FileLayer) → AreReadOf 1 others below → HaveFiles below now rest
     rest_read below of = still_read 0 Goes trace now over.phase below rest (placed_apart trace 1 others (omega arith)) (all_read trace 1 others below of attached.each.1)
 
-    pub serves_from : (layers : Layers) (l : Layer) → layers.geometry ≡ leaf.parts.geometry → layers.leaf ≡ Some l → AreRead layers.below.items now rest → Serves l now next
+    pub serves_from : (layers : Layers) (l : Layer) → layers.geometry ≡ leaf.parts.geometry → layers.leaf ≡ Some l → layers.merge ≡ None → AreReadOf 1 others layers.below.items → HaveFiles layers.below.items now rest → Serves l now next
         → IsServing layers (started trace leaf others (in_session leaf.parts ids)) now
-    serves_from layers l geometry is read serves = record {
+    serves_from layers l geometry is no_merge of read serves = record {
       once = still_once 0 Goes trace now over.phase attached.once;
       geometry = geometry;
       served = goes.served (layers_are_kept l now next serves).shows;
       loose = ((λ s out. refl), none_loose_in trace 1 others);
+      course = subst (λ o. IsCourse z (λ n. n == 0) o (plain rest)) (sym no_merge) tt;
       held = subst (λ o. AreHeld o layers.below.items now next rest) (sym is) (serves, read);
       whole = whole;
       synced = all_synced trace 0 (leaf ∷ others) attached.each;
-      still = λ other ne. phase_others 0 Goes trace now over.phase other ne;
+      written = subst (λ o. IfSome o (λ l. ((0 == 0) ≡ true) × AreWritten (λ n. n == 0) layers.below.items)) (sym is) (refl, none_written 1 others layers.below.items (omega arith) of);
+      still = λ other none. phase_others 0 Goes trace now over.phase other (λ same. let never : true ≡ false = ap (λ n. n == 0) (sym same) ∙ none in cc);
       past = EachMoment-weaken (EachOpens leaf.name clean opening) (OpensToPrefix z opening [] (λ s. false) leaf.name) trace now (λ t opens. prefixes_stay.broken z opening [] (λ s. false) leaf.name t opens) goes.moments;
     }
 
@@ -300,10 +346,10 @@ begun_moments leaf others ids before after can over = by_told before.told after.
     by_told (Some x) None attached over = over
     by_told (Some x) (Some y) attached over = opens_on x leaf others (attached x refl) can.line can.once can.few (by_recursion IsServed (leaf ∷ others) can.served) ids y over
 
-pub begun_serving : (leaf : LinkedFile) (others : List LinkedFile) (ids : SessionIds) (layers : Layers) (l : Layer) (before after : Disk) → CanStart (leaf ∷ others) before → layers.geometry ≡ leaf.parts.geometry → layers.leaf ≡ Some l
+pub begun_serving : (leaf : LinkedFile) (others : List LinkedFile) (ids : SessionIds) (layers : Layers) (l : Layer) (before after : Disk) → CanStart (leaf ∷ others) before → layers.geometry ≡ leaf.parts.geometry → layers.leaf ≡ Some l → layers.merge ≡ None
     → AreReadOf 1 others layers.below.items → WhereBothTold (BeginsOver leaf.parts ids 0) before.told after.told → WhereBothTold (HasBegun leaf.parts ids 0 l) before.told after.told
     → StartsWith (λ parts. in_session parts ids) (leaf ∷ others) layers before.told after.told
-begun_serving leaf others ids layers l before after can geometry is of over begun = by_told before.told after.told can.told over begun
+begun_serving leaf others ids layers l before after can geometry is no_merge of over begun = by_told before.told after.told can.told over begun
   where
     by_told : (a b : Option Trace) → ((t : Trace) → a ≡ Some t → AreAttached (leaf ∷ others) t) → WhereBothTold (BeginsOver leaf.parts ids 0) a b → WhereBothTold (HasBegun leaf.parts ids 0 l) a b
         → StartsWith (λ parts. in_session parts ids) (leaf ∷ others) layers a b
@@ -312,12 +358,12 @@ begun_serving leaf others ids layers l before after can geometry is of over begu
     by_told (Some x) None attached over begun = over
     by_told (Some x) (Some y) attached over begun =
         let numbered = by_recursion IsServed (leaf ∷ others) can.served in
-        serves_from x leaf others (attached x refl) can.line can.once can.few numbered ids y over layers l geometry is
+        serves_from x leaf others (attached x refl) can.line can.once can.few numbered ids y over layers l geometry is no_merge of
         (rest_read x leaf others (attached x refl) can.line can.once can.few numbered ids y over layers.below.items of) begun
 
-pub begun_ready : (leaf : LinkedFile) (others : List LinkedFile) (ids : SessionIds) (layers : Layers) (l : Layer) (before after : Disk) → CanStart (leaf ∷ others) before → layers.geometry ≡ leaf.parts.geometry → layers.leaf ≡ Some l
+pub begun_ready : (leaf : LinkedFile) (others : List LinkedFile) (ids : SessionIds) (layers : Layers) (l : Layer) (before after : Disk) → CanStart (leaf ∷ others) before → layers.geometry ≡ leaf.parts.geometry → layers.leaf ≡ Some l → layers.merge ≡ None
     → AreReadOf 1 others layers.below.items → WhereBothTold (BeginsOver leaf.parts ids 0) before.told after.told → IsReady l after → IsOf leaf.parts 0 l → after ≡ record before { told = after.told } → AreReady layers after
-begun_ready leaf others ids layers l before after can geometry is of over ready parts counts =
+begun_ready leaf others ids layers l before after can geometry is no_merge of over ready parts counts =
     let numbered = by_recursion IsServed (leaf ∷ others) can.served in
     let files : after.files ≡ before.files = ap (λ (d : Disk). d.files) counts in
     let there : 1 + length others ≤ after.files = let t : length (leaf ∷ others) ≤ before.files = can.there in omega arith in
@@ -326,41 +372,43 @@ begun_ready leaf others ids layers l before after can geometry is of over ready 
       number = parts.number;
       sector = parts.sector ∙ ap (λ (g : Geometry). g.sector) (sym geometry);
       sectors = parts.sectors ∙ ap (λ (g : Geometry). g.sectors) (sym geometry);
-      apart = λ t e. layers_apart 1 others layers.below.items (omega arith) of;
+      apart = layers_apart 1 others layers.below.items (omega arith) of;
     } in
     record {
       sector = ap (λ (g : Geometry). g.sector) geometry ∙ numbered.0.sector;
       leaf = subst (λ o. IfSome o (IsReadyLeaf layers.geometry layers.below.items after)) (sym is) made;
       below = all_readable layers.geometry after 1 others layers.below.items of there (one_geometry leaf others layers.geometry (sym geometry) can.line).1 (readers before.told after.told can.told over);
+      apart = all_apart 1 others layers.below.items of;
+      merge = subst (λ o. IfSome o (IsMergeOf layers.geometry layers.leaf layers.below.items)) (sym no_merge) tt;
     }
   where
     readers : (a b : Option Trace) → ((t : Trace) → a ≡ Some t → AreAttached (leaf ∷ others) t) → WhereBothTold (BeginsOver leaf.parts ids 0) a b
-        → (t : Trace) → b ≡ Some t → (placed : List Placed) × AreRead layers.below.items t placed
+        → (t : Trace) → b ≡ Some t → (placed : List Placed) × HaveFiles layers.below.items t placed
     readers None None attached over t e = let never : ◌≡◌ {A = Option Trace} None (Some t) = e in cc
     readers None (Some y) attached over t e = absurd over
     readers (Some x) None attached over t e = absurd over
     readers (Some x) (Some y) attached over t e =
         let same : y ≡ t = cc in (
           placed_from x 1 others,
-          subst (λ (n : Trace). AreRead layers.below.items n (placed_from x 1 others)) same
+          subst (λ (n : Trace). HaveFiles layers.below.items n (placed_from x 1 others)) same
               (rest_read x leaf others (attached x refl) can.line can.once can.few (by_recursion IsServed (leaf ∷ others) can.served) ids y over layers.below.items of),
         )
 
 -- ---- a chain that is only read
 
-pub read_serving : (leaf : LinkedFile) (others : List LinkedFile) (layers : Layers) (disk : Disk) → CanStart (leaf ∷ others) disk → layers.geometry ≡ leaf.parts.geometry → layers.leaf ≡ None
+pub read_serving : (leaf : LinkedFile) (others : List LinkedFile) (layers : Layers) (disk : Disk) → CanStart (leaf ∷ others) disk → layers.geometry ≡ leaf.parts.geometry → layers.leaf ≡ None → layers.merge ≡ None
     → AreReadOf 0 (leaf ∷ others) layers.below.items → StartsWith (λ parts. parts) (leaf ∷ others) layers disk.told disk.told
-read_serving leaf others layers disk can geometry none of = by_told disk.told can.told
+read_serving leaf others layers disk can geometry none no_merge of = by_told disk.told can.told
   where
     by_told : (a : Option Trace) → ((t : Trace) → a ≡ Some t → AreAttached (leaf ∷ others) t) → StartsWith (λ parts. parts) (leaf ∷ others) layers a a
     by_told None attached = tt
     by_told (Some t) attached =
         let o = attached t refl in
-        reads_from t leaf others o can.line can.once can.few (by_recursion IsServed (leaf ∷ others) can.served) layers geometry none (all_read t 0 (leaf ∷ others) layers.below.items of o.each)
+        reads_from t leaf others o can.line can.once can.few (by_recursion IsServed (leaf ∷ others) can.served) layers geometry none no_merge (all_read t 0 (leaf ∷ others) layers.below.items of o.each)
 
-pub read_ready : (leaf : LinkedFile) (others : List LinkedFile) (layers : Layers) (disk : Disk) → CanStart (leaf ∷ others) disk → layers.geometry ≡ leaf.parts.geometry → layers.leaf ≡ None
+pub read_ready : (leaf : LinkedFile) (others : List LinkedFile) (layers : Layers) (disk : Disk) → CanStart (leaf ∷ others) disk → layers.geometry ≡ leaf.parts.geometry → layers.leaf ≡ None → layers.merge ≡ None
     → AreReadOf 0 (leaf ∷ others) layers.below.items → AreReady layers disk
-read_ready leaf others layers disk can geometry none of =
+read_ready leaf others layers disk can geometry none no_merge of =
     let numbered = by_recursion IsServed (leaf ∷ others) can.served in
     let there : 0 + length (leaf ∷ others) ≤ disk.files = let t : length (leaf ∷ others) ≤ disk.files = can.there in omega arith in
     record {
@@ -368,24 +416,26 @@ read_ready leaf others layers disk can geometry none of =
       leaf = subst (λ o. IfSome o (IsReadyLeaf layers.geometry layers.below.items disk)) (sym none) tt;
       below = all_readable layers.geometry disk 0 (leaf ∷ others) layers.below.items of there (one_geometry leaf others layers.geometry (sym geometry) can.line)
           (λ t e. (placed_from t 0 (leaf ∷ others), all_read t 0 (leaf ∷ others) layers.below.items of (can.told t e).each));
+      apart = all_apart 0 (leaf ∷ others) layers.below.items of;
+      merge = subst (λ o. IfSome o (IsMergeOf layers.geometry layers.leaf layers.below.items)) (sym no_merge) tt;
     }
 
 -- ---- layers, one after the other
 
-of_behind : (n : ℕ) (a b : List LinkedFile) (x y : List ReadLayer) → AreReadOf n a x → AreReadOf (n + length a) b y → AreReadOf n (a ++ b) (x ++ y)
+of_behind : (n : ℕ) (a b : List LinkedFile) (x y : List FileLayer) → AreReadOf n a x → AreReadOf (n + length a) b y → AreReadOf n (a ++ b) (x ++ y)
 of_behind n [] b [] y first second = let same : n + 0 ≡ n = omega arith in subst (λ (m : ℕ). AreReadOf m b y) same second
 of_behind n [] b (l ∷ x) y first second = absurd first
 of_behind n (f ∷ a) b [] y first second = absurd first
 of_behind n (f ∷ a) b (l ∷ x) y first second = let same : n + suc (length a) ≡ n + 1 + length a = omega arith in (first.0, of_behind (n + 1) a b x y first.1 (subst (λ (m : ℕ). AreReadOf m b y) same second))
 
 -- one more
-pub one_more : (n k : ℕ) (files : List LinkedFile) (f : LinkedFile) (layers : List ReadLayer) (l : ReadLayer) → k < length files → f ≡ get_or files k f → AreReadOf n (take k files) layers → IsReadOf f.parts (n + k) l
-    → AreReadOf n (take (k + 1) files) (layers ++ l ∷ [])
+pub one_more : (n k : ℕ) (files : List LinkedFile) (f : LinkedFile) (layers : List FileLayer) (l : ReadLayer) → k < length files → f ≡ get_or files k f → AreReadOf n (take k files) layers → IsReadOf f.parts (n + k) l
+    → AreReadOf n (take (k + 1) files) (layers ++ Read l ∷ [])
 one_more n k files f layers l below is of made =
     let next : take (k + 1) files ≡ take k files ++ f ∷ [] = take_more files k f below ∙ ap (λ (g : LinkedFile). take k files ++ g ∷ []) (sym is) in
     let count : length (take k files) ≡ k = omega (arith, length-take k files) in
-    subst (λ (fs : List LinkedFile). AreReadOf n fs (layers ++ l ∷ [])) (sym next)
-    (of_behind n (take k files) (f ∷ []) layers (l ∷ []) of (subst (λ (m : ℕ). IsReadOf f.parts (n + m) l) (sym count) made, tt))
+    subst (λ (fs : List LinkedFile). AreReadOf n fs (layers ++ Read l ∷ [])) (sym next)
+    (of_behind n (take k files) (f ∷ []) layers (Read l ∷ []) of (subst (λ (m : ℕ). IsReadOf f.parts (n + m) l) (sym count) made, tt))
 
 -- ---- the files of a slice
 
@@ -395,19 +445,19 @@ parted (f ∷ files) d some =
     let whole : take (length (f ∷ files) - 1) (drop 1 (f ∷ files)) ≡ files = grind (arith, common_steps) in ap (λ (rest : List LinkedFile). f ∷ rest) (sym whole)
 
 -- a chain that is only read has started
-pub reading_started : (files : List LinkedFile) (layers : Layers) (disk : Disk) (drawn : Option (List (List ℕ))) → CanStart files disk → IsOfDisk files layers.geometry → layers.leaf ≡ None → AreReadOf 0 files layers.below.items
+pub reading_started : (files : List LinkedFile) (layers : Layers) (disk : Disk) (drawn : Option (List (List ℕ))) → CanStart files disk → IsOfDisk files layers.geometry → layers.leaf ≡ None → layers.merge ≡ None → AreReadOf 0 files layers.below.items
     → IsReadOnly files layers disk disk drawn drawn
-reading_started [] layers disk drawn can geometry none of = absurd can.line
-reading_started (leaf ∷ others) layers disk drawn can geometry none of = record {
+reading_started [] layers disk drawn can geometry none no_merge of = absurd can.line
+reading_started (leaf ∷ others) layers disk drawn can geometry none no_merge of = record {
   undrawn = refl;
   session = ap is_some none;
-  serving = read_serving leaf others layers disk can geometry none of;
+  serving = read_serving leaf others layers disk can geometry none no_merge of;
   same = refl;
 }
 
-pub reading_ready : (files : List LinkedFile) (layers : Layers) (disk : Disk) → CanStart files disk → IsOfDisk files layers.geometry → layers.leaf ≡ None → AreReadOf 0 files layers.below.items → AreReady layers disk
-reading_ready [] layers disk can geometry none of = absurd can.line
-reading_ready (leaf ∷ others) layers disk can geometry none of = read_ready leaf others layers disk can geometry none of
+pub reading_ready : (files : List LinkedFile) (layers : Layers) (disk : Disk) → CanStart files disk → IsOfDisk files layers.geometry → layers.leaf ≡ None → layers.merge ≡ None → AreReadOf 0 files layers.below.items → AreReady layers disk
+reading_ready [] layers disk can geometry none no_merge of = absurd can.line
+reading_ready (leaf ∷ others) layers disk can geometry none no_merge of = read_ready leaf others layers disk can geometry none no_merge of
 
 pub files_rest : (files : List LinkedFile) (disk : Disk) → CanStart files disk → EachOpensAlike files disk.told disk.told
 files_rest [] disk can = tt
@@ -444,3 +494,9 @@ of_disk files leaf others (Err e) is geometry = tt
 pub first_of_disk : (files : List LinkedFile) (f : LinkedFile) (g : Geometry) → f ≡ get_or files 0 f → g ≡ f.parts.geometry → IsOfDisk files g
 first_of_disk [] f g is same = tt
 first_of_disk (leaf ∷ others) f g is same = same ∙ ap (λ (x : LinkedFile). x.parts.geometry) is
+
+-- with no session there is no log
+pub low_read : (files : List LinkedFile) (layers : Layers) → layers.leaf ≡ None → AreReadOf 0 files layers.below.items → IsLow 1 layers
+low_read files layers none of =
+    subst (λ (o : Option Layer). AllByRecursion (λ number. IfSome number (λ n. n ≤ 1)) (option_map (λ (leaf : Layer). leaf.log.number) o ∷ map log_number layers.below.items)) (sym none)
+    (tt, none_logged 0 1 files layers.below.items of)

@@ -78,7 +78,7 @@ leaf_at_rest e v trace kept =
 -- it answers as at rest, whatever the refusal
 refused_so : (e : Entry) (v : State) (layers : Layers) (trace : Trace) (x : ChainRefusal) → IsServing layers v trace → Answers e v layers trace trace (Err x)
 refused_so e v layers trace (Broken file count) serving =
-    failed e v layers trace trace serving (record { moments = leaf_at_rest e v trace (all_right (IsKept trace) v.retired (files_of v) serving.served.kept).0 })
+    failed e v layers trace trace serving serving.still (record { moments = leaf_at_rest e v trace (all_right (IsKept trace) v.retired (files_of v) serving.served.kept).0 })
 refused_so e v layers trace EmptyRange serving = at_rest v layers trace serving
 refused_so e v layers trace (OutOfRange a b c) serving = at_rest v layers trace serving
 refused_so e v layers trace (TooLong a b) serving = at_rest v layers trace serving

@@ -4,7 +4,7 @@ use Rattle.std.specs.Prelude.{Option, Some, None, unwrap_or, option_map, Result,
 use Rattle.std.specs.List.{AllByRecursion}
 use Rattle.std.specs.Option.{option_or}
 use Rattle.std.specs.Int.{bit_at}
-use Rattle.std.proofs.lemmas.List.{nil_from_length, take-append-drop, drop-drop, drop_more, length-drop, get_or-replicate}
+use Rattle.std.proofs.lemmas.List.{nil_from_length, take-append-drop, drop-drop, drop_more, length-drop, get_or-replicate, length-map}
 use Rattle.std.proofs.lemmas.Nat.Bits.{bit_at-zero}
 use Rattle.vx_base.specs.declared.parts.Geometry.{Geometry}
 use Rattle.vx_base.specs.declared.parts.Parts.{Parts}
@@ -24,18 +24,20 @@ use Rattle.chain_model.specs.Members.{disk_of, layers_of}
 use Rattle.chain_model.specs.Images.{Placed, members_of}
 use Rattle.chain_model.proofs.Layering.{length-flat, sector_at-flat}
 use Rattle.layer_session.specs.declared.file.Layer.{Layer}
-use Rattle.layer_session.specs.declared.read_layer.ReadLayer.{ReadLayer}
+use Rattle.layer_session.specs.declared.file_layer.FileLayer.{FileLayer}
 use Rattle.layer_session.specs.Calls.{AddsOwned, IsBeside, IsSame, own_bytes, own_file}
 use Rattle.layer_session.specs.Keeping.{IsHeld, IsReady, Serves}
-use Rattle.layer_session.specs.ReadOnly.{AreRead, AreReadable, AreSameRead, SomeReadFailed}
+use Rattle.layer_session.specs.ReadOnly.{SomeReadFailed}
+use Rattle.layer_session.specs.FileLayers.{AreOthers, AreReadyFiles, AreSameFiles, HaveFiles, HaveSameNumbers, file_numbers, log_number, number_of, table_parts}
 use Rattle.layer_session.proofs.Standing.{layers_stand}
 use Rattle.chain_core.specs.declared.layers.Layers.{Layers}
-use Rattle.chain_core.specs.Reading.{AddsPart, HasOnlyRead, log_number, of_read, of_session}
-use Rattle.chain_core.specs.Sessions.{AreReady, IsReadyLeaf}
-use Rattle.chain_core.specs.States.{AreHeld, State, IsServing, disk_now, files_of, sector_of, seen_in}
-use Rattle.layer_session.proofs.ReadOnly.{read_layers_stand}
-use Rattle.chain_core.proofs.Steps.{LeafStep}
-use Rattle.chain_core.proofs.Standing.{leaf_of, still_readable}
+use Rattle.chain_core.specs.Reading.{AddsPart, HasOnlyRead, of_read, of_session}
+use Rattle.chain_core.specs.declared.layers.Underway.{Underway}
+use Rattle.chain_core.specs.Sessions.{AreApart, AreReady, IsMergeOf, IsReadyLeaf, log_numbers}
+use Rattle.chain_core.specs.States.{AreHeld, State, IsServing, disk_now, files_of, sector_of, seen_in, others_of, AreWritten, IsCourse}
+use Rattle.layer_session.proofs.FileLayers.{file_layers_stand}
+use Rattle.chain_core.proofs.Steps.{LeafStep, written_on}
+use Rattle.chain_core.proofs.Standing.{leaf_of, merge_on}
 
 -- ---- the store stays but for its counts of failed reads
 
@@ -64,26 +66,38 @@ same_beside other a b e = subst (λ o. WhereBothTold (IsBeside other) a o) (sym 
     itself None = tt
     itself (Some t) = record { same = refl; names = refl }
 
-all_beside : (below : List ReadLayer) (before after : Disk) → Stays before after → AllByRecursion (λ (r : ReadLayer). WhereBothTold (IsBeside r.tables.parts.file) before.told after.told) below
-all_beside [] before after s = tt
-all_beside (l ∷ below) before after s = (same_beside l.tables.parts.file before.told after.told s.told, all_beside below before after s)
+ready_moved : (g : Geometry) (below : List FileLayer) (before after : Disk) → Stays before after → AreReadyFiles g before below → AreReadyFiles g after below
+ready_moved g [] before after s all = tt
+ready_moved g (l ∷ below) before after s all = (
+  record { ready = file_layers_stand.ready l before after all.0.ready s.files (same_beside (number_of l) before.told after.told s.told); sector = all.0.sector; sectors = all.0.sectors },
+  ready_moved g below before after s all.1,
+)
 
-readable_moved : (g : Geometry) (below : List ReadLayer) (before after : Disk) → Stays before after → AreReadable g before below → AreReadable g after below
-readable_moved g below before after s all = still_readable g before after below (all_beside below before after s) all s.files
-
-leaf_moved : (g : Geometry) (below : List ReadLayer) (leaf : Layer) (before after : Disk) → Stays before after → IsReadyLeaf g below before leaf → IsReadyLeaf g below after leaf
+leaf_moved : (g : Geometry) (below : List FileLayer) (leaf : Layer) (before after : Disk) → Stays before after → IsReadyLeaf g below before leaf → IsReadyLeaf g below after leaf
 leaf_moved g below leaf before after s l = record {
   ready = layers_stand.ready leaf before after l.ready s.files (same_beside (own_file leaf) before.told after.told s.told);
   number = l.number;
   sector = l.sector;
   sectors = l.sectors;
-  apart = λ trace is. l.apart trace (sym s.told ∙ is);
+  apart = l.apart;
 }
 
 -- ---- the layers serve what they served
 
-swapped : (old new : Layers) (v : State) (trace : Trace) → new.geometry ≡ old.geometry → AreHeld new.leaf new.below.items trace v.top v.others → IsServing old v trace → IsServing new v trace
-swapped old new v trace g held s = record { once = s.once; geometry = g ∙ s.geometry; served = s.served; loose = s.loose; held = held; whole = s.whole; synced = s.synced; still = s.still; past = s.past }
+swapped : (old new : Layers) (v : State) (trace : Trace) → new.geometry ≡ old.geometry → new.merge ≡ old.merge → IfSome new.leaf (λ leaf. (v.writes v.top.number ≡ true) × AreWritten v.writes new.below.items) → AreHeld new.leaf new.below.items trace v.top (others_of v.rest) → IsServing old v trace → IsServing new v trace
+swapped old new v trace g m written held s = record {
+  once = s.once;
+  geometry = g ∙ s.geometry;
+  served = s.served;
+  loose = s.loose;
+  course = subst (λ o. IsCourse (sector_of v) v.writes o v.rest) (sym m) s.course;
+  held = held;
+  whole = s.whole;
+  synced = s.synced;
+  written = written;
+  still = s.still;
+  past = s.past;
+}
 
 -- the leaf was read
 pub leaf_reads : (old new : Layers) (leaf next : Layer) (file : ℕ) (before after : Disk) (answer : Result (Unit {0}) StoreFault) → LeafStep old new leaf next → IsSame leaf next before
@@ -100,78 +114,111 @@ leaf_reads old new leaf next file before after answer step same done failed read
     } in
     let moved = leaf_moved old.geometry old.below.items next before after s made in
     let there : IsReadyLeaf new.geometry new.below.items after next = subst (λ b. IsReadyLeaf new.geometry b.items after next) (sym step.below) (subst (λ (g : Geometry). IsReadyLeaf g old.below.items after next) (sym step.geometry) moved) in
-    let below = readable_moved old.geometry old.below.items before after s ready.below in
+    let below = ready_moved old.geometry old.below.items before after s ready.below in
     record {
       geometry = step.geometry;
-      numbers = ap (option_map (λ (l : Layer). l.log.number)) step.now ∙ ap Some same.number ∙ sym (ap (option_map (λ (l : Layer). l.log.number)) step.was);
+      numbers = ap (λ (o : Option Layer). option_map (λ (l : Layer). l.log.number) o ∷ map log_number new.below.items) step.now ∙ ap (λ (n : ℕ). Some n ∷ map log_number new.below.items) same.number
+          ∙ sym (ap (λ (o : Option Layer). option_map (λ (l : Layer). l.log.number) o ∷ map log_number new.below.items) step.was)
+          ∙ ap (λ b. option_map (λ (l : Layer). l.log.number) old.leaf ∷ map log_number b.items) step.below;
+      merge = step.merge;
       ready = record {
         sector = ap (λ (g : Geometry). g.sector) step.geometry ∙ ready.sector;
         leaf = subst (λ o. IfSome o (IsReadyLeaf new.geometry new.below.items after)) (sym step.now) there;
-        below = subst (λ b. AreReadable new.geometry after b.items) (sym step.below) (subst (λ (g : Geometry). AreReadable g after old.below.items) (sym step.geometry) below);
+        below = subst (λ b. AreReadyFiles new.geometry after b.items) (sym step.below) (subst (λ (g : Geometry). AreReadyFiles g after old.below.items) (sym step.geometry) below);
+        apart = subst (λ b. AreApart (file_numbers b.items)) (sym step.below) ready.apart;
+        merge = merge_on old new leaf next step ready.merge;
       };
       serves = λ trace is v serving.
-          let held : Serves leaf trace v.top × AreRead old.below.items trace v.others = subst (λ o. AreHeld o old.below.items trace v.top v.others) step.was serving.held in
-          let rest : AreRead new.below.items trace v.others = subst (λ b. AreRead b.items trace v.others) (sym step.below) held.1 in
-          swapped old new v trace step.geometry (subst (λ o. AreHeld o new.below.items trace v.top v.others) (sym step.now) (same.serves trace v.top is held.0, rest)) serving;
+          let held : Serves leaf trace v.top × HaveFiles old.below.items trace (others_of v.rest) = subst (λ o. AreHeld o old.below.items trace v.top (others_of v.rest)) step.was serving.held in
+          let rest : HaveFiles new.below.items trace (others_of v.rest) = subst (λ b. HaveFiles b.items trace (others_of v.rest)) (sym step.below) held.1 in
+          swapped old new v trace step.geometry step.merge (written_on old new leaf next v step serving) (subst (λ o. AreHeld o new.below.items trace v.top (others_of v.rest)) (sym step.now) (same.serves trace v.top is held.0, rest)) serving;
       told = s.told;
     }
 
 -- ---- the files below were read
 
--- layers that can be read have some files
-files_read : (g : Geometry) (disk : Disk) (trace : Trace) (below : List ReadLayer) → disk.told ≡ Some trace → AreReadable g disk below → (files : List Placed) × AreRead below trace files
-files_read g disk trace [] is all = ([], tt)
-files_read g disk trace (l ∷ below) is all =
-    let (file, read) = all.0.can.told trace is in
-    let (files, rest) = files_read g disk trace below is all.1 in
-    (file ∷ files, (read, rest))
+-- what holds of their numbers, and of those of their logs' last entries, holds still
+same_numbers : (P : ℕ → Option ℕ → Type 0) (was now : List FileLayer) → map table_parts now ≡ map table_parts was → map log_number now ≡ map log_number was
+    → AllByRecursion (λ l. P (number_of l) (log_number l)) was → AllByRecursion (λ l. P (number_of l) (log_number l)) now
+same_numbers P was [] parts logs all = tt
+same_numbers P [] (l ∷ now) parts logs all = absurd (let never : ◌≡◌ {A = List TableParts} (table_parts l ∷ map table_parts now) [] = parts in cc)
+same_numbers P (w ∷ was) (l ∷ now) parts logs all =
+    let own : table_parts w ≡ table_parts l = cc in
+    let log : log_number w ≡ log_number l = cc in
+    let rest : map table_parts now ≡ map table_parts was = cc in
+    let others : map log_number now ≡ map log_number was = cc in
+    (subst (λ (n : ℕ). P n (log_number l)) (ap (λ (p : TableParts). p.file) own) (subst (λ (k : Option ℕ). P (number_of w) k) log all.0), same_numbers P was now rest others all.1)
 
--- by which their numbers are seen
-same_numbers : (was now : List ReadLayer) (trace : Trace) (files : List Placed) → AreRead was trace files → AreRead now trace files → AllByRecursion (λ (l : ReadLayer). l.tables.parts.file ≢ 0) was
-    → AllByRecursion (λ (l : ReadLayer). l.tables.parts.file ≢ 0) now
-same_numbers was [] trace files a b ne = tt
-same_numbers [] (n ∷ now) trace [] a b ne = absurd b
-same_numbers [] (n ∷ now) trace (p ∷ files) a b ne = absurd a
-same_numbers (w ∷ was) (n ∷ now) trace [] a b ne = absurd b
-same_numbers (w ∷ was) (n ∷ now) trace (p ∷ files) a b ne = ((λ e. ne.0 (sym a.0.number ∙ b.0.number ∙ e)), same_numbers was now trace files a.1 b.1 ne.1)
+numbers_same : (was now : List FileLayer) → map table_parts now ≡ map table_parts was → file_numbers now ≡ file_numbers was
+numbers_same was [] parts = by_was was parts
+  where
+    by_was : (was : List FileLayer) → map table_parts [] ≡ map table_parts was → [] ≡ file_numbers was
+    by_was [] parts = refl
+    by_was (w ∷ was) parts = absurd (let never : ◌≡◌ {A = List TableParts} [] (table_parts w ∷ map table_parts was) = parts in cc)
+numbers_same [] (l ∷ now) parts = absurd (let never : ◌≡◌ {A = List TableParts} (table_parts l ∷ map table_parts now) [] = parts in cc)
+numbers_same (w ∷ was) (l ∷ now) parts =
+    let own : table_parts l ≡ table_parts w = cc in
+    let rest : map table_parts now ≡ map table_parts was = cc in
+    let first : number_of l ≡ number_of w = ap (λ (p : TableParts). p.file) own in
+    let others : file_numbers now ≡ file_numbers was = numbers_same was now rest in
+    cc
 
-leaf_beside : (o : Option Layer) (g : Geometry) (was now : List ReadLayer) (before after : Disk) → Stays before after → AreSameRead g was now before → AreReadable g before was
+-- a merge is one of them still
+merge_same : (g : Geometry) (leaf : Option Layer) (was now : List FileLayer) (merge : Option Underway) → HaveSameNumbers was now → IfSome merge (IsMergeOf g leaf was) → IfSome merge (IsMergeOf g leaf now)
+merge_same g leaf was now None same is = tt
+merge_same g leaf was now (Some u) same is =
+    let long : length now ≡ length was = simp length-map at (ap length same.parts) in
+    record { session = is.session; there = let below : u.source + 1 < length was = is.there in omega arith; target = ap (λ (logs : List (Option ℕ)). is_some (get_or logs (u.source + 1) None)) same.logs ∙ is.target; stripes = is.stripes }
+
+leaf_beside : (o : Option Layer) (g : Geometry) (was now : List FileLayer) (before after : Disk) → Stays before after → HaveSameNumbers was now
     → IfSome o (IsReadyLeaf g was before) → IfSome o (IsReadyLeaf g now after)
-leaf_beside None g was now before after s same readable leaf = tt
-leaf_beside (Some leaf) g was now before after s same readable l =
-    leaf_moved g now leaf before after s (record {
-      ready = l.ready;
-      number = l.number;
-      sector = l.sector;
-      sectors = l.sectors;
-      apart = λ trace is. let (files, read) = files_read g before trace was is readable in same_numbers was now trace files read (same.reads trace files is read) (l.apart trace is);
-    })
+leaf_beside None g was now before after s same leaf = tt
+leaf_beside (Some leaf) g was now before after s same l =
+    leaf_moved g now leaf before after s (record { ready = l.ready; number = l.number; sector = l.sector; sectors = l.sectors; apart = same_numbers (λ n k. n ≢ 0) was now same.parts same.logs l.apart })
 
-held_beside : (o : Option Layer) (was now : List ReadLayer) (trace : Trace) (v : State) → ((files : List Placed) → AreRead was trace files → AreRead now trace files) → AreHeld o was trace v.top v.others → AreHeld o now trace v.top v.others
+held_beside : (o : Option Layer) (was now : List FileLayer) (trace : Trace) (v : State) → ((files : List Placed) → HaveFiles was trace files → HaveFiles now trace files) → AreHeld o was trace v.top (others_of v.rest) → AreHeld o now trace v.top (others_of v.rest)
 held_beside None was now trace v reads held = (held.0, reads (files_of v) held.1)
-held_beside (Some leaf) was now trace v reads held = (held.0, reads v.others held.1)
+held_beside (Some leaf) was now trace v reads held = (held.0, reads (others_of v.rest) held.1)
 
-pub below_reads : (old new : Layers) (was now : List ReadLayer) (before after : Disk) (answer : Result (Unit {0}) StoreFault) → was ≡ old.below.items → new.geometry ≡ old.geometry → new.leaf ≡ old.leaf → new.below.items ≡ now
-    → AreSameRead old.geometry was now before → OnOk answer (after ≡ before) → IfErr answer (SomeReadFailed before after) → AreReady old before → HasOnlyRead old new before after
-below_reads old new was now before after answer w g l n same done failed ready =
+written_beside : (old new : Layers) (now : List FileLayer) (v : State) → HaveSameNumbers old.below.items now → new.leaf ≡ old.leaf → new.below.items ≡ now
+    → IfSome old.leaf (λ leaf. (v.writes v.top.number ≡ true) × AreWritten v.writes old.below.items) → IfSome new.leaf (λ leaf. (v.writes v.top.number ≡ true) × AreWritten v.writes new.below.items)
+written_beside old new now v same l n written =
+    subst (λ o. IfSome o (λ leaf. (v.writes v.top.number ≡ true) × AreWritten v.writes new.below.items)) (sym l)
+    (subst (λ (b : List FileLayer). IfSome old.leaf (λ leaf. (v.writes v.top.number ≡ true) × AreWritten v.writes b)) (sym n) (by_leaf old.leaf written))
+  where
+    by_leaf : (o : Option Layer) → IfSome o (λ leaf. (v.writes v.top.number ≡ true) × AreWritten v.writes old.below.items) → IfSome o (λ leaf. (v.writes v.top.number ≡ true) × AreWritten v.writes now)
+    by_leaf None h = tt
+    by_leaf (Some leaf) h = (h.0, same_numbers (λ n k. v.writes n ≡ is_some k) old.below.items now same.parts same.logs h.1)
+
+pub below_reads : (old new : Layers) (was now : List FileLayer) (before after : Disk) (answer : Result (Unit {0}) StoreFault) → was ≡ old.below.items → new.geometry ≡ old.geometry → new.leaf ≡ old.leaf → new.merge ≡ old.merge → new.below.items ≡ now
+    → AreSameFiles old.geometry was now before → HaveSameNumbers was now → OnOk answer (after ≡ before) → IfErr answer (SomeReadFailed before after) → AreReady old before → HasOnlyRead old new before after
+below_reads old new was now before after answer w g l m n same numbers done failed ready =
     let s = stays_by before after answer done (of_some before after answer failed) in
-    let same' : AreSameRead old.geometry old.below.items now before = subst (λ (b : List ReadLayer). AreSameRead old.geometry b now before) w same in
-    let leaf : IfSome old.leaf (IsReadyLeaf old.geometry now after) = leaf_beside old.leaf old.geometry old.below.items now before after s same' ready.below ready.leaf in
+    let same' : AreSameFiles old.geometry old.below.items now before = subst (λ (b : List FileLayer). AreSameFiles old.geometry b now before) w same in
+    let numbers' : HaveSameNumbers old.below.items now = subst (λ (b : List FileLayer). HaveSameNumbers b now) w numbers in
+    let leaf : IfSome old.leaf (IsReadyLeaf old.geometry now after) = leaf_beside old.leaf old.geometry old.below.items now before after s numbers' ready.leaf in
     let leaf' : IfSome new.leaf (IsReadyLeaf new.geometry new.below.items after) =
     subst (λ o. IfSome o (IsReadyLeaf new.geometry new.below.items after)) (sym l)
-    (subst (λ (b : List ReadLayer). IfSome old.leaf (IsReadyLeaf new.geometry b after)) (sym n) (subst (λ (k : Geometry). IfSome old.leaf (IsReadyLeaf k now after)) (sym g) leaf)) in
-    let below = readable_moved old.geometry now before after s same'.readable in
+    (subst (λ (b : List FileLayer). IfSome old.leaf (IsReadyLeaf new.geometry b after)) (sym n) (subst (λ (k : Geometry). IfSome old.leaf (IsReadyLeaf k now after)) (sym g) leaf)) in
+    let below = ready_moved old.geometry now before after s (same'.ready ready.below) in
     record {
       geometry = g;
-      numbers = ap (option_map (λ (l : Layer). l.log.number)) l;
+      numbers = ap (λ (o : Option Layer). option_map (λ (l : Layer). l.log.number) o ∷ map log_number new.below.items) l
+          ∙ ap (λ (logs : List (Option ℕ)). option_map (λ (l : Layer). l.log.number) old.leaf ∷ logs) (ap (map log_number) n ∙ numbers'.logs);
+      merge = m;
       ready = record {
         sector = ap (λ (k : Geometry). k.sector) g ∙ ready.sector;
         leaf = leaf';
-        below = subst (λ (b : List ReadLayer). AreReadable new.geometry after b) (sym n) (subst (λ (k : Geometry). AreReadable k after now) (sym g) below);
+        below = subst (λ (b : List FileLayer). AreReadyFiles new.geometry after b) (sym n) (subst (λ (k : Geometry). AreReadyFiles k after now) (sym g) below);
+        apart = subst AreApart (sym (ap file_numbers n ∙ numbers_same old.below.items now numbers'.parts)) ready.apart;
+        merge = subst (λ o. IfSome o (IsMergeOf new.geometry new.leaf new.below.items)) (sym m)
+            (subst (λ (k : Geometry). IfSome old.merge (IsMergeOf k new.leaf new.below.items)) (sym g)
+            (subst (λ o. IfSome old.merge (IsMergeOf old.geometry o new.below.items)) (sym l)
+            (subst (λ (b : List FileLayer). IfSome old.merge (IsMergeOf old.geometry old.leaf b)) (sym n) (merge_same old.geometry old.leaf old.below.items now old.merge numbers' ready.merge))));
       };
       serves = λ trace is v serving.
-          let held : AreHeld old.leaf now trace v.top v.others = held_beside old.leaf old.below.items now trace v (λ files. same'.reads trace files is) serving.held in
-          swapped old new v trace g (subst (λ o. AreHeld o new.below.items trace v.top v.others) (sym l) (subst (λ (b : List ReadLayer). AreHeld old.leaf b trace v.top v.others) (sym n) held)) serving;
+          let held : AreHeld old.leaf now trace v.top (others_of v.rest) = held_beside old.leaf old.below.items now trace v (λ files. same'.have trace files is) serving.held in
+          swapped old new v trace g m (written_beside old new now v numbers' l n serving.written) (subst (λ o. AreHeld o new.below.items trace v.top (others_of v.rest)) (sym l) (subst (λ (b : List FileLayer). AreHeld old.leaf b trace v.top (others_of v.rest)) (sym n) held)) serving;
       told = s.told;
     }
 
@@ -183,21 +230,21 @@ pub leaf_adds : (layers : Layers) (leaf : Layer) (disk : Disk) (first count : �
 leaf_adds layers leaf disk first count mask new_mask out new_out (Err fault) is ready owned = tt
 leaf_adds layers leaf disk first count mask new_mask out new_out (Ok t) is ready owned = λ trace told v serving.
     let l = leaf_of layers leaf disk is ready in
-    let serves : Serves leaf trace v.top = (subst (λ o. AreHeld o layers.below.items trace v.top v.others) is serving.held).0 in
+    let serves : Serves leaf trace v.top = (subst (λ o. AreHeld o layers.below.items trace v.top (others_of v.rest)) is serving.held).0 in
     let held : IsHeld leaf serves.parts v.top.member.layer (own_bytes leaf trace) = subst (λ (n : ℕ). IsHeld leaf serves.parts v.top.member.layer (seen (file_of trace n))) serves.number serves.as_held in
     let adds = owned serves.parts v.top.member.layer trace told held in
     let sized = subst (λ (z : ℕ). AddsOwned v.top.member.layer z first count 0 mask new_mask out new_out) l.sector adds in
     subst (λ o. AddsOwned (of_session o v) layers.geometry.sector first count 0 mask new_mask out new_out) (sym is) sized
 
-pub below_adds : (layers : Layers) (was : List ReadLayer) (disk : Disk) (first count : ℕ) (mask new_mask out new_out : List ℕ) (answer : Result (Unit {0}) StoreFault) → was ≡ layers.below.items
-    → OnOk answer ((files : List Placed) → WhereTold disk.told (λ trace. AreRead was trace files → AddsOwned (through (layers_of (members_of files))) layers.geometry.sector first count 0 mask new_mask out new_out))
+pub below_adds : (layers : Layers) (was : List FileLayer) (disk : Disk) (first count : ℕ) (mask new_mask out new_out : List ℕ) (answer : Result (Unit {0}) StoreFault) → was ≡ layers.below.items
+    → OnOk answer ((files : List Placed) → WhereTold disk.told (λ trace. HaveFiles was trace files → AddsOwned (through (layers_of (members_of files))) layers.geometry.sector first count 0 mask new_mask out new_out))
     → OnOk answer (AddsPart of_read first count layers disk mask new_mask out new_out)
 below_adds layers was disk first count mask new_mask out new_out (Err fault) w owned = tt
 below_adds layers was disk first count mask new_mask out new_out (Ok t) w owned = λ trace told v serving. by_leaf layers.leaf trace told v serving.held
   where
-    by_leaf : (o : Option Layer) (trace : Trace) → disk.told ≡ Some trace → (v : State) → AreHeld o layers.below.items trace v.top v.others → AddsOwned (of_read o v) layers.geometry.sector first count 0 mask new_mask out new_out
-    by_leaf None trace told v held = owned (files_of v) trace told (subst (λ (b : List ReadLayer). AreRead b trace (files_of v)) (sym w) held.1)
-    by_leaf (Some leaf) trace told v held = owned v.others trace told (subst (λ (b : List ReadLayer). AreRead b trace v.others) (sym w) held.1)
+    by_leaf : (o : Option Layer) (trace : Trace) → disk.told ≡ Some trace → (v : State) → AreHeld o layers.below.items trace v.top (others_of v.rest) → AddsOwned (of_read o v) layers.geometry.sector first count 0 mask new_mask out new_out
+    by_leaf None trace told v held = owned (files_of v) trace told (subst (λ (b : List FileLayer). HaveFiles b trace (files_of v)) (sym w) held.1)
+    by_leaf (Some leaf) trace told v held = owned (others_of v.rest) trace told (subst (λ (b : List FileLayer). HaveFiles b trace (others_of v.rest)) (sym w) held.1)
 
 -- a mask of zeros has no bit set
 blank : (k : ℕ) → k < 2048 → bit_of (replicate 256 0) (0 + k) ≡ 0
@@ -269,6 +316,9 @@ replied z first count v layers trace out sized serving inside len has =
     sector_at-flat z g.sectors all (first + k) (omega arith)
     ∙ sym (ap (λ (m : ℕ). take z (drop m out)) (mul_comm k z) ∙ has k (unwrap_or (seen_in (files_of v) (first + k)) (zeros z)) below (some_of (seen_in (files_of v) (first + k)) (zeros z) (serving.whole (first + k) (omega arith))))))
 
+first_of : (a b : Option ℕ) (x y : List (Option ℕ)) → a ∷ x ≡ b ∷ y → a ≡ b
+first_of a b x y e = cc
+
 pub finds : (old mid : Layers) (disk mid_disk : Disk) (first count : ℕ) (mask1 mask2 out out1 out2 : List ℕ) (answer : Result (Unit {0}) StoreFault) → count ≤ 2048 → first + count ≤ old.geometry.sectors → length out2 ≡ old.geometry.sector * count
     → HasOnlyRead old mid disk mid_disk → mid_disk ≡ disk → AddsPart of_session first count old disk (replicate 256 0) mask1 out out1 → OnOk answer (AddsPart of_read first count mid mid_disk mask1 mask2 out1 out2)
     → OnOk answer (WhereTold disk.told (λ trace. (v : State) → IsServing old v trace → reply (disk_now v) (calls.Read first count) ≡ replies.Bytes out2))
@@ -278,6 +328,7 @@ finds old mid disk mid_disk first count mask1 mask2 out out1 out2 (Ok t) few ins
     let a = one trace told v serving in
     let b' = two trace (ap (λ (d : Disk). d.told) same ∙ told) v (reads.serves trace told v serving) in
     let b = subst (λ (n : ℕ). AddsOwned (of_read mid.leaf v) n first count 0 mask1 mask2 out1 out2) (ap (λ (g : Geometry). g.sector) reads.geometry) b' in
+    let heads : option_map (λ (l : Layer). l.log.number) mid.leaf ≡ option_map (λ (l : Layer). l.log.number) old.leaf = first_of _ _ _ _ reads.numbers in
     replied z first count v old trace out2 (ap (λ (g : Geometry). g.sector) serving.geometry) serving (subst (λ (g : Geometry). first + count ≤ g.sectors) serving.geometry inside) len
     (λ k bytes below is. found (of_session old.leaf v) (of_read mid.leaf v) z first count k bytes (replicate 256 0) mask1 mask2 out out1 out2 a b below (blank k (omega arith))
-    (all_parts old.leaf mid.leaf v (first + k) reads.numbers ∙ is))
+    (all_parts old.leaf mid.leaf v (first + k) heads ∙ is))

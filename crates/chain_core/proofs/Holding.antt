@@ -14,22 +14,22 @@ use Rattle.chain_model.specs.Images.{Placed}
 use Rattle.chain_model.specs.Moments.{EachOpens}
 use Rattle.chain_model.specs.Sessions.{IsKept, ShowsFile}
 use Rattle.chain_model.specs.PhaseLaws.{IsNamedOnce, loosened}
-use Rattle.chain_model.proofs.Serving.{past_goes_on, served_chains_open}
-use Rattle.chain_model.proofs.Phasing.{file_goes_over}
+use Rattle.chain_model.proofs.Serving.{past_goes_on}
 use Rattle.layer_session.specs.declared.file.Layer.{Layer}
 use Rattle.layer_session.specs.Calls.{HasEnded as HasEndedLeaf, KeepsOver, settled}
 use Rattle.layer_session.specs.Keeping.{Serves}
 use Rattle.chain_core.specs.declared.layers.Layers.{Layers}
-use Rattle.chain_core.specs.States.{State, IsServing, AreHeld, dirty_now, disk_now, entry, files_of, sector_of, with_entry}
+use Rattle.chain_core.specs.States.{State, IsServing, AreHeld, dirty_now, disk_now, entry, files_of, sector_of, with_entry, others_of}
 use Rattle.chain_core.specs.Answering.{Answers, HasClosed, HasEnded, HasEndedWhole}
 use Rattle.chain_core.proofs.Steps.{at_rest, goes_over, still_once, still_others}
 use Rattle.chain_core.proofs.Concluding.{SessionTold, both_told, same_told}
+use Rattle.chain_core.proofs.Rests.{leaf_survives, new_top, opens_now}
 
 -- ---- once nothing is loose
 
 all_durable : (v : State) (layers : Layers) (trace : Trace) → IsServing layers v trace → ((s : ℕ) → v.top.is_loose s ≡ false) → EachOpens v.leaf (λ s. false) (disk_now v) trace
 all_durable v layers trace serving tight =
-    served_chains_open.settled (sector_of v) v.opening v.history v.leaf (λ s. false) v.retired (files_of v) trace serving.once serving.served ((λ s clean. tight s), serving.loose.1)
+    opens_now (sector_of v) v.opening v.history v.leaf (λ s. false) v.retired v.top v.rest trace serving.once serving.served (new_top (dirty_now v) (λ s. false) v.top v.top v.rest serving.loose (λ s clean. tight s))
 
 -- a flush that was done makes all durable
 pub flush_durable : (who : Caller) (old new : Layers) (before after : Disk) (result : Result ℕ ChainRefusal) → SessionTold (entry who calls.Flush) old new before after result
@@ -56,35 +56,35 @@ leaf_ends leaf result (Some x) None moments ended = moments
 leaf_ends leaf (Ok t) (Some x) (Some y) moments ended = record { moments = moments; ended = ended }
 leaf_ends leaf (Err f) (Some x) (Some y) moments ended = record { moments = moments; ended = tt }
 
-ends : (v : State) (layers : Layers) (trace now : Trace) → IsServing layers v trace → (leaf : Layer) → Serves leaf trace v.top → KeepsOver leaf trace now → HasEnded v trace now
-ends v layers trace now serving leaf serves keeps =
+ends : (v : State) (layers : Layers) (trace now : Trace) → IsServing layers v trace → (leaf : Layer) → layers.leaf ≡ Some leaf → Serves leaf trace v.top → KeepsOver leaf trace now → HasEnded v trace now
+ends v layers trace now serving leaf is serves keeps =
     let phase = keeps.over v.top serves in
-    let over = file_goes_over (sector_of v) v.opening v.history v.leaf (dirty_now v) v.retired [] v.top v.top v.others trace now serving.once serving.served (goes_over v.top v.top trace now refl refl phase)
-    (λ s. refl) refl serving.served.linked serving.loose serving.loose in
+    let over = leaf_survives (sector_of v) v.opening v.history v.leaf (dirty_now v) v.retired v.top v.top v.rest trace now serving.once serving.served (goes_over v.top v.top trace now refl refl phase)
+    (λ s. refl) refl serving.loose serving.loose in
     record {
       moments = over.moments;
-      still = still_others v layers (ShowsFile v.top) trace now serving phase;
+      still = still_others v layers leaf (ShowsFile v.top) trace now is serving phase;
       past = past_goes_on.quiet (sector_of v) v.opening v.history (λ s. false) v.leaf v.began trace now serving.past over.moments;
     }
 
-ends_whole : (v : State) (layers : Layers) (trace now : Trace) → IsServing layers v trace → (leaf : Layer) → Serves leaf trace v.top → KeepsOver leaf trace now → HasEndedLeaf leaf trace now → HasEndedWhole true v trace now
-ends_whole v layers trace now serving leaf serves keeps ended =
+ends_whole : (v : State) (layers : Layers) (trace now : Trace) → IsServing layers v trace → (leaf : Layer) → layers.leaf ≡ Some leaf → Serves leaf trace v.top → KeepsOver leaf trace now → HasEndedLeaf leaf trace now → HasEndedWhole true v trace now
+ends_whole v layers trace now serving leaf is serves keeps ended =
     let phase = keeps.over v.top serves in
     let none : Placed = settled v.top in
-    let over = file_goes_over (sector_of v) v.opening v.history v.leaf (dirty_now v) v.retired [] v.top none v.others trace now serving.once serving.served (goes_over v.top none trace now refl refl phase)
-    (λ s. refl) refl serving.served.linked serving.loose ((λ s clean. refl), serving.loose.1) in
+    let over = leaf_survives (sector_of v) v.opening v.history v.leaf (dirty_now v) v.retired v.top none v.rest trace now serving.once serving.served (goes_over v.top none trace now refl refl phase)
+    (λ s. refl) refl serving.loose (new_top (dirty_now v) (dirty_now v) v.top none v.rest serving.loose (λ s clean. refl)) in
     record {
-      ended = ends v layers trace now serving leaf serves keeps;
-      all = served_chains_open.settled (sector_of v) v.opening v.history v.leaf (λ s. false) v.retired (none ∷ v.others) now (still_once v.top.number (ShowsFile v.top) trace now phase serving.once)
-          (over.served (ended.kept v.top serves).shows) ((λ s clean. refl), serving.loose.1);
+      ended = ends v layers trace now serving leaf is serves keeps;
+      all = opens_now (sector_of v) v.opening v.history v.leaf (λ s. false) v.retired none v.rest now (still_once v.top.number (ShowsFile v.top) trace now phase serving.once)
+          (over.served (ended.kept v.top serves).shows) (new_top (dirty_now v) (λ s. false) v.top none v.rest serving.loose (λ s clean. refl));
       synced = λ session. ended.synced v.top serves;
     }
 
 closed : (leaf : Layer) (v : State) (layers : Layers) (trace now : Trace) (result : Result (Unit {0}) StoreFault) → layers.leaf ≡ Some leaf → IsServing layers v trace → EndsLeaf leaf result trace now → HasClosed true v trace now result
 closed leaf v layers trace now (Ok t) is serving e =
-    let serves : Serves leaf trace v.top = (subst (λ o. AreHeld o layers.below.items trace v.top v.others) is serving.held).0 in ends_whole v layers trace now serving leaf serves e.moments e.ended
+    let serves : Serves leaf trace v.top = (subst (λ o. AreHeld o layers.below.items trace v.top (others_of v.rest)) is serving.held).0 in ends_whole v layers trace now serving leaf is serves e.moments e.ended
 closed leaf v layers trace now (Err f) is serving e =
-    let serves : Serves leaf trace v.top = (subst (λ o. AreHeld o layers.below.items trace v.top v.others) is serving.held).0 in ends v layers trace now serving leaf serves e.moments
+    let serves : Serves leaf trace v.top = (subst (λ o. AreHeld o layers.below.items trace v.top (others_of v.rest)) is serving.held).0 in ends v layers trace now serving leaf is serves e.moments
 
 pub close_told : (layers : Layers) (leaf : Layer) (before after : Disk) (result : Result (Unit {0}) StoreFault) → layers.leaf ≡ Some leaf
     → WhereBothTold (KeepsOver leaf) before.told after.told → OnOk result (WhereBothTold (HasEndedLeaf leaf) before.told after.told)
@@ -96,7 +96,7 @@ close_told layers leaf before after result is moments ended =
 -- one with no session changes nothing
 rests_whole : (v : State) (layers : Layers) (trace : Trace) → layers.leaf ≡ None → IsServing layers v trace → HasEndedWhole false v trace trace
 rests_whole v layers trace is serving =
-    let tight : (s : ℕ) → v.top.is_loose s ≡ false = (subst (λ o. AreHeld o layers.below.items trace v.top v.others) is serving.held).0 in
+    let tight : (s : ℕ) → v.top.is_loose s ≡ false = (subst (λ o. AreHeld o layers.below.items trace v.top (others_of v.rest)) is serving.held).0 in
     record {
       ended = record { moments = (at_rest v layers trace serving).moments; still = serving.still; past = serving.past };
       all = all_durable v layers trace serving tight;

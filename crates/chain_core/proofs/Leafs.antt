@@ -23,7 +23,7 @@ use Rattle.layer_session.specs.Calls.{HasCommitted, HasKept, HasPut, KeepsOver, 
 use Rattle.layer_session.specs.Keeping.{Serves}
 use Rattle.layer_session.proofs.Standing.{layers_stand}
 use Rattle.chain_core.specs.declared.layers.Layers.{Layers}
-use Rattle.chain_core.specs.States.{State, IsServing, AreHeld, entry, made, sector_of, wide}
+use Rattle.chain_core.specs.States.{State, IsServing, AreHeld, entry, made, sector_of, wide, others_of}
 use Rattle.chain_core.specs.Answering.{LayerAnswers, LayerTold, as_change}
 use Rattle.chain_core.proofs.Steps.{AnswersCall, HasFailed, IsAsBefore, IsMade, LeafStep, concluded}
 
@@ -96,7 +96,7 @@ answers_each call old new leaf next None None answer step each = tt
 answers_each call old new leaf next None (Some y) answer step each = each
 answers_each call old new leaf next (Some x) None answer step each = each
 answers_each call old new leaf next (Some x) (Some y) answer step each = λ who v serving.
-    let serves : Serves leaf x v.top = (subst (λ o. AreHeld o old.below.items x v.top v.others) step.was serving.held).0 in
+    let serves : Serves leaf x v.top = (subst (λ o. AreHeld o old.below.items x v.top (others_of v.rest)) step.was serving.held).0 in
     concluded (entry who call) v old new leaf next x y answer step serving
     (subst (λ (z : ℕ). AnswersCall z call v.top next x y answer) (sym (layers_stand.sector leaf x v.top serves)) (each v.top serves))
 

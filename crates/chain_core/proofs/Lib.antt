@@ -1,3 +1,5 @@
+mod Rests
+mod Putting
 pub mod Steps
 pub mod Leafs
 pub mod Standing

@@ -15,13 +15,14 @@ use Rattle.guest_model.specs.History.{either, is_dirty, replay}
 use Rattle.guest_model.proofs.HistoryLaws.{replay_unchanged}
 use Rattle.chain_model.specs.Images.{Placed}
 use Rattle.chain_model.specs.Moments.{EachOpens}
-use Rattle.chain_model.proofs.Serving.{loose_is_dirty, past_goes_on, served_chains_open}
+use Rattle.chain_model.proofs.Serving.{past_goes_on}
 use Rattle.layer_session.specs.declared.file.LayerFault.{LayerFault}
 use Rattle.chain_core.specs.declared.layers.Layers.{Layers}
-use Rattle.chain_core.specs.States.{State, IsServing, dirty_now, disk_now, entry, files_of, made, sector_of, with_entry}
+use Rattle.chain_core.specs.States.{State, IsServing, dirty_now, disk_now, entry, files_of, made, sector_of, with_entry, others_of}
 use Rattle.chain_core.specs.Reading.{Finds, HasOnlyRead}
 use Rattle.chain_core.specs.Answering.{EachOpensBefore, IsDone, LayerAnswers, LayerTold, answer_of, as_read}
 use Rattle.chain_core.proofs.Steps.{at_rest}
+use Rattle.chain_core.proofs.Rests.{loose_after, new_top, opens_now, top_loose}
 
 -- a read makes nothing loose
 read_leaves : (z first count : ℕ) (top : Placed) → top ≡ made z (calls.Read first count) top
@@ -38,7 +39,8 @@ opens_still : (first count : ℕ) (who : Caller) (v : State) (layers : Layers) (
 opens_still first count who v layers trace serving =
     let among = either (dirty_now v) (is_named (sector_of v) (calls.Read first count)) in
     EachMoment-now (EachOpens v.leaf among (disk_now v)) trace
-    (served_chains_open.settled (sector_of v) v.opening v.history v.leaf among v.retired (files_of v) trace serving.once serving.served ((λ s clean. serving.loose.0 s (first_out (dirty_now v s) _ clean)), serving.loose.1))
+    (opens_now (sector_of v) v.opening v.history v.leaf among v.retired v.top v.rest trace serving.once serving.served
+    (new_top (dirty_now v) among v.top v.top v.rest serving.loose (λ s clean. top_loose (dirty_now v) v.top v.rest serving.loose s (first_out (dirty_now v s) _ clean))))
 
 -- the session serves the history with the read
 read_on : (first count : ℕ) (who : Caller) (v : State) (layers : Layers) (trace : Trace) → IsServing layers v trace → IsServing layers (with_entry (entry who (calls.Read first count)) v) trace
@@ -50,12 +52,14 @@ read_on first count who v layers trace s =
       once = s.once;
       geometry = s.geometry;
       served = record { linked = s.served.linked; kept = s.served.kept; disk = s.served.disk ∙ sym (replay_unchanged z v.opening v.history e refl) };
-      loose = loose_is_dirty.settled z v.history e v.top v.top v.others (record { call = λ sector loose named. loose; flush = λ flush. absurd (let never : false ≡ true = flush in cc) }) s.loose;
+      loose = loose_after z v.history e v.top v.top v.rest (record { call = λ sector loose named. loose; flush = λ flush. absurd (let never : false ≡ true = flush in cc) }) s.loose;
+      course = s.course;
       held = s.held;
       whole = s.whole;
       synced = s.synced;
+      written = s.written;
       still = s.still;
-      past = past_goes_on.call z v.opening v.history e (λ s. false) v.leaf v.began trace trace s.past (opens_still first count who v layers trace s);
+      past = past_goes_on.call z v.opening v.history e (λ s. false) (λ s. false) v.leaf v.began trace trace (λ s out. refl) s.past (opens_still first count who v layers trace s);
     } in
     subst (λ (top : Placed). let w : State = record longer { top = top } in IsServing layers w trace) (read_leaves z first count v.top) kept
 

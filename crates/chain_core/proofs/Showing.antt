@@ -1,25 +1,34 @@
 -- The files of a session as held.
-use Rattle.std.proofs.Common.{◌≡◌, ◌≢◌, ℕ, ◌==◌, Bool, true, false, cond, List, [], ◌∷◌, ◌++◌, refl, sym, ap, subst, ◌∙◌, ne_eqb, eq-eqb}
-use Rattle.std.specs.Prelude.{Option, Some, None}
+use Rattle.std.proofs.Common.{◌≡◌, ◌≢◌, ℕ, ◌==◌, Bool, true, false, cond, List, [], ◌∷◌, ◌++◌, map, refl, sym, ap, subst, ◌∙◌, ne_eqb, eq-eqb, is_some}
+use Rattle.std.specs.Prelude.{Option, Some, None, IfSome}
 use Rattle.std.specs.List.{AllByRecursion}
 use Rattle.vhdx_format.specs.declared.log_entry.Page.{Page}
 use Rattle.store_model.specs.File.{is_synced, seen}
 use Rattle.store_model.specs.Trace.{ReadsAreImages, Trace, file_of}
 use Rattle.torn_match.proofs.Meant.{reads_are_untorn}
 use Rattle.chain_model.specs.Files.{IsIn, held_files}
+use Rattle.chain_model.specs.Members.{NoneTwice, names_of}
 use Rattle.chain_model.specs.Images.{NoneLoose, Placed, members_of}
 use Rattle.chain_model.specs.PhaseLaws.{IsNamedOnce}
 use Rattle.chain_model.specs.Sessions.{IsKept}
 use Rattle.chain_model.proofs.Serving.{held_chains_open}
 use Rattle.chain_model.proofs.Showing.{held_by_name}
 use Rattle.layer_session.specs.declared.file.Layer.{Layer}
-use Rattle.layer_session.specs.Calls.{own_bytes}
+use Rattle.layer_session.specs.declared.file_layer.FileLayer.{FileLayer}
+use Rattle.layer_session.specs.declared.file_layer.FileLayer.TheVariants.{Session, Read}
+use Rattle.layer_session.specs.Calls.{own_bytes, own_file}
+use Rattle.layer_session.specs.FileLayers.{HaveFiles, file_numbers, number_of}
 use Rattle.layer_session.specs.Keeping.{Serves}
+use Rattle.layer_session.proofs.FileLayers.{file_layers_stand}
 use Rattle.layer_session.proofs.Standing.{layers_stand}
 use Rattle.chain_core.specs.declared.layers.Layers.{Layers}
-use Rattle.chain_core.specs.Laws.{SessionsAreHeld, changed_pages}
-use Rattle.chain_core.specs.States.{AreHeld, IsServing, State, files_of, sector_of}
-use Rattle.chain_core.proofs.Steps.{all_right, numbers_apart}
+use Rattle.chain_core.specs.declared.layers.Underway.{Underway}
+use Rattle.chain_core.specs.Laws.{SessionsAreHeld, changed_pages, waiting}
+use Rattle.chain_core.specs.Sessions.{AreApart}
+use Rattle.chain_core.specs.States.{AreHeld, AreWritten, IsCourse, IsLoose, IsServing, Rest, State, files_of, merging, others_of, plain, sector_of}
+use Rattle.chain_core.proofs.Steps.{all_right, apart, names_behind, numbers_apart}
+
+-- ---- one file
 
 -- a kept file of which nothing is unsynced or loose, and no page changed, is held as it is shown
 kept_is_held : (trace : Trace) (pages : ℕ → List Page) (file : Placed) → IsNamedOnce trace → ReadsAreImages trace → IsKept trace file → is_synced (file_of trace file.number) ≡ true → ((s : ℕ) → file.is_loose s ≡ false)
@@ -37,39 +46,120 @@ kept_is_held trace pages file once images kept synced tight none =
       layer = λ k. sym (s.clean k (tight k));
     }
 
-all_held : (trace : Trace) (pages : ℕ → List Page) (files : List Placed) → IsNamedOnce trace → ReadsAreImages trace → AllByRecursion (IsKept trace) files → AllByRecursion (λ f. is_synced (file_of trace f.number) ≡ true) files
-    → ((s : ℕ) → NoneLoose s files) → AllByRecursion (λ f. pages f.number ≡ []) files → AllByRecursion (IsIn (held_files trace pages)) (members_of files)
-all_held trace pages [] once images kept synced tight none = tt
-all_held trace pages (p ∷ files) once images kept synced tight none =
-    (kept_is_held trace pages p once images kept.0 synced.0 (λ s. (tight s).0) none.0, all_held trace pages files once images kept.1 synced.1 (λ s. (tight s).1) none.1)
-
--- no other file was changed since it was synced
-still_synced : (v : State) (trace : Trace) (files : List Placed) → ((other : ℕ) → other ≢ v.top.number → file_of trace other ≡ file_of v.began other) → AllByRecursion (λ f. f.number ≢ v.top.number) files
-    → AllByRecursion (λ f. is_synced (file_of v.began f.number) ≡ true) files → AllByRecursion (λ f. is_synced (file_of trace f.number) ≡ true) files
-still_synced v trace [] still ne synced = tt
-still_synced v trace (p ∷ files) still ne synced = (ap is_synced (still p.number ne.0) ∙ synced.0, still_synced v trace files still ne.1 synced.1)
-
-no_pages : (leaf : Layer) (v : State) (files : List Placed) → AllByRecursion (λ f. f.number ≢ v.top.number) files → AllByRecursion (λ f. changed_pages leaf v f.number ≡ []) files
-no_pages leaf v [] ne = tt
-no_pages leaf v (p ∷ files) ne = (ap (λ (b : Bool). cond b leaf.tables.pending []) (ne_eqb p.number v.top.number ne.0), no_pages leaf v files ne.1)
-
--- the leaf is held with its pages
-leaf_held : (leaf : Layer) (v : State) (trace : Trace) → IsNamedOnce trace → Serves leaf trace v.top → IsIn (held_files trace (changed_pages leaf v)) v.top.member
-leaf_held leaf v trace once serves =
-    let pages = changed_pages leaf v in
-    let h = layers_stand.held leaf trace v.top serves in
-    let mine : pages v.top.number ≡ leaf.tables.pending = ap (λ (b : Bool). cond b leaf.tables.pending []) (eq-eqb v.top.number v.top.number refl) in
+-- a file in a session is held with its pages
+served_is_held : (l : Layer) (trace : Trace) (pages : ℕ → List Page) (file : Placed) → IsNamedOnce trace → Serves l trace file → pages (own_file l) ≡ l.tables.pending → IsIn (held_files trace pages) file.member
+served_is_held l trace pages file once serves mine =
+    let h = layers_stand.held l trace file serves in
     record {
-      file = record { bytes = own_bytes leaf trace; pages = leaf.tables.pending };
-      there = ap (held_files trace pages) (sym serves.name) ∙ held_by_name trace pages v.top.number once serves.within
-          ∙ ap (λ (n : ℕ). Some (record { bytes = seen (file_of trace n); pages = pages v.top.number })) serves.number
-          ∙ ap (λ p. Some (record { bytes = own_bytes leaf trace; pages = p })) mine;
+      file = record { bytes = own_bytes l trace; pages = l.tables.pending };
+      there = ap (held_files trace pages) (sym serves.name) ∙ held_by_name trace pages file.number once serves.within
+          ∙ ap (λ (n : ℕ). Some (record { bytes = seen (file_of trace n); pages = pages n })) serves.number
+          ∙ ap (λ p. Some (record { bytes = own_bytes l trace; pages = p })) mine;
       held = h.held;
       parts = h.parts;
       reads = h.reads;
       ties = h.ties;
       layer = h.layer;
     }
+
+-- ---- pages
+
+-- a file in a session has these of its own, any other none
+abbrev Fits : (ℕ → List Page) → FileLayer → Type 0
+Fits pages (Session l) = pages (own_file l) ≡ l.tables.pending
+Fits pages (Read l) = pages l.tables.parts.file ≡ []
+
+none_waiting : (layers : List FileLayer) (n : ℕ) → AllByRecursion (λ other. other ≢ n) (file_numbers layers) → waiting layers n ≡ []
+none_waiting [] n ne = refl
+none_waiting (Session l ∷ layers) n ne = ap (λ (b : Bool). cond b l.tables.pending (waiting layers n)) (ne_eqb n (own_file l) (λ same. ne.0 (sym same))) ∙ none_waiting layers n ne.1
+none_waiting (Read l ∷ layers) n ne = none_waiting layers n ne.1
+
+-- of one that stands behind a session
+behind_fits : (l : Layer) (pages : ℕ → List Page) (x : FileLayer) → number_of x ≢ own_file l → Fits pages x → Fits (λ n. cond (n == own_file l) l.tables.pending (pages n)) x
+behind_fits l pages (Session k) ne fits = ap (λ (b : Bool). cond b l.tables.pending (pages (own_file k))) (ne_eqb (own_file k) (own_file l) ne) ∙ fits
+behind_fits l pages (Read k) ne fits = ap (λ (b : Bool). cond b l.tables.pending (pages k.tables.parts.file)) (ne_eqb k.tables.parts.file (own_file l) ne) ∙ fits
+
+all_behind_fit : (l : Layer) (pages : ℕ → List Page) (layers : List FileLayer) → AllByRecursion (λ other. other ≢ own_file l) (file_numbers layers) → AllByRecursion (Fits pages) layers
+    → AllByRecursion (Fits (λ n. cond (n == own_file l) l.tables.pending (pages n))) layers
+all_behind_fit l pages [] ne fits = tt
+all_behind_fit l pages (x ∷ layers) ne fits = (behind_fits l pages x ne.0 fits.0, all_behind_fit l pages layers ne.1 fits.1)
+
+all_fit : (layers : List FileLayer) → AreApart (file_numbers layers) → AllByRecursion (Fits (waiting layers)) layers
+all_fit [] apart = tt
+all_fit (Session l ∷ layers) apart =
+    (ap (λ (b : Bool). cond b l.tables.pending (waiting layers (own_file l))) (eq-eqb (own_file l) (own_file l) refl), all_behind_fit l (waiting layers) layers apart.0 (all_fit layers apart.1))
+all_fit (Read l ∷ layers) apart = (none_waiting layers l.tables.parts.file apart.0, all_fit layers apart.1)
+
+-- ---- numbers
+
+files_apart : (trace : Trace) (files : List Placed) → AllByRecursion (IsKept trace) files → NoneTwice (names_of (members_of files)) → AreApart (map (λ f. f.number) files)
+files_apart trace [] kept once = tt
+files_apart trace (p ∷ files) kept once = (to_numbers files (apart trace p files kept.0 kept.1 once.0), files_apart trace files kept.1 once.1)
+  where
+    to_numbers : (files : List Placed) → AllByRecursion (λ f. f.number ≢ p.number) files → AllByRecursion (λ other. other ≢ p.number) (map (λ f. f.number) files)
+    to_numbers [] all = tt
+    to_numbers (q ∷ files) all = (all.0, to_numbers files all.1)
+
+same_numbers : (layers : List FileLayer) (trace : Trace) (files : List Placed) → HaveFiles layers trace files → map (λ f. f.number) files ≡ file_numbers layers
+same_numbers [] trace [] have = refl
+same_numbers [] trace (p ∷ files) have = absurd have
+same_numbers (l ∷ layers) trace [] have = absurd have
+same_numbers (l ∷ layers) trace (p ∷ files) have =
+    let first : p.number ≡ number_of l = file_layers_stand.number l trace p have.0 in
+    let others : map (λ f. f.number) files ≡ file_numbers layers = same_numbers layers trace files have.1 in
+    cc
+
+others_numbers : (n : ℕ) (layers : List FileLayer) (trace : Trace) (files : List Placed) → HaveFiles layers trace files → AllByRecursion (λ f. f.number ≢ n) files → AllByRecursion (λ other. other ≢ n) (file_numbers layers)
+others_numbers n [] trace [] have ne = tt
+others_numbers n [] trace (p ∷ files) have ne = absurd have
+others_numbers n (l ∷ layers) trace [] have ne = absurd have
+others_numbers n (l ∷ layers) trace (p ∷ files) have ne = ((λ e. ne.0 (file_layers_stand.number l trace p have.0 ∙ e)), others_numbers n layers trace files have.1 ne.1)
+
+-- ---- what is loose
+
+-- a file that isn't written has no loose sector
+abbrev IsTight : (ℕ → Bool) → Placed → Type 0
+IsTight writes file = writes file.number ≡ false → (s : ℕ) → file.is_loose s ≡ false
+
+all_tight : (writes : ℕ → Bool) (files : List Placed) → ((s : ℕ) → NoneLoose s files) → AllByRecursion (IsTight writes) files
+all_tight writes [] none = tt
+all_tight writes (p ∷ files) none = ((λ w s. (none s).0), all_tight writes files (λ s. (none s).1))
+
+-- nothing is loose in the files of a list, and so in each of them
+none_left : (a b : List Placed) → ((s : ℕ) → NoneLoose s (a ++ b)) → (s : ℕ) → NoneLoose s a
+none_left [] b none s = tt
+none_left (p ∷ a) b none s = ((none s).0, none_left a b (λ k. (none k).1) s)
+
+none_right : (a b : List Placed) → ((s : ℕ) → NoneLoose s (a ++ b)) → (s : ℕ) → NoneLoose s b
+none_right [] b none = none
+none_right (p ∷ a) b none = none_right a b (λ k. (none k).1)
+
+tight_with : (writes : ℕ → Bool) (above : List Placed) (source target : Placed) (below : List Placed) → writes target.number ≡ true → ((s : ℕ) → NoneLoose s (above ++ source ∷ below))
+    → AllByRecursion (IsTight writes) (above ++ (source ∷ target ∷ below))
+tight_with writes [] source target below written none =
+    ((λ w s. (none s).0), ((λ w. absurd (let never : true ≡ false = sym written ∙ w in cc)), all_tight writes below (λ s. (none s).1)))
+tight_with writes (p ∷ above) source target below written none = ((λ w s. (none s).0), tight_with writes above source target below written (λ s. (none s).1))
+
+tight_others : (z : ℕ) (writes dirty : ℕ → Bool) (merge : Option Underway) (top : Placed) (rest : Rest) → IsCourse z writes merge rest → IsLoose dirty top rest → AllByRecursion (IsTight writes) (others_of rest)
+tight_others z writes dirty merge top (plain others) course loose = all_tight writes others loose.1
+tight_others z writes dirty None top (merging above source target below m) course loose = absurd course
+tight_others z writes dirty (Some u) top (merging above source target below m) course loose = tight_with writes above source target below course.written loose.others.1
+
+-- ---- the files below the leaf
+
+all_held : (v : State) (trace : Trace) (pages : ℕ → List Page) (layers : List FileLayer) (files : List Placed) → IsNamedOnce trace → ReadsAreImages trace → ((other : ℕ) → v.writes other ≡ false → file_of trace other ≡ file_of v.began other)
+    → HaveFiles layers trace files → AllByRecursion (IsKept trace) files → AllByRecursion (λ f. is_synced (file_of v.began f.number) ≡ true) files → AreWritten v.writes layers → AllByRecursion (IsTight v.writes) files
+    → AllByRecursion (Fits pages) layers → AllByRecursion (IsIn (held_files trace pages)) (members_of files)
+all_held v trace pages [] [] once images still have kept synced written tight fits = tt
+all_held v trace pages [] (p ∷ files) once images still have kept synced written tight fits = absurd have
+all_held v trace pages (l ∷ layers) [] once images still have kept synced written tight fits = absurd have
+all_held v trace pages (Session l ∷ layers) (p ∷ files) once images still have kept synced written tight fits =
+    (served_is_held l trace pages p once have.0 fits.0, all_held v trace pages layers files once images still have.1 kept.1 synced.1 written.1 tight.1 fits.1)
+all_held v trace pages (Read l ∷ layers) (p ∷ files) once images still have kept synced written tight fits =
+    let unwritten : v.writes p.number ≡ false = ap v.writes have.0.number ∙ written.0 in (
+      kept_is_held trace pages p once images kept.0 (ap is_synced (still p.number unwritten) ∙ synced.0) (tight.0 unwritten) (ap pages have.0.number ∙ fits.0),
+      all_held v trace pages layers files once images still have.1 kept.1 synced.1 written.1 tight.1 fits.1,
+    )
 
 no_retired : (trace : Trace) (pages : ℕ → List Page) (retired : List Placed) → retired ≡ [] → AllByRecursion (IsIn (held_files trace pages)) (members_of retired)
 no_retired trace pages [] none = tt
@@ -82,10 +172,19 @@ both_in trace pages (p ∷ a) b left right = (left.0, both_in trace pages a b le
 
 pub sessions_are_held : SessionsAreHeld
 sessions_are_held layers leaf v trace is images none serving =
-    let pages = changed_pages leaf v in
-    let serves : Serves leaf trace v.top = (subst (λ o. AreHeld o layers.below.items trace v.top v.others) is serving.held).0 in
-    let ne = numbers_apart layers v trace serving in
+    let below = layers.below.items in
+    let pages = changed_pages leaf below in
+    let others = others_of v.rest in
+    let held : Serves leaf trace v.top × HaveFiles below trace others = subst (λ o. AreHeld o below trace v.top others) is serving.held in
+    let written : (v.writes v.top.number ≡ true) × AreWritten v.writes below = subst (λ o. IfSome o (λ leaf. (v.writes v.top.number ≡ true) × AreWritten v.writes below)) is serving.written in
     let kept = all_right (IsKept trace) v.retired (files_of v) serving.served.kept in
-    let rest = all_held trace pages v.others serving.once images kept.1 (still_synced v trace v.others serving.still ne serving.synced.1) serving.loose.1 (no_pages leaf v v.others ne) in
+    let once = names_behind v.retired (files_of v) serving.served.linked.once in
+    let ne : AllByRecursion (λ other. other ≢ own_file leaf) (file_numbers below) =
+    subst (λ (n : ℕ). AllByRecursion (λ other. other ≢ n) (file_numbers below)) held.0.number (others_numbers v.top.number below trace others held.1 (numbers_apart layers v trace serving)) in
+    let distinct : AreApart (file_numbers below) = subst AreApart (same_numbers below trace others held.1) (files_apart trace others kept.1 once.1) in
+    let fits : AllByRecursion (Fits pages) below = all_behind_fit leaf (waiting below) below ne (all_fit below distinct) in
+    let mine : pages (own_file leaf) ≡ leaf.tables.pending = ap (λ (b : Bool). cond b leaf.tables.pending (waiting below (own_file leaf))) (eq-eqb (own_file leaf) (own_file leaf) refl) in
+    let rest = all_held v trace pages below others serving.once images serving.still held.1 kept.1 serving.synced.1 written.1
+    (tight_others (sector_of v) v.writes _ layers.merge v.top v.rest serving.course serving.loose) fits in
     held_chains_open (sector_of v) v.opening v.history v.leaf v.retired (files_of v) trace pages serving.served
-    (both_in trace pages v.retired (files_of v) (no_retired trace pages v.retired none) (leaf_held leaf v trace serving.once serves, rest))
+    (both_in trace pages v.retired (files_of v) (no_retired trace pages v.retired none) (served_is_held leaf trace pages v.top serving.once held.0 mine, rest))

@@ -1,6 +1,6 @@
 -- What the answer of the leaf's layer makes of a session.
 use Rattle.std.proofs.Common.{◌≡◌, ◌≢◌, ◌⊎◌, ℕ, Bool, true, false, cond, List, [], ◌∷◌, ◌++◌, map, refl, sym, ap, subst, ◌∙◌, arith, inl, ◌<◌, is_some}
-use Rattle.std.specs.Prelude.{Option, Some, None, Result, Ok, Err}
+use Rattle.std.specs.Prelude.{Option, Some, None, Result, Ok, Err, IfSome}
 use Rattle.std.specs.List.{AllByRecursion}
 use Rattle.std.specs.Option.{option_or}
 use Rattle.std.proofs.lemmas.Bool.{or_parts, or_from}
@@ -16,21 +16,20 @@ use Rattle.chain_model.specs.Images.{Placed, members_of, name_of}
 use Rattle.chain_model.specs.Moments.{IsPhase, HasWholeImages, EachOpens}
 use Rattle.chain_model.specs.Sessions.{ShowsFile, IsKept, GoesOver, LeavesLoose}
 use Rattle.chain_model.specs.PhaseLaws.{LeafCall, CallSurvives, IsNamedOnce}
-use Rattle.chain_model.proofs.Serving.{loose_is_dirty, past_goes_on, served_chains_open}
-use Rattle.chain_model.proofs.Calling.{calls_survive}
-use Rattle.chain_model.proofs.Phasing.{file_goes_over}
+use Rattle.chain_model.proofs.Serving.{past_goes_on}
 use Rattle.layer_session.specs.declared.file.Layer.{Layer}
 use Rattle.layer_session.specs.declared.file.LayerFault.{LayerFault}
 use Rattle.layer_session.specs.declared.file.LayerFault.TheVariants.{Read, Write, FileFull}
-use Rattle.layer_session.specs.declared.read_layer.ReadLayer.{ReadLayer}
+use Rattle.layer_session.specs.declared.file_layer.FileLayer.{FileLayer}
 use Rattle.layer_session.specs.Calls.{IsBeside}
 use Rattle.layer_session.specs.Keeping.{Serves}
-use Rattle.layer_session.specs.ReadOnly.{AreRead}
+use Rattle.layer_session.specs.FileLayers.{HaveFiles}
 use Rattle.layer_session.proofs.Crashes.{layers_are_kept}
 use Rattle.chain_core.specs.declared.layers.Layers.{Layers}
-use Rattle.chain_core.specs.States.{State, IsServing, LeavesOthers, AreHeld, seen_in, sector_of, disk_now, dirty_now, files_of, wide, made}
+use Rattle.chain_core.specs.States.{State, IsServing, LeavesOthers, AreHeld, seen_in, sector_of, disk_now, dirty_now, files_of, wide, made, others_of, AreWritten, IsCourse}
 use Rattle.chain_core.specs.Answering.{IsDone, IsRefused, HasBroken, LayerAnswers}
-use Rattle.layer_session.proofs.ReadOnly.{read_layers_stand}
+use Rattle.layer_session.proofs.FileLayers.{file_layers_stand}
+use Rattle.chain_core.proofs.Rests.{call_survives, leaf_survives, loose_after, opens_now, top_loose}
 
 -- ---- the leaf's answer, of its file
 
@@ -58,6 +57,7 @@ AnswersCall z call file leaf trace now (Err (Write fault)) = HasFailed z call fi
 pub record LeafStep (old new : Layers) (leaf next : Layer) : Type 0 where
   pub geometry : new.geometry ≡ old.geometry
   pub below : new.below ≡ old.below
+  pub merge : new.merge ≡ old.merge
   pub was : old.leaf ≡ Some leaf
   pub now : new.leaf ≡ Some next
 
@@ -85,24 +85,24 @@ pub still_once : (file : ℕ) (P : List ℕ → Type 0) (old now : Trace) → Is
 still_once file P old now phase once = subst (λ (files : List NamedBytes). NoneTwice (map (λ f. f.name) files)) (sym (phase_attached file P old now phase)) once
 
 -- the names behind retired leaves
-names_behind : (r c : List Placed) → NoneTwice (names_of (members_of r ++ members_of c)) → NoneTwice (names_of (members_of c))
+pub names_behind : (r c : List Placed) → NoneTwice (names_of (members_of r ++ members_of c)) → NoneTwice (names_of (members_of c))
 names_behind [] c once = once
 names_behind (p ∷ r) c once = names_behind r c once.1
 
 -- files of other names have other numbers
-apart : (trace : Trace) (top : Placed) (others : List Placed) → IsKept trace top → AllByRecursion (IsKept trace) others → AllByRecursion (λ name. name ≢ top.member.name) (names_of (members_of others))
+pub apart : (trace : Trace) (top : Placed) (others : List Placed) → IsKept trace top → AllByRecursion (IsKept trace) others → AllByRecursion (λ name. name ≢ top.member.name) (names_of (members_of others))
     → AllByRecursion (λ f. f.number ≢ top.number) others
 apart trace top [] kept all ne = tt
 apart trace top (p ∷ others) kept all ne = ((λ same. ne.0 (sym all.0.name ∙ ap (name_of trace.attached) same ∙ kept.name)), apart trace top others kept all.1 ne.1)
 
--- so those below are read still
-pub still_read : (number : ℕ) (P : List ℕ → Type 0) (old now : Trace) → IsPhase number P old now → (below : List ReadLayer) (others : List Placed) → AllByRecursion (λ f. f.number ≢ number) others
-    → AreRead below old others → AreRead below now others
+-- so those below stand still
+pub still_read : (number : ℕ) (P : List ℕ → Type 0) (old now : Trace) → IsPhase number P old now → (below : List FileLayer) (others : List Placed) → AllByRecursion (λ f. f.number ≢ number) others
+    → HaveFiles below old others → HaveFiles below now others
 still_read number P old now phase [] [] ne all = tt
 still_read number P old now phase [] (p ∷ others) ne all = absurd all
 still_read number P old now phase (l ∷ below) [] ne all = absurd all
 still_read number P old now phase (l ∷ below) (p ∷ others) ne all =
-    (read_layers_stand.beside l old now p all.0 (phase_beside number P old now phase p.number ne.0), still_read number P old now phase below others ne.1 all.1)
+    (file_layers_stand.beside l old now p all.0 (phase_beside number P old now phase p.number ne.0), still_read number P old now phase below others ne.1 all.1)
 
 -- ---- the leaf
 
@@ -148,16 +148,16 @@ leaves_loose z e top = record {
 }
 
 -- the others' numbers
-pub numbers_apart : (layers : Layers) (v : State) (trace : Trace) → IsServing layers v trace → AllByRecursion (λ f. f.number ≢ v.top.number) v.others
+pub numbers_apart : (layers : Layers) (v : State) (trace : Trace) → IsServing layers v trace → AllByRecursion (λ f. f.number ≢ v.top.number) (others_of v.rest)
 numbers_apart layers v trace serving =
     let kept = all_right (IsKept trace) v.retired (files_of v) serving.served.kept in
-    apart trace v.top v.others kept.0 kept.1 (names_behind v.retired (files_of v) serving.served.linked.once).0
+    apart trace v.top (others_of v.rest) kept.0 kept.1 (names_behind v.retired (files_of v) serving.served.linked.once).0
 
 survives : (e : Entry) (v : State) (layers : Layers) (trace now : Trace) → IsServing layers v trace → IsPhase v.top.number (ShowsFile (wide (sector_of v) e.call v.top)) trace now
-    → CallSurvives (sector_of v) v.opening v.history e v.leaf (dirty_now v) (made (sector_of v) e.call v.top) v.retired (made (sector_of v) e.call v.top ∷ v.others) trace now
+    → CallSurvives (sector_of v) v.opening v.history e v.leaf (dirty_now v) (made (sector_of v) e.call v.top) v.retired (made (sector_of v) e.call v.top ∷ (others_of v.rest)) trace now
 survives e v layers trace now serving phase =
-    calls_survive.settled (sector_of v) v.opening v.history e v.leaf (dirty_now v) (either v.top.is_loose (is_named (sector_of v) e.call)) v.retired v.top (made (sector_of v) e.call v.top) v.others trace now serving.once serving.served
-    (leaf_call e v trace now serving.loose.0 phase) serving.loose
+    call_survives (sector_of v) v.opening v.history e v.leaf (dirty_now v) (either v.top.is_loose (is_named (sector_of v) e.call)) v.retired v.top (made (sector_of v) e.call v.top) v.rest trace now serving.once serving.served
+    (leaf_call e v trace now (top_loose (dirty_now v) v.top v.rest serving.loose) phase) serving.loose
 
 -- what a call names is there
 there_on : (b : Bool) (bytes : List ℕ) (o rest : Option (List ℕ)) → is_some (option_or o rest) ≡ true → is_some (option_or (cond b (Some bytes) o) rest) ≡ true
@@ -169,17 +169,27 @@ whole_on : (z : ℕ) (call : Call) (top : Placed) (others : List Placed) → ((s
 whole_on z call top others whole s below = there_on (is_named z call s) (content z call s) (top.member.layer s) (seen_in others s) (whole s below)
 
 -- no other file was changed
-pub still_others : (v : State) (layers : Layers) (P : List ℕ → Type 0) (trace now : Trace) → IsServing layers v trace → IsPhase v.top.number P trace now → LeavesOthers v now
-still_others v layers P trace now serving phase other ne = phase_others v.top.number P trace now phase other ne ∙ serving.still other ne
+pub still_others : (v : State) (layers : Layers) (leaf : Layer) (P : List ℕ → Type 0) (trace now : Trace) → layers.leaf ≡ Some leaf → IsServing layers v trace → IsPhase v.top.number P trace now → LeavesOthers v now
+still_others v layers leaf P trace now is serving phase other none =
+    let own : v.writes v.top.number ≡ true = (subst (λ o. IfSome o (λ leaf. (v.writes v.top.number ≡ true) × AreWritten v.writes layers.below.items)) is serving.written).0 in
+    let ne : other ≢ v.top.number = λ same. (let never : true ≡ false = sym own ∙ ap v.writes (sym same) ∙ none in cc) in
+    phase_others v.top.number P trace now phase other ne ∙ serving.still other none
 
 -- what the layers have, once the leaf's was called
 held_by : (old new : Layers) (leaf next : Layer) (v : State) (top : Placed) (P : List ℕ → Type 0) (trace now : Trace) → LeafStep old new leaf next → IsServing old v trace → IsPhase v.top.number P trace now → Serves next now top
-    → AreHeld new.leaf new.below.items now top v.others
+    → AreHeld new.leaf new.below.items now top (others_of v.rest)
 held_by old new leaf next v top P trace now step serving phase serves =
-    let held : Serves leaf trace v.top × AreRead old.below.items trace v.others = subst (λ o. AreHeld o old.below.items trace v.top v.others) step.was serving.held in
-    let read : AreRead old.below.items now v.others = still_read v.top.number P trace now phase old.below.items v.others (numbers_apart old v trace serving) held.1 in
-    let read' : AreRead new.below.items now v.others = subst (λ b. AreRead b.items now v.others) (sym step.below) read in
-    subst (λ o. AreHeld o new.below.items now top v.others) (sym step.now) (serves, read')
+    let held : Serves leaf trace v.top × HaveFiles old.below.items trace (others_of v.rest) = subst (λ o. AreHeld o old.below.items trace v.top (others_of v.rest)) step.was serving.held in
+    let read : HaveFiles old.below.items now (others_of v.rest) = still_read v.top.number P trace now phase old.below.items (others_of v.rest) (numbers_apart old v trace serving) held.1 in
+    let read' : HaveFiles new.below.items now (others_of v.rest) = subst (λ b. HaveFiles b.items now (others_of v.rest)) (sym step.below) read in
+    subst (λ o. AreHeld o new.below.items now top (others_of v.rest)) (sym step.now) (serves, read')
+
+-- the files that it may change are those in a session still
+pub written_on : (old new : Layers) (leaf next : Layer) (v : State) → LeafStep old new leaf next → {trace : Trace} → IsServing old v trace → IfSome new.leaf (λ leaf. (v.writes v.top.number ≡ true) × AreWritten v.writes new.below.items)
+written_on old new leaf next v step serving =
+    let was : (v.writes v.top.number ≡ true) × AreWritten v.writes old.below.items = subst (λ o. IfSome o (λ leaf. (v.writes v.top.number ≡ true) × AreWritten v.writes old.below.items)) step.was serving.written in
+    subst (λ o. IfSome o (λ leaf. (v.writes v.top.number ≡ true) × AreWritten v.writes new.below.items)) (sym step.now)
+    (subst (λ b. (v.writes v.top.number ≡ true) × AreWritten v.writes b.items) (sym step.below) was)
 
 -- the call was done
 pub done : (e : Entry) (v : State) (old new : Layers) (leaf next : Layer) (trace now : Trace) → LeafStep old new leaf next → IsServing old v trace → IsMade (sector_of v) e.call v.top next trace now → IsDone e v new trace now
@@ -192,12 +202,14 @@ done e v old new leaf next trace now step serving is =
         once = still_once v.top.number (ShowsFile (wide z e.call v.top)) trace now is.moments serving.once;
         geometry = step.geometry ∙ serving.geometry;
         served = call.served (layers_are_kept next now (made z e.call v.top) is.holds).shows;
-        loose = loose_is_dirty.settled z v.history e v.top (made z e.call v.top) v.others (leaves_loose z e v.top) serving.loose;
+        loose = loose_after z v.history e v.top (made z e.call v.top) v.rest (leaves_loose z e v.top) serving.loose;
+        course = subst (λ o. IsCourse z v.writes o v.rest) (sym step.merge) serving.course;
         held = held_by old new leaf next v (made z e.call v.top) (ShowsFile (wide z e.call v.top)) trace now step serving is.moments is.holds;
-        whole = whole_on z e.call v.top v.others serving.whole;
+        whole = whole_on z e.call v.top (others_of v.rest) serving.whole;
         synced = serving.synced;
-        still = still_others v old (ShowsFile (wide z e.call v.top)) trace now serving is.moments;
-        past = past_goes_on.call z v.opening v.history e (λ s. false) v.leaf v.began trace now serving.past call.moments;
+        written = written_on old new leaf next v step serving;
+        still = still_others v old leaf (ShowsFile (wide z e.call v.top)) trace now step.was serving is.moments;
+        past = past_goes_on.call z v.opening v.history e (λ s. false) (λ s. false) v.leaf v.began trace now (λ s out. refl) serving.past call.moments;
       };
     }
 
@@ -205,8 +217,8 @@ done e v old new leaf next trace now step serving is =
 pub as_before : (v : State) (old new : Layers) (leaf next : Layer) (trace now : Trace) → LeafStep old new leaf next → IsServing old v trace → IsAsBefore v.top next trace now → IsRefused v new trace now
 as_before v old new leaf next trace now step serving is =
     let z = sector_of v in
-    let over = file_goes_over z v.opening v.history v.leaf (dirty_now v) v.retired [] v.top v.top v.others trace now serving.once serving.served (goes_over v.top v.top trace now refl refl is.moments)
-    (λ s. refl) refl serving.served.linked serving.loose serving.loose in
+    let over = leaf_survives z v.opening v.history v.leaf (dirty_now v) v.retired v.top v.top v.rest trace now serving.once serving.served (goes_over v.top v.top trace now refl refl is.moments)
+    (λ s. refl) refl serving.loose serving.loose in
     record {
       moments = over.moments;
       serving = record {
@@ -214,21 +226,23 @@ as_before v old new leaf next trace now step serving is =
         geometry = step.geometry ∙ serving.geometry;
         served = over.served (layers_are_kept next now v.top is.holds).shows;
         loose = serving.loose;
+        course = subst (λ o. IsCourse z v.writes o v.rest) (sym step.merge) serving.course;
         held = held_by old new leaf next v v.top (ShowsFile v.top) trace now step serving is.moments is.holds;
         whole = serving.whole;
         synced = serving.synced;
-        still = still_others v old (ShowsFile v.top) trace now serving is.moments;
+        written = written_on old new leaf next v step serving;
+        still = still_others v old leaf (ShowsFile v.top) trace now step.was serving is.moments;
         past = past_goes_on.quiet z v.opening v.history (λ s. false) v.leaf v.began trace now serving.past over.moments;
       };
     }
 
 -- a change of the leaf failed
-pub failed : (e : Entry) (v : State) (layers : Layers) (trace now : Trace) → IsServing layers v trace → HasFailed (sector_of v) e.call v.top trace now → HasBroken e v trace now
-failed e v layers trace now serving has =
+pub failed : (e : Entry) (v : State) (layers : Layers) (trace now : Trace) → IsServing layers v trace → LeavesOthers v now → HasFailed (sector_of v) e.call v.top trace now → HasBroken e v trace now
+failed e v layers trace now serving still has =
     let call = survives e v layers trace now serving has.moments in
     record {
       moments = call.moments;
-      still = still_others v layers (ShowsFile (wide (sector_of v) e.call v.top)) trace now serving has.moments;
+      still = still;
       past = past_goes_on.broken (sector_of v) v.opening v.history (λ s. false) (is_named (sector_of v) e.call) v.leaf v.began trace now (λ s out. refl) serving.past call.moments;
     }
 
@@ -236,7 +250,7 @@ failed e v layers trace now serving has =
 pub at_rest : (v : State) (layers : Layers) (trace : Trace) → IsServing layers v trace → IsRefused v layers trace trace
 at_rest v layers trace serving = record {
   moments = EachMoment-now (EachOpens v.leaf (dirty_now v) (disk_now v)) trace
-      (served_chains_open.settled (sector_of v) v.opening v.history v.leaf (dirty_now v) v.retired (files_of v) trace serving.once serving.served serving.loose);
+      (opens_now (sector_of v) v.opening v.history v.leaf (dirty_now v) v.retired v.top v.rest trace serving.once serving.served serving.loose);
   serving = serving;
 }
 
@@ -246,4 +260,4 @@ pub concluded : (e : Entry) (v : State) (old new : Layers) (leaf next : Layer) (
 concluded e v old new leaf next trace now (Ok t) step serving is = done e v old new leaf next trace now step serving is
 concluded e v old new leaf next trace now (Err (Read fault)) step serving is = as_before v old new leaf next trace now step serving is
 concluded e v old new leaf next trace now (Err (FileFull n)) step serving is = as_before v old new leaf next trace now step serving is
-concluded e v old new leaf next trace now (Err (Write fault)) step serving is = failed e v old trace now serving is
+concluded e v old new leaf next trace now (Err (Write fault)) step serving is = failed e v old trace now serving (still_others v old leaf (ShowsFile (wide (sector_of v) e.call v.top)) trace now step.was serving is.moments) is

@@ -7,3 +7,4 @@ pub mod Starting
 pub mod Converting
 pub mod Events
 pub mod Laws
+pub mod Merging

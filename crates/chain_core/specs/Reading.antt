@@ -1,5 +1,5 @@
 -- What reading leaves of the layers, and what it finds.
-use Rattle.std.specs.Prelude.{◌≡◌, ℕ, List, Option, Some, None, option_map}
+use Rattle.std.specs.Prelude.{◌≡◌, ℕ, List, Option, Some, None}
 use Rattle.store_model.specs.Disk.{Disk, WhereTold}
 use Rattle.store_model.specs.Trace.{Trace}
 use Rattle.guest_model.specs.declared.call.Call.TheVariants as calls
@@ -8,18 +8,15 @@ use Rattle.guest_model.specs.Calls.{reply}
 use Rattle.chain_model.specs.Layers.{Layer as SectorLayer}
 use Rattle.layer_session.specs.declared.file.Layer.{Layer}
 use Rattle.layer_session.specs.Calls.{AddsOwned}
-use Rattle.chain_core.specs.Sessions.{AreReady}
-use Rattle.chain_core.specs.States.{State, IsServing, disk_now, files_of, seen_in}
+use Rattle.chain_core.specs.Sessions.{AreReady, log_numbers}
+use Rattle.chain_core.specs.States.{State, IsServing, disk_now, files_of, seen_in, others_of}
 use Rattle.chain_core.specs.declared.layers.Layers.{Layers}
-
--- the number of the last entry of the leaf's log
-abbrev pub log_number : Layers → Option ℕ
-log_number layers = option_map (λ (leaf : Layer). leaf.log.number) layers.leaf
 
 -- Only what the layers keep in memory is another, and counts of failed reads: they are ready, and serve what they served.
 pub record HasOnlyRead (old new : Layers) (before after : Disk) : Type 0 where
   pub geometry : new.geometry ≡ old.geometry
-  pub numbers : log_number new ≡ log_number old
+  pub numbers : log_numbers new ≡ log_numbers old
+  pub merge : new.merge ≡ old.merge
   pub ready : AreReady new after
   pub serves : WhereTold before.told (λ trace. (v : State) → IsServing old v trace → IsServing new v trace)
   pub told : after.told ≡ before.told
@@ -38,7 +35,7 @@ of_session (Some leaf) v s = v.top.member.layer s
 
 abbrev pub of_read : Option Layer → State → SectorLayer
 of_read None v s = seen_in (files_of v) s
-of_read (Some leaf) v s = seen_in v.others s
+of_read (Some leaf) v s = seen_in (others_of v.rest) s
 
 -- a part of the files adds its sectors to those that were found
 abbrev pub AddsPart : (Option Layer → State → SectorLayer) → ℕ → ℕ → Layers → Disk → List ℕ → List ℕ → List ℕ → List ℕ → Type 0

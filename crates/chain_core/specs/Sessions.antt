@@ -1,15 +1,17 @@
 -- What stands of a session for every store, whether it tells its content or not.
-use Rattle.std.specs.Prelude.{◌≡◌, ◌≢◌, ◌+◌, ◌^◌, ◌≤◌, ℕ, List, Option, None, IfSome}
-use Rattle.std.specs.List.{AllByRecursion}
+use Rattle.std.specs.Prelude.{◌≡◌, ◌≢◌, ◌+◌, ◌^◌, ◌<◌, ◌≤◌, ⊤, ℕ, Bool, true, false, is_some, List, [], ◌∷◌, length, map, slice_index_or, Option, None, option_map, IfSome}
 use Rattle.vx_base.specs.declared.parts.Geometry.{Geometry}
-use Rattle.store_model.specs.Disk.{Disk, WhereTold}
+use Rattle.store_model.specs.Disk.{Disk}
 use Rattle.store_model.specs.declared.fault.StoreFault.{StoreFault}
 use Rattle.guest_model.specs.declared.call.Entry.{Entry}
 use Rattle.layer_session.specs.declared.file.Layer.{Layer}
-use Rattle.layer_session.specs.declared.read_layer.ReadLayer.{ReadLayer}
+use Rattle.layer_session.specs.declared.file_layer.FileLayer.{FileLayer}
 use Rattle.layer_session.specs.Calls.{own_file}
 use Rattle.layer_session.specs.Keeping.{IsReady}
-use Rattle.layer_session.specs.ReadOnly.{AreReadable}
+use Rattle.layer_session.specs.FileLayers.{AreOthers, AreReadyFiles, file_numbers, log_number}
+use Rattle.std.specs.List.{AllByRecursion}
+use Rattle.chain_model.specs.Stripes.{stripe_count}
+use Rattle.chain_core.specs.declared.layers.Underway.{Underway}
 use Rattle.chain_core.specs.declared.chain.Chain.{Chain}
 use Rattle.chain_core.specs.declared.layers.Layers.{Layers}
 
@@ -38,23 +40,46 @@ seen disk noted told chain = record {
 abbrev pub IsCounted : {S R T : Type 0} → Chain S R T → Chain S R T → Type 0
 IsCounted old new = new ≡ record old { events = new.events }
 
--- the leaf's layer in a session can be written; its file is the store's first, and no other layer's where the store tells its content
-pub record IsReadyLeaf (geometry : Geometry) (below : List ReadLayer) (disk : Disk) (leaf : Layer) : Type 0 where
+-- the leaf's layer in a session can be written; its file is the store's first, and no other layer's
+pub record IsReadyLeaf (geometry : Geometry) (below : List FileLayer) (disk : Disk) (leaf : Layer) : Type 0 where
   pub ready : IsReady leaf disk
   pub number : own_file leaf ≡ 0
   pub sector : leaf.tables.parts.sector ≡ geometry.sector
   pub sectors : leaf.tables.parts.sectors ≡ geometry.sectors
-  pub apart : WhereTold disk.told (λ _. AllByRecursion (λ (l : ReadLayer). l.tables.parts.file ≢ 0) below)
+  pub apart : AreOthers 0 below
 
--- layers of files that can be read, and the leaf written if it is in a session
+-- no number stands twice
+abbrev pub AreApart : List ℕ → Type 0
+AreApart [] = ⊤
+AreApart (n ∷ numbers) = AllByRecursion (λ other. other ≢ n) numbers × AreApart numbers
+
+-- the layer at a place is that of a file in a session
+abbrev pub is_session_at : List FileLayer → ℕ → Bool
+is_session_at layers at = is_some (slice_index_or (map log_number layers) at None)
+
+-- A merge of files below the leaf, which is in a session: its source and its target are among them, the target in a session, and each
+-- stripe of the disk has its mark.
+pub record IsMergeOf (geometry : Geometry) (top : Option Layer) (below : List FileLayer) (merge : Underway) : Type 0 where
+  pub session : is_some top ≡ true
+  pub there : merge.source + 1 < length below
+  pub target : is_session_at below (merge.source + 1) ≡ true
+  pub stripes : merge.marks.stripes ≡ stripe_count geometry.sector geometry.sectors
+
+-- layers of files that can be read, and those written that are in a session
 pub record AreReady (layers : Layers) (disk : Disk) : Type 0 where
   pub sector : layers.geometry.sector ≡ 512
   pub leaf : IfSome layers.leaf (IsReadyLeaf layers.geometry layers.below.items disk)
-  pub below : AreReadable layers.geometry disk layers.below.items
+  pub below : AreReadyFiles layers.geometry disk layers.below.items
+  pub apart : AreApart (file_numbers layers.below.items)
+  pub merge : IfSome layers.merge (IsMergeOf layers.geometry layers.leaf layers.below.items)
 
--- the number of the log's last entry is at most this
+-- the numbers of the last entries of the logs, of the files that are in a session
+abbrev pub log_numbers : Layers → List (Option ℕ)
+log_numbers layers = option_map (λ (leaf : Layer). leaf.log.number) layers.leaf ∷ map log_number layers.below.items
+
+-- each is at most this
 abbrev pub IsLow : ℕ → Layers → Type 0
-IsLow most layers = IfSome layers.leaf (λ leaf. leaf.log.number ≤ most)
+IsLow most layers = AllByRecursion (λ number. IfSome number (λ n. n ≤ most)) (log_numbers layers)
 
 -- Each entry of the history was an event, and each event wrote at most one entry of the log; until a change fails the layers are ready.
 pub record IsSound (s : Session) : Type 0 where

@@ -1,5 +1,5 @@
 -- How a session starts.
-use Rattle.std.specs.Prelude.{◌≡◌, ◌≢◌, ◌⊎◌, ⊤, ◌+◌, ◌-◌, ◌^◌, ◌≤◌, ◌<◌, ℕ, Bool, true, false, is_some, List, [], ◌∷◌, ◌++◌, length, All, Option, Some, None}
+use Rattle.std.specs.Prelude.{◌≡◌, ◌≢◌, ◌⊎◌, ◌==◌, ⊤, ◌+◌, ◌-◌, ◌^◌, ◌≤◌, ◌<◌, ℕ, Bool, true, false, is_some, List, [], ◌∷◌, ◌++◌, length, All, Option, Some, None}
 use Rattle.vx_base.specs.declared.parts.Geometry.{Geometry}
 use Rattle.vx_base.specs.declared.parts.Parts.{Parts}
 use Rattle.store_model.specs.Disk.{Disk, WhereBothTold, WhereTold}
@@ -23,10 +23,11 @@ use Rattle.make_file.specs.Identifiers.{Draws, first_unfit}
 use Rattle.shown_ids.specs.Shown.{shown}
 use Rattle.shown_ids.specs.declared.fault.CollectFault.{CollectFault}
 use Rattle.shown_ids.specs.declared.fault.CollectFault.TheVariants as collect
-use Rattle.layer_session.specs.declared.read_layer.ReadLayer.{ReadLayer}
+use Rattle.layer_session.specs.declared.file_layer.FileLayer.{FileLayer}
+use Rattle.layer_session.specs.declared.file_layer.FileLayer.TheVariants as kind
 use Rattle.layer_session.specs.Begins.{in_session}
 use Rattle.layer_session.specs.ReadOnly.{IsReadOf, SomeReadFailed}
-use Rattle.chain_core.specs.States.{IsServing, State}
+use Rattle.chain_core.specs.States.{IsServing, State, plain}
 use Rattle.chain_core.specs.declared.layers.Layers.{Layers}
 use Rattle.chain_core.specs.declared.starting.Mode.{Mode}
 use Rattle.chain_core.specs.declared.starting.Mode.TheVariants.{Guests, ReadOnly}
@@ -98,10 +99,11 @@ started trace leaf others parts = record {
   leaf = leaf.name;
   retired = [];
   top = as_read trace 0 (seen (file_of trace 0)) parts;
-  others = placed_from trace 1 others;
+  rest = plain (placed_from trace 1 others);
   opening = opening_disk trace (leaf ∷ others);
   history = [];
   began = trace;
+  writes = λ number. number == 0;
 }
 
 -- each image of each moment opens, from the leaf's name, to the disk of the files as they were attached
@@ -203,12 +205,17 @@ RefusesStart ReadOnly files old new before now refusal = RefusesReading old new 
 
 -- ---- of the small functions
 
--- these are layers of these files, numbered from this one on
-abbrev pub AreReadOf : ℕ → List LinkedFile → List ReadLayer → Type 0
+-- this layer reads this file, of this number
+abbrev pub ReadsFile : ℕ → LinkedFile → FileLayer → Type 0
+ReadsFile number file (kind.Session l) = ⊥
+ReadsFile number file (kind.Read l) = IsReadOf file.parts number l
+
+-- these are layers that read these files, numbered from this one on
+abbrev pub AreReadOf : ℕ → List LinkedFile → List FileLayer → Type 0
 AreReadOf number [] [] = ⊤
 AreReadOf number [] (layer ∷ layers) = ⊥
 AreReadOf number (file ∷ files) [] = ⊥
-AreReadOf number (file ∷ files) (layer ∷ layers) = IsReadOf file.parts number layer × AreReadOf (number + 1) files layers
+AreReadOf number (file ∷ files) (layer ∷ layers) = ReadsFile number file layer × AreReadOf (number + 1) files layers
 
 -- identifiers weren't collected: a read of some file failed, or memory ran out
 abbrev pub CollectFails : Disk → Disk → CollectFault → Type 0

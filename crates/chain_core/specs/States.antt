@@ -1,5 +1,5 @@
 -- What a chain keeps in a session, where its store tells its content.
-use Rattle.std.specs.Prelude.{◌≡◌, ◌≢◌, ◌<◌, ℕ, Bool, true, false, if◌then◌else◌, is_some, List, [], ◌∷◌, ◌++◌, Option, Some, None}
+use Rattle.std.specs.Prelude.{◌≡◌, ◌<◌, ℕ, Bool, true, false, if◌then◌else◌, is_some, List, [], ◌∷◌, ◌++◌, length, Option, Some, None, IfSome, ⊤}
 use Rattle.std.specs.List.{AllByRecursion}
 use Rattle.store_model.specs.File.{is_synced}
 use Rattle.store_model.specs.Trace.{Trace, file_of}
@@ -12,28 +12,49 @@ use Rattle.chain_model.specs.Layers.{Layer as SectorLayer, through, with_call}
 use Rattle.chain_model.specs.Members.{layers_of}
 use Rattle.chain_model.specs.Images.{Placed, members_of}
 use Rattle.chain_model.specs.Moments.{EachOpensToPrefix}
-use Rattle.chain_model.specs.Sessions.{IsServed, LooseAtTop}
+use Rattle.chain_model.specs.Sessions.{IsServed, LooseAtTop, LooseInMerge}
 use Rattle.chain_model.specs.PhaseLaws.{IsNamedOnce, loosened}
 use Rattle.layer_session.specs.declared.file.Layer.{Layer}
-use Rattle.layer_session.specs.declared.read_layer.ReadLayer.{ReadLayer}
+use Rattle.layer_session.specs.declared.file_layer.FileLayer.{FileLayer}
 use Rattle.layer_session.specs.Keeping.{Serves}
-use Rattle.layer_session.specs.ReadOnly.{AreRead}
+use Rattle.layer_session.specs.FileLayers.{HaveFiles, log_number, number_of}
+use Rattle.chain_model.specs.Merges.{IsUnderWay}
+use Rattle.merge_core.specs.Copied.{marks_of}
+use Rattle.chain_core.specs.declared.layers.Underway.{Underway}
 use Rattle.chain_core.specs.declared.layers.Layers.{Layers}
 
--- What is said of a session and kept by no code: the name that it was opened by, the retired leaves behind that name, its files from
--- the leaf on, the disk when it began, its history, and the moment when it began.
+-- How a merge stands: what source and target had of each sector when it began, and which stripes are copied.
+pub record Merging : Type 0 where
+  pub first : SectorLayer
+  pub before : SectorLayer
+  pub marks : ℕ → Bool
+
+-- The files below the leaf, from its parent to the base: no merge is under way, or one is, of a source that isn't the leaf into its
+-- parent, the target; `above` are those between the leaf and the source.
+pub data Rest : Type 0 where
+  plain : (others : List Placed) → Rest
+  merging : (above : List Placed) (source target : Placed) (below : List Placed) → Merging → Rest
+
+abbrev pub others_of : Rest → List Placed
+others_of (plain others) = others
+others_of (merging above source target below m) = above ++ (source ∷ target ∷ below)
+
+-- What is said of a session and kept by no code: the name that it was opened by, the retired leaves behind that name, its leaf and the
+-- files below it, the disk when it began, its history, and the moment when it began.
 pub record State : Type 0 where
   pub leaf : List ℕ
   pub retired : List Placed
   pub top : Placed
-  pub others : List Placed
+  pub rest : Rest
   pub opening : Disk
   pub history : History
   pub began : Trace
+  -- the files that it may change, by their numbers
+  pub writes : ℕ → Bool
 
 -- the files of the chain, from the leaf to the base
 abbrev pub files_of : State → List Placed
-files_of v = v.top ∷ v.others
+files_of v = v.top ∷ others_of v.rest
 
 -- the size of a sector
 abbrev pub sector_of : State → ℕ
@@ -77,25 +98,56 @@ seen_in files = through (layers_of (members_of files))
 
 -- Layers have these files of the store: in a session the leaf's layer serves the first, and the others are read; with no session all are
 -- read, and nothing is loose.
-abbrev pub AreHeld : Option Layer → List ReadLayer → Trace → Placed → List Placed → Type 0
-AreHeld None below trace top others = ((s : ℕ) → top.is_loose s ≡ false) × AreRead below trace (top ∷ others)
-AreHeld (Some leaf) below trace top others = Serves leaf trace top × AreRead below trace others
+abbrev pub AreHeld : Option Layer → List FileLayer → Trace → Placed → List Placed → Type 0
+AreHeld None below trace top others = ((s : ℕ) → top.is_loose s ≡ false) × HaveFiles below trace (top ∷ others)
+AreHeld (Some leaf) below trace top others = Serves leaf trace top × HaveFiles below trace others
 
--- no file but the leaf was changed since the session began
+-- a file is in a session: its log has a last entry
+abbrev pub is_session : FileLayer → Bool
+is_session l = is_some (log_number l)
+
+-- Only the leaf has loose sectors, which are dirty ones; while a merge is under way the target has, too, of those that the source owns.
+abbrev pub IsLoose : (ℕ → Bool) → Placed → Rest → Type 0
+IsLoose is_dirty top (plain others) = LooseAtTop is_dirty (top ∷ others)
+IsLoose is_dirty top (merging above source target below m) = LooseInMerge is_dirty (top ∷ above) source target below
+
+-- no file was changed since the session began but those that it may change
 abbrev pub LeavesOthers : State → Trace → Type 0
-LeavesOthers v trace = (other : ℕ) → other ≢ v.top.number → file_of trace other ≡ file_of v.began other
+LeavesOthers v trace = (other : ℕ) → v.writes other ≡ false → file_of trace other ≡ file_of v.began other
 
--- A session in which no change failed, with no merge: the history's disk is that of its files, which its layers have; only the leaf has
--- loose sectors, which are dirty ones; and each moment since it began opens to a prefix of the history.
+-- of some files those in a session are the ones that it may change
+abbrev pub AreWritten : (ℕ → Bool) → List FileLayer → Type 0
+AreWritten writes layers = AllByRecursion (λ l. writes (number_of l) ≡ is_session l) layers
+
+-- A merge that the code keeps is the one under way: of the source at its place, with the marks of the stripes that are copied. What the
+-- source owns in a marked stripe is in the target, and elsewhere both are as they were.
+pub record IsUnder (z : ℕ) (writes : ℕ → Bool) (u : Underway) (above : List Placed) (source target : Placed) (m : Merging) : Type 0 where
+  pub place : u.source ≡ length above
+  pub written : writes target.number ≡ true
+  pub marks : (t : ℕ) → marks_of u.marks t ≡ m.marks t
+  pub under_way : IsUnderWay z m.first m.before [] m.marks source.member.layer target.member.layer
+
+-- the code keeps a merge where one is under way
+abbrev pub IsCourse : ℕ → (ℕ → Bool) → Option Underway → Rest → Type 0
+IsCourse z writes None (plain others) = ⊤
+IsCourse z writes None (merging above source target below m) = ⊥
+IsCourse z writes (Some u) (plain others) = ⊥
+IsCourse z writes (Some u) (merging above source target below m) = IsUnder z writes u above source target m
+
+-- A session in which no change failed: the history's disk is that of its files, which its layers have; only the leaf has loose sectors,
+-- which are dirty ones, and the target of a merge under way, of those that its source owns; and each moment since it began opens to a
+-- prefix of the history.
 pub record IsServing (layers : Layers) (v : State) (trace : Trace) : Type 0 where
   pub once : IsNamedOnce trace
   pub geometry : layers.geometry ≡ v.top.member.ties.geometry
   pub served : IsServed (sector_of v) v.opening v.history v.leaf v.retired (files_of v) trace
-  pub loose : LooseAtTop (dirty_now v) (files_of v)
-  pub held : AreHeld layers.leaf layers.below.items trace v.top v.others
+  pub loose : IsLoose (dirty_now v) v.top v.rest
+  pub course : IsCourse (sector_of v) v.writes layers.merge v.rest
+  pub held : AreHeld layers.leaf layers.below.items trace v.top (others_of v.rest)
   -- each sector of the disk is in one of the files
   pub whole : (s : ℕ) → s < v.top.member.ties.geometry.sectors → is_some (seen_in (files_of v) s) ≡ true
-  -- nothing of any file was unsynced when it began, and no other has changed since
+  -- nothing of any file was unsynced when it began, and none that is only read has changed since
   pub synced : AllByRecursion (λ f. is_synced (file_of v.began f.number) ≡ true) (files_of v)
+  pub written : IfSome layers.leaf (λ leaf. (v.writes v.top.number ≡ true) × AreWritten v.writes layers.below.items)
   pub still : LeavesOthers v trace
   pub past : EachOpensToPrefix (sector_of v) v.opening v.history (λ s. false) v.leaf v.began trace

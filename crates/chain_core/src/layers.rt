@@ -10,9 +10,19 @@ ghost use Rattle.chain_core.specs.Answering.{EndsTold, FailsByChange, LayerRoomI
 ghost use Rattle.chain_core.specs.Reading.{AddsPart, Finds, HasOnlyRead, of_read, of_session};
 ghost use Rattle.chain_core.specs.Sessions.{AreReady, IsLow};
 
-use layer_session::{Layer, LayerFault, ReadLayer, own_through};
+use layer_session::{FileLayer, Layer, LayerFault, own_files};
+use merge_core::Marks;
 use store_model::{Store, StoreFault};
 use vx_base::Geometry;
+
+/// A merge that is under way, of the file at a place below the leaf into the one behind it.
+#[derive(Drop)]
+pub struct Underway {
+    /// The source's place among the files below the leaf.
+    pub(crate) source: usize,
+    /// Which stripes are copied.
+    pub(crate) marks: Marks,
+}
 
 /// The layers of a chain's files, whose disk has this geometry.
 #[derive(Drop)]
@@ -20,8 +30,10 @@ pub struct Layers {
     pub(crate) geometry: Geometry,
     /// The leaf's session; none where the chain is only read.
     pub(crate) leaf: Option<Layer>,
-    /// The files that are only read, the upper one first: those below the leaf, or all.
-    pub(crate) below: Vec<ReadLayer>,
+    /// The other files, the upper one first: those below the leaf's session, or all.
+    pub(crate) below: Vec<FileLayer>,
+    /// The merge, once one is prepared and until it is finished.
+    pub(crate) merge: Option<Underway>,
 }
 
 impl Layers {
@@ -56,7 +68,7 @@ impl Layers {
         }
     }
 
-    // Adds what the files have that are only read.
+    // Adds what the other files have.
     fn own_below<S: Store>(
         &mut self,
         store: &mut S,
@@ -75,7 +87,7 @@ impl Layers {
         ensures err { IfErr result (SomeReadFailed (S.disk store.old) (S.disk store.new)) }
     {
         let below = self.below.as_mut_slice();
-        own_through(below, store, self.geometry, first, count, out, mask, 0)
+        own_files(below, store, self.geometry, first, count, out, mask, 0)
     }
 
     /// Finds sectors of the disk, file by file.
@@ -188,6 +200,7 @@ impl Layers {
             geometry: _,
             leaf,
             below: _,
+            merge: _,
         } = self;
         match leaf {
             Some(leaf) => leaf.end(store),

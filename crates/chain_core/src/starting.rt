@@ -13,7 +13,7 @@ ghost use Rattle.chain_core.specs.Sessions.{AreReady, IsLow};
 ghost use Rattle.chain_core.specs.Starting.{AreAsOpened, AreReadOf, BeginsHigh, BeginsLow, BeginsNot, CanStart, CollectFails, EachOpensAlike, HasBegun, HasStarted, IsOfDisk, JudgesIds, LeavesOthersFrom, RefusesGuests, RefusesSession, RefusesStart, StartsWith, drawn_ids, session_ids, shown_from, under};
 
 use crate::layers::Layers;
-use layer_session::{Layer, ReadLayer};
+use layer_session::{FileLayer, Layer, ReadLayer};
 use link_rules::LinkedFile;
 use log_write::SessionIds;
 use shown_ids::{CollectFault, collect};
@@ -229,7 +229,7 @@ fn choose_ids<S: Store, I: Ids>(
 }
 
 // Layers of files that are only read, of which the first has this number in the store.
-fn layers_of(alloc: Global, first: u32, files: &[LinkedFile]) -> Result<Vec<ReadLayer>, NoRoom>
+fn layers_of(alloc: Global, first: u32, files: &[LinkedFile]) -> Result<Vec<FileLayer>, NoRoom>
     requires few { first + length files.now ≤ 64 }
     requires served { All IsServed files.now }
     ensures { IfOk result (λ layers. AreReadOf first files.now layers.items) }
@@ -237,7 +237,8 @@ fn layers_of(alloc: Global, first: u32, files: &[LinkedFile]) -> Result<Vec<Read
     let mut layers = Vec::new(alloc);
     for (place, file) in files.iter().enumerate() {
         let number = first + place as u32;
-        layers.push(ReadLayer::new(alloc, number, &file.parts, OTHER_PAGES)?)?;
+        let layer = ReadLayer::new(alloc, number, &file.parts, OTHER_PAGES)?;
+        layers.push(FileLayer::Read(layer))?;
     }
     Ok(layers)
 }
@@ -282,6 +283,7 @@ impl Layers {
             geometry: leaf.parts.geometry,
             leaf: Some(session),
             below,
+            merge: None,
         })
     }
 
@@ -314,6 +316,7 @@ impl Layers {
         requires few { length files.now ≤ 64 }
         requires served { All IsServed files.now }
         ensures leaf { IfOk result (λ layers. layers.leaf ≡ None) }
+        ensures merge { IfOk result (λ layers. layers.merge ≡ None) }
         ensures geometry { IfOk result (λ layers. IsOfDisk files.now layers.geometry) }
         ensures below { IfOk result (λ layers. AreReadOf 0 files.now layers.below.items) }
     {
@@ -325,6 +328,7 @@ impl Layers {
             geometry: leaf.parts.geometry,
             leaf: None,
             below,
+            merge: None,
         })
     }
 

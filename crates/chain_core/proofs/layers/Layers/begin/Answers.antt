@@ -1,11 +1,11 @@
 use Rattle.std.proofs.Common.{◌≡◌, suc, arith, refl, subst}
-use Rattle.std.specs.Prelude.{Some}
+use Rattle.std.specs.Prelude.{None, Some}
 use Rattle.log_write.specs.declared.ids.SessionIds.{SessionIds}
 use Rattle.layer_session.specs.Begins.{in_session}
 use Rattle.chain_core.specs.declared.layers.Layers.{Layers}
 use Rattle.chain_core.specs.Starting.{StartsWith, session_ids}
 use Rattle.std.specs.Prelude.{◌∷◌}
-use Rattle.chain_core.proofs.Beginning.{begun_moments, begun_ready, begun_serving, none_changed, others_stay, rest_moments}
+use Rattle.chain_core.proofs.Beginning.{begun_moments, begun_ready, begun_serving, none_changed, none_logged, others_stay, rest_moments}
 use Rattle.chain_core.proofs.layers.Layers.begin.Goals as goal
 
 pub returns-in_err-below-clause-moments : goal.returns-in_err-below-clause-moments
@@ -32,15 +32,15 @@ returns-clause-still g c =
 
 pub returns-clause-serving : goal.returns-clause-serving
 returns-clause-serving g c =
-    let layers : Layers = record { geometry = c.args.leaf.now.parts.geometry; leaf = Some c.in_ok-session.session; below = c.in_ok-below.below } in
+    let layers : Layers = record { geometry = c.args.leaf.now.parts.geometry; leaf = Some c.in_ok-session.session; below = c.in_ok-below.below; merge = None } in
     subst (λ (ids : SessionIds). StartsWith (λ parts. in_session parts ids) (c.args.leaf.now ∷ c.args.others.now) layers (g.S.Store.disk c.args.store.now).told (g.S.Store.disk c.begin.new.store).told) c.of_session.ensures
-    (begun_serving c.args.leaf.now c.args.others.now c.of_session.result layers c.in_ok-session.session (g.S.Store.disk c.args.store.now) (g.S.Store.disk c.begin.new.store) c.requires.files refl refl c.in_ok-below.ensures
+    (begun_serving c.args.leaf.now c.args.others.now c.of_session.result layers c.in_ok-session.session (g.S.Store.disk c.args.store.now) (g.S.Store.disk c.begin.new.store) c.requires.files refl refl refl c.in_ok-below.ensures
     c.begin.ensures.moments c.in_ok-session.ensures.served)
 
 pub returns-clause-ready : goal.returns-clause-ready
 returns-clause-ready g c =
-    let layers : Layers = record { geometry = c.args.leaf.now.parts.geometry; leaf = Some c.in_ok-session.session; below = c.in_ok-below.below } in
-    begun_ready c.args.leaf.now c.args.others.now c.of_session.result layers c.in_ok-session.session (g.S.Store.disk c.args.store.now) (g.S.Store.disk c.begin.new.store) c.requires.files refl refl c.in_ok-below.ensures
+    let layers : Layers = record { geometry = c.args.leaf.now.parts.geometry; leaf = Some c.in_ok-session.session; below = c.in_ok-below.below; merge = None } in
+    begun_ready c.args.leaf.now c.args.others.now c.of_session.result layers c.in_ok-session.session (g.S.Store.disk c.args.store.now) (g.S.Store.disk c.begin.new.store) c.requires.files refl refl refl c.in_ok-below.ensures
     c.begin.ensures.moments c.in_ok-session.ensures.ready c.in_ok-session.ensures.parts c.in_ok-session.ensures.counts
 
 pub layers_of-requires-clause-served : goal.layers_of-requires-clause-served
@@ -48,3 +48,6 @@ layers_of-requires-clause-served g c = λ k d below. c.requires.files.served (su
 
 pub begin-requires-clause-numbers : goal.begin-requires-clause-numbers
 begin-requires-clause-numbers g c = (c.requires.files.served 0 c.args.leaf.now (omega arith)).numbers
+
+pub returns-clause-low : goal.returns-clause-low
+returns-clause-low g c = (omega (arith, c.in_ok-session.ensures.parts.first), none_logged 1 1 c.args.others.now c.in_ok-below.below.items c.in_ok-below.ensures)

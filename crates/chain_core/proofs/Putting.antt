@@ -1,0 +1,316 @@
+-- A piece is put into the target of a merge.
+use Rattle.std.proofs.Common.{◌⊎◌, inl, inr, ◌==◌, ◌||◌, ◌≡◌, ◌≢◌, ◌<◌, ◌+◌, ℕ, suc, Bool, true, false, List, [], ◌∷◌, ◌++◌, length, map, refl, sym, ap, subst, ◌∙◌, arith, is_some}
+use Rattle.std.specs.Prelude.{Option, Some, None, IfSome, Result, Ok, Err}
+use Rattle.std.specs.List.{AllByRecursion}
+use Rattle.std.specs.Option.{option_or}
+use Rattle.std.proofs.lemmas.Bool.{or_parts, or_from}
+use Rattle.std.proofs.lemmas.Bool.{cases_eq}
+use Rattle.std.proofs.lemmas.List.{append_assoc, length-append, map-append}
+use Rattle.store_model.specs.File.{is_synced}
+use Rattle.store_model.specs.Trace.{Trace, file_of}
+use Rattle.guest_model.specs.History.{either, replay}
+use Rattle.chain_model.specs.Layers.{Layer as SectorLayer, over, through}
+use Rattle.chain_model.specs.Merges.{IsTrue, IsUnderWay, Piece, with_mark}
+use Rattle.chain_model.specs.Stripes.{per_stripe, stamp, stripe_of}
+use Rattle.chain_model.specs.Members.{IsChainOf, Member, NoneTwice, disk_of, layers_of, names_of}
+use Rattle.chain_model.specs.Images.{Placed, members_of}
+use Rattle.chain_model.specs.Moments.{EachOpens, HasWholeImages, IsPhase}
+use Rattle.chain_model.specs.Sessions.{GoesOver, HasGoneOver, IsKept, IsServed, LooseInMerge, ShowsFile}
+use Rattle.chain_model.specs.PhaseLaws.{Survives, loosened}
+use Rattle.chain_model.proofs.Calling.{loosened_is_kept}
+use Rattle.chain_model.proofs.Phasing.{members_append, target_goes_over}
+use Rattle.chain_model.proofs.Serving.{loose_is_dirty, past_goes_on}
+use Rattle.chain_model.proofs.Merging.{kept_by_put, true_pieces}
+use Rattle.chain_model.proofs.Stamping.{stamps_by_call}
+use Rattle.layer_session.specs.declared.file.Layer.{Layer}
+use Rattle.layer_session.specs.declared.file.LayerFault.{LayerFault}
+use Rattle.layer_session.specs.declared.file.LayerFault.TheVariants.{Read, Write, FileFull}
+use Rattle.layer_session.specs.declared.file_layer.FileLayer.{FileLayer}
+use Rattle.layer_session.specs.declared.file_layer.FileLayer.TheVariants.{Session}
+use Rattle.layer_session.specs.FileLayers.{HasFile, HaveFiles}
+use Rattle.layer_session.specs.Keeping.{Serves}
+use Rattle.layer_session.proofs.Crashes.{layers_are_kept}
+use Rattle.layer_session.proofs.FileLayers.{file_layers_stand}
+use Rattle.layer_session.proofs.Standing.{layers_stand}
+use Rattle.merge_core.specs.Copied.{marks_of}
+use Rattle.chain_core.specs.declared.layers.Layers.{Layers}
+use Rattle.chain_core.specs.declared.layers.Underway.{Underway}
+use Rattle.chain_core.specs.Answering.{EachOpensNow, HasEnded, IsRefused}
+use Rattle.chain_core.specs.Merging.{IsCopied, IsTruePiece, PutAnswers, is_in, put_on, with_piece, with_put}
+use Rattle.chain_core.specs.States.{AreHeld, AreWritten, IsCourse, IsServing, IsUnder, LeavesOthers, Merging, Rest, State, dirty_now, disk_now, files_of, merging, others_of, plain, sector_of, seen_in}
+use Rattle.chain_core.proofs.Steps.{all_right, apart, goes_over, names_behind, phase_beside, phase_others, still_once, still_read}
+
+-- ---- one file among others
+
+pub have_parts : (a : List FileLayer) (x : FileLayer) (b : List FileLayer) (trace : Trace) (p : List Placed) (file : Placed) (q : List Placed) → length a ≡ length p → HaveFiles (a ++ x ∷ b) trace (p ++ file ∷ q)
+    → HaveFiles a trace p × (HasFile x trace file × HaveFiles b trace q)
+have_parts [] x b trace [] file q same have = (tt, (have.0, have.1))
+have_parts [] x b trace (r ∷ p) file q same have = absurd (omega arith)
+have_parts (l ∷ a) x b trace [] file q same have = absurd (omega arith)
+have_parts (l ∷ a) x b trace (r ∷ p) file q same have =
+    let rest = have_parts a x b trace p file q (omega arith) have.1 in
+    ((have.0, rest.0), rest.1)
+
+pub have_all : (a : List FileLayer) (x : FileLayer) (b : List FileLayer) (trace : Trace) (p : List Placed) (file : Placed) (q : List Placed) → HaveFiles a trace p → HasFile x trace file → HaveFiles b trace q
+    → HaveFiles (a ++ x ∷ b) trace (p ++ file ∷ q)
+have_all [] x b trace [] file q first own rest = (own, rest)
+have_all [] x b trace (r ∷ p) file q first own rest = absurd first
+have_all (l ∷ a) x b trace [] file q first own rest = absurd first
+have_all (l ∷ a) x b trace (r ∷ p) file q first own rest = (first.0, have_all a x b trace p file q first.1 own rest)
+
+-- the numbers of the files round one are others than its own
+pub apart_around : (trace : Trace) (p : List Placed) (file : Placed) (q : List Placed) → AllByRecursion (IsKept trace) (p ++ file ∷ q) → NoneTwice (names_of (members_of (p ++ file ∷ q)))
+    → AllByRecursion (λ f. f.number ≢ file.number) p × AllByRecursion (λ f. f.number ≢ file.number) q
+apart_around trace [] file q kept once = (tt, apart trace file q kept.0 kept.1 once.0)
+apart_around trace (r ∷ p) file q kept once =
+    let far = apart trace r (p ++ file ∷ q) kept.0 kept.1 once.0 in
+    let rest = apart_around trace p file q kept.1 once.1 in
+    (((λ same. all_there p file q far (sym same)), rest.0), rest.1)
+  where
+    all_there : (p : List Placed) (file : Placed) (q : List Placed) → AllByRecursion (λ f. f.number ≢ r.number) (p ++ file ∷ q) → file.number ≢ r.number
+    all_there [] file q all = all.0
+    all_there (x ∷ p) file q all = all_there p file q all.1
+
+pub all_split : (P : Placed → Type 0) (p : List Placed) (file new : Placed) (q : List Placed) → (P file → P new) → AllByRecursion P (p ++ file ∷ q) → AllByRecursion P (p ++ new ∷ q)
+all_split P [] file new q h all = (h all.0, all.1)
+all_split P (r ∷ p) file new q h all = (all.0, all_split P p file new q h all.1)
+
+there_first : (o x y : Option (List ℕ)) → (is_some x ≡ true → is_some y ≡ true) → is_some (option_or o x) ≡ true → is_some (option_or o y) ≡ true
+there_first (Some k) x y more there = refl
+there_first None x y more there = more there
+
+-- what is seen through layers is there still, where one of them owns more
+pub there_through : (a : List SectorLayer) (x y : SectorLayer) (b : List SectorLayer) (s : ℕ) → (is_some (x s) ≡ true → is_some (y s) ≡ true) → is_some (through (a ++ x ∷ b) s) ≡ true → is_some (through (a ++ y ∷ b) s) ≡ true
+there_through [] x y b s more there = by_first (x s) (y s) more there
+  where
+    by_first : (o n : Option (List ℕ)) → (is_some o ≡ true → is_some n ≡ true) → is_some (option_or o (through b s)) ≡ true → is_some (option_or n (through b s)) ≡ true
+    by_first o (Some k) more there = refl
+    by_first None None more there = there
+    by_first (Some k) None more there = absurd (let never : false ≡ true = more refl in cc)
+there_through (l ∷ a) x y b s more there = there_first (l s) (through (a ++ x ∷ b) s) (through (a ++ y ∷ b) s) (there_through a x y b s more) there
+
+-- ---- the target
+
+-- the target's layer before and after, the other layers staying
+pub record TargetStep (old new : Layers) (u : Underway) (a : List FileLayer) (l next : Layer) (b : List FileLayer) : Type 0 where
+  pub leaf : Layer
+  pub geometry : new.geometry ≡ old.geometry
+  pub leaf_was : old.leaf ≡ Some leaf
+  pub leaf_now : new.leaf ≡ Some leaf
+  pub merge : old.merge ≡ Some u
+  pub place : length a ≡ u.source + 1
+  pub was : old.below.items ≡ a ++ Session l ∷ b
+  pub now : new.below.items ≡ a ++ Session next ∷ b
+
+-- what its layer does with a piece
+pub record IsPut (piece : Piece) (target : Placed) (next : Layer) (trace now : Trace) : Type 0 where
+  pub moments : IsPhase target.number (ShowsFile (loosened (either target.is_loose (is_in piece)) target)) trace now
+  pub holds : Serves next now (with_piece piece target)
+
+pub record IsKeptAs (target : Placed) (next : Layer) (trace now : Trace) : Type 0 where
+  pub moments : IsPhase target.number (ShowsFile target) trace now
+  pub holds : Serves next now target
+
+pub record HasFailedPut (piece : Piece) (target : Placed) (trace now : Trace) : Type 0 where
+  pub moments : IsPhase target.number (ShowsFile (loosened (either target.is_loose (is_in piece)) target)) trace now
+
+abbrev pub AnswersPut : Piece → Placed → Layer → Trace → Trace → Result (Unit {0}) LayerFault → Type 0
+AnswersPut piece target next trace now (Ok done) = IsPut piece target next trace now
+AnswersPut piece target next trace now (Err (Read fault)) = IsKeptAs target next trace now
+AnswersPut piece target next trace now (Err (FileFull n)) = IsKeptAs target next trace now
+AnswersPut piece target next trace now (Err (Write fault)) = HasFailedPut piece target trace now
+
+layers_append : (p q : List Placed) → layers_of (members_of (p ++ q)) ≡ layers_of (members_of p) ++ layers_of (members_of q)
+layers_append p q = ap layers_of (members_append p q) ∙ map-append (λ (x : Member). x.layer) (members_of p) (members_of q)
+
+-- ---- a chain in which a merge is under way
+
+module _ (v : State) (top : Placed) (above : List Placed) (source target : Placed) (below : List Placed) (m : Merging) where
+  -- the state
+  abbrev here : State
+  here = record v { top = top; rest = merging above source target below m }
+
+  -- the files before the target, and all of them with another target
+  abbrev front : List Placed
+  front = above ++ source ∷ []
+
+  abbrev files_with : Placed → List Placed
+  files_with t = top ∷ above ++ (source ∷ t ∷ below)
+
+  pub parted : (t : Placed) → front ++ t ∷ below ≡ above ++ (source ∷ t ∷ below)
+  parted t = append_assoc above (source ∷ []) (t ∷ below)
+
+  -- those below the leaf and the others' numbers
+  module _ (layers : Layers) (leaf : Layer) (trace : Trace) (serving : IsServing layers here trace) (is : layers.leaf ≡ Some leaf) where
+    abbrev kept : AllByRecursion (IsKept trace) (files_with target)
+    kept = all_right (IsKept trace) v.retired (files_with target) serving.served.kept
+
+    abbrev once_all : NoneTwice (names_of (members_of (files_with target)))
+    once_all = names_behind v.retired (files_with target) serving.served.linked.once
+
+    pub round : AllByRecursion (λ f. f.number ≢ target.number) (top ∷ front) × AllByRecursion (λ f. f.number ≢ target.number) below
+    round =
+        apart_around trace (top ∷ front) target below (subst (λ (c : List Placed). AllByRecursion (IsKept trace) (top ∷ c)) (sym (parted target)) kept)
+        (subst (λ (c : List Placed). NoneTwice (names_of (members_of (top ∷ c)))) (sym (parted target)) once_all)
+
+    pub held : Serves leaf trace top × HaveFiles layers.below.items trace (front ++ target ∷ below)
+    held =
+        let h : Serves leaf trace top × HaveFiles layers.below.items trace (above ++ (source ∷ target ∷ below)) =
+        subst (λ o. AreHeld o layers.below.items trace top (above ++ (source ∷ target ∷ below))) is serving.held in
+        (h.0, subst (λ (c : List Placed). HaveFiles layers.below.items trace c) (sym (parted target)) h.1)
+
+    -- the target's file goes over to another state, under another layer
+    module _ (a : List FileLayer) (l : Layer) (b : List FileLayer) (was : layers.below.items ≡ a ++ Session l ∷ b) (place : length a ≡ length above + 1) where
+      abbrev lined : HaveFiles a trace front × (Serves l trace target × HaveFiles b trace below)
+      lined =
+          let same : length a ≡ length front = place ∙ sym (length-append above (source ∷ [])) in
+          have_parts a (Session l) b trace front target below same (subst (λ (c : List FileLayer). HaveFiles c trace (front ++ target ∷ below)) was held.1)
+
+      pub serves_target : Serves l trace target
+      serves_target = lined.1.0
+
+      -- the others stand while it does
+      pub held_on : (new : Layers) (next : Layer) (other : Placed) (P : List ℕ → Type 0) (now : Trace) → IsPhase target.number P trace now → new.leaf ≡ Some leaf → new.below.items ≡ a ++ Session next ∷ b → Serves next now other
+          → AreHeld new.leaf new.below.items now top (above ++ (source ∷ other ∷ below))
+      held_on new next other P now phase leaf_now items serves =
+          let first : HaveFiles a now front = still_read target.number P trace now phase a front round.0.1 lined.0 in
+          let rest : HaveFiles b now below = still_read target.number P trace now phase b below round.1 lined.1.1 in
+          let all : HaveFiles (a ++ Session next ∷ b) now (front ++ other ∷ below) = have_all a (Session next) b now front other below first serves rest in
+          let here_all : HaveFiles new.below.items now (above ++ (source ∷ other ∷ below)) =
+          subst (λ (c : List FileLayer). HaveFiles c now (above ++ (source ∷ other ∷ below))) (sym items) (subst (λ (c : List Placed). HaveFiles (a ++ Session next ∷ b) now c) (parted other) all) in
+          let top_stands : Serves leaf now top = layers_stand.beside leaf trace now top held.0 (phase_beside target.number P trace now phase top.number round.0.0) in
+          subst (λ o. AreHeld o new.below.items now top (above ++ (source ∷ other ∷ below))) (sym leaf_now) (top_stands, here_all)
+
+      -- what a phase of the target leaves of the session, once it shows the other state
+      pub serving_on : (new : Layers) (u : Underway) (next : Layer) (other : Placed) (marks : ℕ → Bool) (P : List ℕ → Type 0) (now : Trace) → IsPhase target.number P trace now → new.geometry ≡ layers.geometry → new.leaf ≡ Some leaf → new.merge ≡ Some u
+          → new.below.items ≡ a ++ Session next ∷ b → Serves next now other → other.number ≡ target.number → v.writes target.number ≡ true
+          → ((s : ℕ) → is_some (target.member.layer s) ≡ true → is_some (other.member.layer s) ≡ true)
+          → IsServed (sector_of here) v.opening v.history v.leaf v.retired (files_with other) now
+          → LooseInMerge (dirty_now here) (top ∷ above) source other below
+          → IsUnder (sector_of here) v.writes u above source other (record m { marks = marks })
+          → AreWritten v.writes new.below.items
+          → EachOpensNow here trace now
+          → IsServing new (record v { top = top; rest = merging above source other below (record m { marks = marks }) }) now
+      serving_on new u next other marks P now phase geometry leaf_now merge items serves number written more served loose under all_written moments = record {
+        once = still_once target.number P trace now phase serving.once;
+        geometry = geometry ∙ serving.geometry;
+        served = served;
+        loose = loose;
+        course = subst (λ o. IsCourse (sector_of here) v.writes o (merging above source other below (record m { marks = marks }))) (sym merge) under;
+        held = held_on new next other P now phase leaf_now items serves;
+        whole = λ s inside. there_on s (serving.whole s inside);
+        synced = subst (AllByRecursion (λ f. is_synced (file_of v.began f.number) ≡ true)) (ap (λ (c : List Placed). top ∷ c) (parted other))
+            (all_split (λ f. is_synced (file_of v.began f.number) ≡ true) (top ∷ front) target other below (λ h. ap (λ (n : ℕ). is_synced (file_of v.began n)) number ∙ h)
+            (subst (AllByRecursion (λ f. is_synced (file_of v.began f.number) ≡ true)) (ap (λ (c : List Placed). top ∷ c) (sym (parted target))) serving.synced));
+        written = subst (λ o. IfSome o (λ leaf. (v.writes top.number ≡ true) × AreWritten v.writes new.below.items)) (sym leaf_now)
+            ((subst (λ o. IfSome o (λ leaf. (v.writes top.number ≡ true) × AreWritten v.writes layers.below.items)) is serving.written).0, all_written);
+        still = λ n none. phase_others target.number P trace now phase n (λ same. let never : true ≡ false = sym written ∙ ap v.writes (sym same) ∙ none in cc) ∙ serving.still n none;
+        past = past_goes_on.quiet (sector_of here) v.opening v.history (λ s. false) v.leaf v.began trace now serving.past moments;
+      }
+        where
+          there_on : (s : ℕ) → is_some (seen_in (files_with target) s) ≡ true → is_some (seen_in (files_with other) s) ≡ true
+          there_on s there =
+              subst (λ (c : List Placed). is_some (seen_in (top ∷ c) s) ≡ true) (parted other)
+              (subst (λ (c : List SectorLayer). is_some (through c s) ≡ true) (sym (layers_append (top ∷ front) (other ∷ below)))
+              (there_through (layers_of (members_of (top ∷ front))) target.member.layer other.member.layer (layers_of (members_of below)) s (more s)
+              (subst (λ (c : List SectorLayer). is_some (through c s) ≡ true) (layers_append (top ∷ front) (target ∷ below))
+              (subst (λ (c : List Placed). is_some (seen_in (top ∷ c) s) ≡ true) (sym (parted target)) there))))
+
+      -- ---- a put
+
+      module _ (new : Layers) (u u' : Underway) (next : Layer) (piece : Piece) (now : Trace) (geometry : new.geometry ≡ layers.geometry) (leaf_now : new.leaf ≡ Some leaf) (merge : layers.merge ≡ Some u) (items : new.below.items ≡ a ++ Session next ∷ b)
+          (stripes : 0 < per_stripe (sector_of here)) (true_piece : IsTrue (sector_of here) m.first [] piece) (stamp_is : piece.stamp ≡ 0) (all_written : AreWritten v.writes new.below.items) where
+        abbrev z : ℕ
+        z = sector_of here
+
+        abbrev wide : Placed
+        wide = loosened (either target.is_loose (is_in piece)) target
+
+        abbrev after : Placed
+        after = with_piece piece target
+
+        under_old : IsUnder z v.writes u above source target m
+        under_old = subst (λ o. IsCourse z v.writes o (merging above source target below m)) merge serving.course
+
+        -- what the source doesn't own isn't in the piece
+        none_there : (s : ℕ) → source.member.layer s ≡ None → piece.sectors s ≡ None
+        none_there s none = by_stripe (cases_eq (stripe_of z s) piece.stripe)
+          where
+            by_stripe : (stripe_of z s ≡ piece.stripe) ⊎ (stripe_of z s ≢ piece.stripe) → piece.sectors s ≡ None
+            by_stripe (inr out) = true_piece.within s out
+            by_stripe (inl same) = true_pieces.current z m.first [] piece s stripes true_piece (stamp_is ∙ sym (stamps_by_call.none z piece.stripe)) same ∙ sym (under_old.under_way.source_is s) ∙ none
+
+        loose_before : LooseInMerge (dirty_now here) (top ∷ above) source wide below
+        loose_before = record { others = serving.loose.others; owned = λ s none. or_from (target.is_loose s) (is_in piece s) (serving.loose.owned s none) (ap is_some (none_there s none)) }
+
+        loose_after : LooseInMerge (dirty_now here) (top ∷ above) source after below
+        loose_after = record { others = serving.loose.others; owned = loose_before.owned }
+
+        served_wide : IsServed z v.opening v.history v.leaf v.retired (files_with wide) trace
+        served_wide =
+            let same : members_of (files_with wide) ≡ members_of (files_with target) = ap (λ (c : List Placed). members_of (top ∷ c)) (sym (parted wide)) ∙ members_append (top ∷ front) (wide ∷ below) ∙ sym (members_append (top ∷ front) (target ∷ below))
+                ∙ ap (λ (c : List Placed). members_of (top ∷ c)) (parted target) in
+            record {
+              linked = subst (λ c. IsChainOf v.leaf (members_of v.retired) c) (sym same) serving.served.linked;
+              kept = kept_wide v.retired serving.served.kept;
+              disk = ap disk_of same ∙ serving.served.disk;
+            }
+          where
+            kept_in : AllByRecursion (IsKept trace) (files_with target) → AllByRecursion (IsKept trace) (files_with wide)
+            kept_in all =
+                subst (λ (c : List Placed). AllByRecursion (IsKept trace) (top ∷ c)) (parted wide)
+                (all_split (IsKept trace) (top ∷ front) target wide below (loosened_is_kept wide.is_loose target trace (λ s out. (or_parts (target.is_loose s) (is_in piece s) out).0))
+                (subst (λ (c : List Placed). AllByRecursion (IsKept trace) (top ∷ c)) (sym (parted target)) all))
+            kept_wide : (r : List Placed) → AllByRecursion (IsKept trace) (r ++ files_with target) → AllByRecursion (IsKept trace) (r ++ files_with wide)
+            kept_wide [] all = kept_in all
+            kept_wide (p ∷ r) all = (all.0, kept_wide r all.1)
+
+        survives : IsPhase target.number (ShowsFile wide) trace now → Survives z v.opening v.history v.leaf (dirty_now here) after v.retired (files_with after) trace now
+        survives phase =
+            target_goes_over z v.opening v.history v.leaf (dirty_now here) v.retired (top ∷ above) source wide after below trace now serving.once served_wide (goes_over wide after trace now refl refl phase)
+            (λ s none. over_none (piece.sectors s) (target.member.layer s) (none_there s none)) refl loose_before loose_after
+          where
+            over_none : (o t : Option (List ℕ)) → o ≡ None → option_or o t ≡ t
+            over_none None t h = refl
+            over_none (Some k) t h = absurd (let never : Some k ≡ None = h in cc)
+
+        pub copied : IsPut piece target next trace now → new.merge ≡ Some u' → u'.source ≡ u.source → ((t : ℕ) → marks_of u'.marks t ≡ with_mark piece.stripe (marks_of u.marks) t)
+            → IsCopied piece here new trace now
+        copied put merge_now place_now marks_now =
+            let over = survives put.moments in
+            record {
+              moments = over.moments;
+              serving = serving_on new u' next after (with_mark piece.stripe m.marks) (ShowsFile wide) now put.moments geometry leaf_now merge_now items put.holds refl under_old.written
+                  (λ s there. more (piece.sectors s) (target.member.layer s) there) (over.served (layers_are_kept next now after put.holds).shows) loose_after
+                  (record {
+                    place = place_now ∙ under_old.place;
+                    written = under_old.written;
+                    marks = λ t. marks_now t ∙ ap (λ b. (t == piece.stripe) || b) (under_old.marks t);
+                    under_way = kept_by_put z m.first m.before [] piece m.marks source.member.layer target.member.layer after.member.layer stripes true_piece (stamp_is ∙ sym (stamps_by_call.none z piece.stripe)) (λ s. refl) under_old.under_way;
+                  })
+                  all_written over.moments;
+            }
+          where
+            more : (o t : Option (List ℕ)) → is_some t ≡ true → is_some (option_or o t) ≡ true
+            more (Some k) t h = refl
+            more None t h = h
+
+        pub put_failed : HasFailedPut piece target trace now → HasEnded here trace now
+        put_failed failed =
+            let over = survives failed.moments in
+            record {
+              moments = over.moments;
+              still = λ n none. phase_others target.number (ShowsFile wide) trace now failed.moments n (λ same. let never : true ≡ false = sym under_old.written ∙ ap v.writes (sym same) ∙ none in cc) ∙ serving.still n none;
+              past = past_goes_on.quiet z v.opening v.history (λ s. false) v.leaf v.began trace now serving.past over.moments;
+            }
+
+        pub put_refused : IsKeptAs target next trace now → new.merge ≡ Some u → IsRefused here new trace now
+        put_refused kept_as merge_now =
+            let over =
+                target_goes_over z v.opening v.history v.leaf (dirty_now here) v.retired (top ∷ above) source target target below trace now serving.once serving.served (goes_over target target trace now refl refl kept_as.moments)
+                (λ s none. refl) refl serving.loose serving.loose in
+            record {
+              moments = over.moments;
+              serving = serving_on new u next target m.marks (ShowsFile target) now kept_as.moments geometry leaf_now merge_now items kept_as.holds refl under_old.written (λ s there. there)
+                  (over.served (layers_are_kept next now target kept_as.holds).shows) serving.loose under_old all_written over.moments;
+            }
