@@ -267,7 +267,7 @@ module _ (trace : Trace) (leaf : LinkedFile) (others : List LinkedFile) (attache
     geometry = geometry;
     served = served;
     loose = tight (is_dirty z []);
-    course = subst (λ o. IsCourse z (λ n. n == 0) o (plain rest)) (sym no_merge) tt;
+    course = subst (λ o. IsCourse z (λ n. n == 0) layers o top (plain rest)) (sym no_merge) tt;
     held = subst (λ o. AreHeld o layers.below.items trace top rest) (sym none) ((λ s. refl), read);
     whole = whole;
     synced = all_synced trace 0 (leaf ∷ others) attached.each;
@@ -303,7 +303,7 @@ module _ (trace : Trace) (leaf : LinkedFile) (others : List LinkedFile) (attache
       geometry = geometry;
       served = goes.served (layers_are_kept l now next serves).shows;
       loose = ((λ s out. refl), none_loose_in trace 1 others);
-      course = subst (λ o. IsCourse z (λ n. n == 0) o (plain rest)) (sym no_merge) tt;
+      course = subst (λ o. IsCourse z (λ n. n == 0) layers o next (plain rest)) (sym no_merge) tt;
       held = subst (λ o. AreHeld o layers.below.items now next rest) (sym is) (serves, read);
       whole = whole;
       synced = all_synced trace 0 (leaf ∷ others) attached.each;

@@ -1,5 +1,5 @@
 -- What reading leaves of the layers, and what it finds.
-use Rattle.std.proofs.Common.{◌≡◌, ◌≢◌, ℕ, zero, suc, ◌+◌, ◌*◌, ◌/◌, ◌%◌, ◌==◌, ◌<◌, ◌≤◌, ◌||◌, Bool, true, false, cond, List, [], ◌∷◌, ◌++◌, length, take, drop, get_or, replicate, refl, sym, ap, subst, ◌∙◌, arith, is_some, map, mul_comm}
+use Rattle.std.proofs.Common.{◌≡◌, ◌≢◌, ℕ, zero, suc, ◌+◌, ◌*◌, ◌/◌, ◌%◌, ◌==◌, ◌<◌, ◌≤◌, ◌||◌, Bool, true, false, cond, List, [], ◌∷◌, ◌++◌, length, take, drop, get_or, replicate, refl, sym, ap, subst, ◌∙◌, arith, is_some, map, mul_comm, ◌-◌}
 use Rattle.std.specs.Prelude.{Option, Some, None, unwrap_or, option_map, Result, Ok, Err, OnOk, IfErr, IfSome}
 use Rattle.std.specs.List.{AllByRecursion}
 use Rattle.std.specs.Option.{option_or}
@@ -34,9 +34,9 @@ use Rattle.chain_core.specs.declared.layers.Layers.{Layers}
 use Rattle.chain_core.specs.Reading.{AddsPart, HasOnlyRead, of_read, of_session}
 use Rattle.chain_core.specs.declared.layers.Underway.{Underway}
 use Rattle.chain_core.specs.Sessions.{AreApart, AreReady, IsMergeOf, IsReadyLeaf, log_numbers}
-use Rattle.chain_core.specs.States.{AreHeld, State, IsServing, disk_now, files_of, sector_of, seen_in, others_of, AreWritten, IsCourse}
+use Rattle.chain_core.specs.States.{AreHeld, State, IsServing, disk_now, files_of, sector_of, seen_in, others_of, AreWritten, IsCourse, Rest, child_parts, merging, plain}
 use Rattle.layer_session.proofs.FileLayers.{file_layers_stand}
-use Rattle.chain_core.proofs.Steps.{LeafStep, written_on}
+use Rattle.chain_core.proofs.Steps.{LeafStep, written_on, course_on}
 use Rattle.chain_core.proofs.Standing.{leaf_of, merge_on}
 
 -- ---- the store stays but for its counts of failed reads
@@ -84,13 +84,13 @@ leaf_moved g below leaf before after s l = record {
 
 -- ---- the layers serve what they served
 
-swapped : (old new : Layers) (v : State) (trace : Trace) → new.geometry ≡ old.geometry → new.merge ≡ old.merge → IfSome new.leaf (λ leaf. (v.writes v.top.number ≡ true) × AreWritten v.writes new.below.items) → AreHeld new.leaf new.below.items trace v.top (others_of v.rest) → IsServing old v trace → IsServing new v trace
-swapped old new v trace g m written held s = record {
+swapped : (old new : Layers) (v : State) (trace : Trace) → new.geometry ≡ old.geometry → IsCourse (sector_of v) v.writes new new.merge v.top v.rest → IfSome new.leaf (λ leaf. (v.writes v.top.number ≡ true) × AreWritten v.writes new.below.items) → AreHeld new.leaf new.below.items trace v.top (others_of v.rest) → IsServing old v trace → IsServing new v trace
+swapped old new v trace g course written held s = record {
   once = s.once;
   geometry = g ∙ s.geometry;
   served = s.served;
   loose = s.loose;
-  course = subst (λ o. IsCourse (sector_of v) v.writes o v.rest) (sym m) s.course;
+  course = course;
   held = held;
   whole = s.whole;
   synced = s.synced;
@@ -131,7 +131,7 @@ leaf_reads old new leaf next file before after answer step same done failed read
       serves = λ trace is v serving.
           let held : Serves leaf trace v.top × HaveFiles old.below.items trace (others_of v.rest) = subst (λ o. AreHeld o old.below.items trace v.top (others_of v.rest)) step.was serving.held in
           let rest : HaveFiles new.below.items trace (others_of v.rest) = subst (λ b. HaveFiles b.items trace (others_of v.rest)) (sym step.below) held.1 in
-          swapped old new v trace step.geometry step.merge (written_on old new leaf next v step serving) (subst (λ o. AreHeld o new.below.items trace v.top (others_of v.rest)) (sym step.now) (same.serves trace v.top is held.0, rest)) serving;
+          swapped old new v trace step.geometry (course_on (sector_of v) old new leaf next v.writes v.top v.top v.rest step refl refl refl refl serving.course) (written_on old new leaf next v step serving) (subst (λ o. AreHeld o new.below.items trace v.top (others_of v.rest)) (sym step.now) (same.serves trace v.top is held.0, rest)) serving;
       told = s.told;
     }
 
@@ -168,7 +168,7 @@ merge_same : (g : Geometry) (leaf : Option Layer) (was now : List FileLayer) (me
 merge_same g leaf was now None same is = tt
 merge_same g leaf was now (Some u) same is =
     let long : length now ≡ length was = simp length-map at (ap length same.parts) in
-    record { session = is.session; there = let below : u.source + 1 < length was = is.there in omega arith; target = ap (λ (logs : List (Option ℕ)). is_some (get_or logs (u.source + 1) None)) same.logs ∙ is.target; stripes = is.stripes }
+    record { session = is.session; there = let below : u.source + 1 < length was = is.there in omega arith; target = ap (λ (logs : List (Option ℕ)). is_some (get_or logs (u.source + 1) None)) same.logs ∙ is.target; child = λ some. ap (λ (logs : List (Option ℕ)). is_some (get_or logs (u.source - 1) None)) same.logs ∙ is.child some; stripes = is.stripes }
 
 leaf_beside : (o : Option Layer) (g : Geometry) (was now : List FileLayer) (before after : Disk) → Stays before after → HaveSameNumbers was now
     → IfSome o (IsReadyLeaf g was before) → IfSome o (IsReadyLeaf g now after)
@@ -179,6 +179,33 @@ leaf_beside (Some leaf) g was now before after s same l =
 held_beside : (o : Option Layer) (was now : List FileLayer) (trace : Trace) (v : State) → ((files : List Placed) → HaveFiles was trace files → HaveFiles now trace files) → AreHeld o was trace v.top (others_of v.rest) → AreHeld o now trace v.top (others_of v.rest)
 held_beside None was now trace v reads held = (held.0, reads (files_of v) held.1)
 held_beside (Some leaf) was now trace v reads held = (held.0, reads (others_of v.rest) held.1)
+
+somes : (xs : List FileLayer) → map (λ l. Some (table_parts l)) xs ≡ map Some (map table_parts xs)
+somes [] = refl
+somes (l ∷ xs) = ap (λ rest. Some (table_parts l) ∷ rest) (somes xs)
+
+parts_same : (was now : List FileLayer) (k : ℕ) → map table_parts now ≡ map table_parts was → get_or (map (λ l. Some (table_parts l)) now) k None ≡ get_or (map (λ l. Some (table_parts l)) was) k None
+parts_same was now k same = ap (λ (parts : List (Option TableParts)). get_or parts k None) (somes now ∙ ap (map Some) same ∙ sym (somes was))
+
+course_beside : (z : ℕ) (old new : Layers) (now : List FileLayer) (writes : ℕ → Bool) (top : Placed) (rest : Rest) → HaveSameNumbers old.below.items now → new.leaf ≡ old.leaf → new.merge ≡ old.merge → new.below.items ≡ now
+    → IsCourse z writes old old.merge top rest → IsCourse z writes new new.merge top rest
+course_beside z old new now writes top rest same l m n course = subst (λ o. IsCourse z writes new o top rest) (sym m) (by_rest old.merge rest course)
+  where
+    by_rest : (o : Option Underway) (rest : Rest) → IsCourse z writes old o top rest → IsCourse z writes new o top rest
+    by_rest None (plain others) is = tt
+    by_rest None (merging above source target below m) is = absurd is
+    by_rest (Some u) (plain others) is = absurd is
+    by_rest (Some u) (merging above source target below m) is = record {
+      place = is.place;
+      written = is.written;
+      child_written = is.child_written;
+      parts = is.parts;
+      goes_by = ap (λ o. child_parts o new.below.items u.source) l ∙ ap (λ (b : List FileLayer). child_parts old.leaf b u.source) n
+          ∙ ap (λ (o : Option TableParts). cond (u.source == 0) (option_map (λ (l : Layer). l.tables.parts) old.leaf) o) (parts_same old.below.items now (u.source - 1) same.parts) ∙ is.goes_by;
+      relinks = is.relinks;
+      marks = is.marks;
+      under_way = is.under_way;
+    }
 
 written_beside : (old new : Layers) (now : List FileLayer) (v : State) → HaveSameNumbers old.below.items now → new.leaf ≡ old.leaf → new.below.items ≡ now
     → IfSome old.leaf (λ leaf. (v.writes v.top.number ≡ true) × AreWritten v.writes old.below.items) → IfSome new.leaf (λ leaf. (v.writes v.top.number ≡ true) × AreWritten v.writes new.below.items)
@@ -218,7 +245,7 @@ below_reads old new was now before after answer w g l m n same numbers done fail
       };
       serves = λ trace is v serving.
           let held : AreHeld old.leaf now trace v.top (others_of v.rest) = held_beside old.leaf old.below.items now trace v (λ files. same'.have trace files is) serving.held in
-          swapped old new v trace g m (written_beside old new now v numbers' l n serving.written) (subst (λ o. AreHeld o new.below.items trace v.top (others_of v.rest)) (sym l) (subst (λ (b : List FileLayer). AreHeld old.leaf b trace v.top (others_of v.rest)) (sym n) held)) serving;
+          swapped old new v trace g (course_beside (sector_of v) old new now v.writes v.top v.rest numbers' l m n serving.course) (written_beside old new now v numbers' l n serving.written) (subst (λ o. AreHeld o new.below.items trace v.top (others_of v.rest)) (sym l) (subst (λ (b : List FileLayer). AreHeld old.leaf b trace v.top (others_of v.rest)) (sym n) held)) serving;
       told = s.told;
     }
 

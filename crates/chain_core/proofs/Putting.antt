@@ -12,7 +12,7 @@ use Rattle.guest_model.specs.History.{either, replay}
 use Rattle.chain_model.specs.Layers.{Layer as SectorLayer, over, through}
 use Rattle.chain_model.specs.Merges.{IsTrue, IsUnderWay, Piece, with_mark}
 use Rattle.chain_model.specs.Stripes.{per_stripe, stamp, stripe_of}
-use Rattle.chain_model.specs.Members.{IsChainOf, Member, NoneTwice, disk_of, layers_of, names_of}
+use Rattle.chain_model.specs.Members.{IsChainOf, Member, Ties, NoneTwice, disk_of, layers_of, names_of}
 use Rattle.chain_model.specs.Images.{Placed, members_of}
 use Rattle.chain_model.specs.Moments.{EachOpens, HasWholeImages, IsPhase}
 use Rattle.chain_model.specs.Sessions.{GoesOver, HasGoneOver, IsKept, IsServed, LooseInMerge, ShowsFile}
@@ -37,7 +37,13 @@ use Rattle.chain_core.specs.declared.layers.Layers.{Layers}
 use Rattle.chain_core.specs.declared.layers.Underway.{Underway}
 use Rattle.chain_core.specs.Answering.{EachOpensNow, HasEnded, IsRefused}
 use Rattle.chain_core.specs.Merging.{IsCopied, IsTruePiece, PutAnswers, is_in, put_on, with_piece, with_put}
-use Rattle.chain_core.specs.States.{AreHeld, AreWritten, IsCourse, IsServing, IsUnder, LeavesOthers, Merging, Rest, State, dirty_now, disk_now, files_of, merging, others_of, plain, sector_of, seen_in}
+use Rattle.vhdx_format.specs.declared.log_entry.Page.{Page}
+use Rattle.vhdx_format.specs.Locators.{linkage, second_linkage}
+use Rattle.table_pages.specs.declared.tables.TableParts.{TableParts}
+use Rattle.layer_session.specs.FileLayers.{table_parts}
+use Rattle.std.specs.Prelude.{option_map}
+use Rattle.std.proofs.Common.{cond, get_or, ◌-◌}
+use Rattle.chain_core.specs.States.{Relinks, child_of, child_parts, AreHeld, AreWritten, IsCourse, IsServing, IsUnder, LeavesOthers, Merging, Rest, State, dirty_now, disk_now, files_of, merging, others_of, plain, sector_of, seen_in}
 use Rattle.chain_core.proofs.Steps.{all_right, apart, goes_over, names_behind, phase_beside, phase_others, still_once, still_read}
 
 -- ---- one file among others
@@ -187,7 +193,7 @@ module _ (v : State) (top : Placed) (above : List Placed) (source target : Place
           → ((s : ℕ) → is_some (target.member.layer s) ≡ true → is_some (other.member.layer s) ≡ true)
           → IsServed (sector_of here) v.opening v.history v.leaf v.retired (files_with other) now
           → LooseInMerge (dirty_now here) (top ∷ above) source other below
-          → IsUnder (sector_of here) v.writes u above source other (record m { marks = marks })
+          → IsUnder (sector_of here) v.writes new u top above source other (record m { marks = marks })
           → AreWritten v.writes new.below.items
           → EachOpensNow here trace now
           → IsServing new (record v { top = top; rest = merging above source other below (record m { marks = marks }) }) now
@@ -196,7 +202,7 @@ module _ (v : State) (top : Placed) (above : List Placed) (source target : Place
         geometry = geometry ∙ serving.geometry;
         served = served;
         loose = loose;
-        course = subst (λ o. IsCourse (sector_of here) v.writes o (merging above source other below (record m { marks = marks }))) (sym merge) under;
+        course = subst (λ o. IsCourse (sector_of here) v.writes new o top (merging above source other below (record m { marks = marks }))) (sym merge) under;
         held = held_on new next other P now phase leaf_now items serves;
         whole = λ s inside. there_on s (serving.whole s inside);
         synced = subst (AllByRecursion (λ f. is_synced (file_of v.began f.number) ≡ true)) (ap (λ (c : List Placed). top ∷ c) (parted other))
@@ -216,10 +222,61 @@ module _ (v : State) (top : Placed) (above : List Placed) (source target : Place
               (subst (λ (c : List SectorLayer). is_some (through c s) ≡ true) (layers_append (top ∷ front) (target ∷ below))
               (subst (λ (c : List Placed). is_some (seen_in (top ∷ c) s) ≡ true) (sym (parted target)) there))))
 
+      -- the child's layer goes by what it went by
+      pub goes_by_still : (new : Layers) (next : Layer) (place : ℕ) → new.leaf ≡ Some leaf → new.below.items ≡ a ++ Session next ∷ b → next.tables.parts ≡ l.tables.parts
+          → child_parts new.leaf new.below.items place ≡ child_parts layers.leaf layers.below.items place
+      goes_by_still new next place leaf_now items parts_are =
+          ap (λ o. child_parts o new.below.items place) (leaf_now ∙ sym is)
+          ∙ ap (λ (parts : List (Option TableParts)). cond (place == 0) (option_map (λ (l : Layer). l.tables.parts) layers.leaf) (get_or parts (place - 1) None))
+          (ap (map (λ l. Some (table_parts l))) items ∙ map-append (λ l. Some (table_parts l)) a (Session next ∷ b)
+          ∙ ap (λ (p : TableParts). map (λ l. Some (table_parts l)) a ++ Some p ∷ map (λ l. Some (table_parts l)) b) parts_are
+          ∙ sym (map-append (λ l. Some (table_parts l)) a (Session l ∷ b)) ∙ ap (map (λ l. Some (table_parts l))) (sym was))
+
+      -- the child is relinked to the target in another state
+      pub relinks_to : {len : ℕ} (pages : List Page) (other : Placed) → other.member.name ≡ target.member.name → other.member.ties.id ≡ target.member.ties.id → other.member.ties.geometry ≡ target.member.ties.geometry
+          → Relinks len pages (child_of top above) target → Relinks len pages (child_of top above) other
+      relinks_to pages other name id geometry r = record {
+        ties = r.ties;
+        region = r.region;
+        into = r.into;
+        retired = r.retired;
+        parent = record {
+          has = r.parent.has;
+          item = r.parent.item;
+          locator = r.parent.locator;
+          pairs = r.parent.pairs;
+          read = r.parent.read;
+          named = r.parent.named ∙ ap Some (sym name);
+          linked = by_link r.parent.linked;
+          geometry = geometry ∙ r.parent.geometry;
+        };
+      }
+        where
+          by_link : (linkage r.parent.pairs ≡ Some target.member.ties.id) ⊎ (second_linkage r.parent.pairs ≡ Some target.member.ties.id)
+              → (linkage r.parent.pairs ≡ Some other.member.ties.id) ⊎ (second_linkage r.parent.pairs ≡ Some other.member.ties.id)
+          by_link (inl first) = inl (first ∙ ap Some (sym id))
+          by_link (inr second) = inr (second ∙ ap Some (sym id))
+
+      -- the same merge, under another layer and another state of the target
+      pub under_by : (new : Layers) (next : Layer) (other : Placed) (u : Underway) → new.leaf ≡ Some leaf → new.below.items ≡ a ++ Session next ∷ b → next.tables.parts ≡ l.tables.parts
+          → other.number ≡ target.number → other.member.name ≡ target.member.name → other.member.ties ≡ target.member.ties
+          → IsUnder (sector_of here) v.writes layers u top above source target m → IsUnderWay (sector_of here) m.first m.before [] m.marks source.member.layer other.member.layer
+          → IsUnder (sector_of here) v.writes new u top above source other m
+      under_by new next other u leaf_now items parts_are number name ties under way = record {
+        place = under.place;
+        written = ap v.writes number ∙ under.written;
+        child_written = under.child_written;
+        parts = under.parts;
+        goes_by = goes_by_still new next u.source leaf_now items parts_are ∙ under.goes_by;
+        relinks = relinks_to u.relink other name (ap (λ (t : Ties). t.id) ties) (ap (λ (t : Ties). t.geometry) ties) under.relinks;
+        marks = under.marks;
+        under_way = way;
+      }
+
       -- ---- a put
 
       module _ (new : Layers) (u u' : Underway) (next : Layer) (piece : Piece) (now : Trace) (geometry : new.geometry ≡ layers.geometry) (leaf_now : new.leaf ≡ Some leaf) (merge : layers.merge ≡ Some u) (items : new.below.items ≡ a ++ Session next ∷ b)
-          (stripes : 0 < per_stripe (sector_of here)) (true_piece : IsTrue (sector_of here) m.first [] piece) (stamp_is : piece.stamp ≡ 0) (all_written : AreWritten v.writes new.below.items) where
+          (stripes : 0 < per_stripe (sector_of here)) (true_piece : IsTrue (sector_of here) m.first [] piece) (stamp_is : piece.stamp ≡ 0) (all_written : AreWritten v.writes new.below.items) (parts_are : next.tables.parts ≡ l.tables.parts) where
         abbrev z : ℕ
         z = sector_of here
 
@@ -229,8 +286,8 @@ module _ (v : State) (top : Placed) (above : List Placed) (source target : Place
         abbrev after : Placed
         after = with_piece piece target
 
-        under_old : IsUnder z v.writes u above source target m
-        under_old = subst (λ o. IsCourse z v.writes o (merging above source target below m)) merge serving.course
+        under_old : IsUnder z v.writes layers u top above source target m
+        under_old = subst (λ o. IsCourse z v.writes layers o top (merging above source target below m)) merge serving.course
 
         -- what the source doesn't own isn't in the piece
         none_there : (s : ℕ) → source.member.layer s ≡ None → piece.sectors s ≡ None
@@ -274,9 +331,9 @@ module _ (v : State) (top : Placed) (above : List Placed) (source target : Place
             over_none None t h = refl
             over_none (Some k) t h = absurd (let never : Some k ≡ None = h in cc)
 
-        pub copied : IsPut piece target next trace now → new.merge ≡ Some u' → u'.source ≡ u.source → ((t : ℕ) → marks_of u'.marks t ≡ with_mark piece.stripe (marks_of u.marks) t)
+        pub copied : IsPut piece target next trace now → new.merge ≡ Some u' → u'.source ≡ u.source → u'.relink ≡ u.relink → ((t : ℕ) → marks_of u'.marks t ≡ with_mark piece.stripe (marks_of u.marks) t)
             → IsCopied piece here new trace now
-        copied put merge_now place_now marks_now =
+        copied put merge_now place_now relink_now marks_now =
             let over = survives put.moments in
             record {
               moments = over.moments;
@@ -285,6 +342,10 @@ module _ (v : State) (top : Placed) (above : List Placed) (source target : Place
                   (record {
                     place = place_now ∙ under_old.place;
                     written = under_old.written;
+                    child_written = under_old.child_written;
+                    parts = under_old.parts;
+                    goes_by = ap (child_parts new.leaf new.below.items) place_now ∙ goes_by_still new next u.source leaf_now items parts_are ∙ under_old.goes_by;
+                    relinks = relinks_to u'.relink after refl refl refl (subst (λ pages. Relinks under_old.parts.bat_len pages (child_of top above) target) (sym relink_now) under_old.relinks);
                     marks = λ t. marks_now t ∙ ap (λ b. (t == piece.stripe) || b) (under_old.marks t);
                     under_way = kept_by_put z m.first m.before [] piece m.marks source.member.layer target.member.layer after.member.layer stripes true_piece (stamp_is ∙ sym (stamps_by_call.none z piece.stripe)) (λ s. refl) under_old.under_way;
                   })
@@ -312,5 +373,5 @@ module _ (v : State) (top : Placed) (above : List Placed) (source target : Place
             record {
               moments = over.moments;
               serving = serving_on new u next target m.marks (ShowsFile target) now kept_as.moments geometry leaf_now merge_now items kept_as.holds refl under_old.written (λ s there. there)
-                  (over.served (layers_are_kept next now target kept_as.holds).shows) serving.loose under_old all_written over.moments;
+                  (over.served (layers_are_kept next now target kept_as.holds).shows) serving.loose (under_by new next target u leaf_now items parts_are refl refl refl under_old under_old.under_way) all_written over.moments;
             }

@@ -140,10 +140,10 @@ tight_with writes [] source target below written none =
     ((λ w s. (none s).0), ((λ w. absurd (let never : true ≡ false = sym written ∙ w in cc)), all_tight writes below (λ s. (none s).1)))
 tight_with writes (p ∷ above) source target below written none = ((λ w s. (none s).0), tight_with writes above source target below written (λ s. (none s).1))
 
-tight_others : (z : ℕ) (writes dirty : ℕ → Bool) (merge : Option Underway) (top : Placed) (rest : Rest) → IsCourse z writes merge rest → IsLoose dirty top rest → AllByRecursion (IsTight writes) (others_of rest)
-tight_others z writes dirty merge top (plain others) course loose = all_tight writes others loose.1
-tight_others z writes dirty None top (merging above source target below m) course loose = absurd course
-tight_others z writes dirty (Some u) top (merging above source target below m) course loose = tight_with writes above source target below course.written loose.others.1
+tight_others : (z : ℕ) (writes dirty : ℕ → Bool) (layers : Layers) (merge : Option Underway) (top : Placed) (rest : Rest) → IsCourse z writes layers merge top rest → IsLoose dirty top rest → AllByRecursion (IsTight writes) (others_of rest)
+tight_others z writes dirty layers merge top (plain others) course loose = all_tight writes others loose.1
+tight_others z writes dirty layers None top (merging above source target below m) course loose = absurd course
+tight_others z writes dirty layers (Some u) top (merging above source target below m) course loose = tight_with writes above source target below course.written loose.others.1
 
 -- ---- the files below the leaf
 
@@ -185,6 +185,6 @@ sessions_are_held layers leaf v trace is images none serving =
     let fits : AllByRecursion (Fits pages) below = all_behind_fit leaf (waiting below) below ne (all_fit below distinct) in
     let mine : pages (own_file leaf) ≡ leaf.tables.pending = ap (λ (b : Bool). cond b leaf.tables.pending (waiting below (own_file leaf))) (eq-eqb (own_file leaf) (own_file leaf) refl) in
     let rest = all_held v trace pages below others serving.once images serving.still held.1 kept.1 serving.synced.1 written.1
-    (tight_others (sector_of v) v.writes _ layers.merge v.top v.rest serving.course serving.loose) fits in
+    (tight_others (sector_of v) v.writes _ layers layers.merge v.top v.rest serving.course serving.loose) fits in
     held_chains_open (sector_of v) v.opening v.history v.leaf v.retired (files_of v) trace pages serving.served
     (both_in trace pages v.retired (files_of v) (no_retired trace pages v.retired none) (served_is_held leaf trace pages v.top serving.once held.0 mine, rest))

@@ -1,5 +1,5 @@
 -- Layers stay ready while the leaf's is called.
-use Rattle.std.proofs.Common.{◌≡◌, ◌≢◌, ℕ, ◌+◌, ◌/◌, ◌≤◌, Bool, List, [], ◌∷◌, length, refl, sym, ap, subst, ◌∙◌, arith, true, is_some, ◌<◌}
+use Rattle.std.proofs.Common.{◌≡◌, ◌≢◌, ℕ, ◌+◌, ◌/◌, ◌≤◌, Bool, List, [], ◌∷◌, length, refl, sym, ap, subst, ◌∙◌, arith, true, is_some, ◌<◌, ◌-◌}
 use Rattle.std.specs.Prelude.{Option, Some, None, Result, Ok, Err, OnOk, IfErr, IfSome}
 use Rattle.vx_base.specs.declared.parts.Geometry.{Geometry}
 use Rattle.store_model.specs.declared.fault.StoreFault.{StoreFault}
@@ -37,6 +37,7 @@ merge_on old new leaf next step merge =
       session = ap is_some step.now;
       there = subst (λ b. u.source + 1 < length b.items) (sym step.below) is.there;
       target = subst (λ b. is_session_at b.items (u.source + 1) ≡ true) (sym step.below) is.target;
+      child = λ some. subst (λ b. is_session_at b.items (u.source - 1) ≡ true) (sym step.below) (is.child some);
       stripes = is.stripes ∙ ap (λ (g : Geometry). stripe_count g.sector g.sectors) (sym step.geometry);
     }
 

@@ -1,6 +1,6 @@
 -- What the answer of the leaf's layer makes of a session.
-use Rattle.std.proofs.Common.{◌≡◌, ◌≢◌, ◌⊎◌, ℕ, Bool, true, false, cond, List, [], ◌∷◌, ◌++◌, map, refl, sym, ap, subst, ◌∙◌, arith, inl, ◌<◌, is_some}
-use Rattle.std.specs.Prelude.{Option, Some, None, Result, Ok, Err, IfSome}
+use Rattle.std.proofs.Common.{◌≡◌, ◌≢◌, ◌⊎◌, ℕ, Bool, true, false, cond, List, [], ◌∷◌, ◌++◌, map, refl, sym, ap, subst, ◌∙◌, arith, inl, ◌<◌, is_some, ◌==◌, ◌-◌, get_or, length}
+use Rattle.std.specs.Prelude.{Option, Some, None, Result, Ok, Err, IfSome, option_map, All}
 use Rattle.std.specs.List.{AllByRecursion}
 use Rattle.std.specs.Option.{option_or}
 use Rattle.std.proofs.lemmas.Bool.{or_parts, or_from}
@@ -11,8 +11,8 @@ use Rattle.guest_model.specs.declared.call.Entry.{Entry}
 use Rattle.guest_model.specs.declared.call.Call.{Call}
 use Rattle.guest_model.specs.Calls.{is_named, content}
 use Rattle.guest_model.specs.History.{replay, is_dirty, either, is_flush}
-use Rattle.chain_model.specs.Members.{names_of, NoneTwice}
-use Rattle.chain_model.specs.Images.{Placed, members_of, name_of}
+use Rattle.chain_model.specs.Members.{Ties, names_of, NoneTwice}
+use Rattle.chain_model.specs.Images.{Placed, RegionBytes, members_of, name_of}
 use Rattle.chain_model.specs.Moments.{IsPhase, HasWholeImages, EachOpens}
 use Rattle.chain_model.specs.Sessions.{ShowsFile, IsKept, GoesOver, LeavesLoose}
 use Rattle.chain_model.specs.PhaseLaws.{LeafCall, CallSurvives, IsNamedOnce}
@@ -23,10 +23,16 @@ use Rattle.layer_session.specs.declared.file.LayerFault.TheVariants.{Read, Write
 use Rattle.layer_session.specs.declared.file_layer.FileLayer.{FileLayer}
 use Rattle.layer_session.specs.Calls.{IsBeside}
 use Rattle.layer_session.specs.Keeping.{Serves}
-use Rattle.layer_session.specs.FileLayers.{HaveFiles}
+use Rattle.layer_session.specs.FileLayers.{HaveFiles, table_parts}
+use Rattle.layer_session.specs.Updating.{IsInRegion, region_with}
+use Rattle.table_pages.specs.declared.tables.TableParts.{TableParts}
+use Rattle.vhdx_format.specs.declared.log_entry.Page.{Page}
+use Rattle.vhdx_format.specs.declared.metadata.Metadata.{Metadata}
+use Rattle.vhdx_format.specs.MetadataTables.{read_metadata}
+use Rattle.chain_core.specs.declared.layers.Underway.{Underway}
 use Rattle.layer_session.proofs.Crashes.{layers_are_kept}
 use Rattle.chain_core.specs.declared.layers.Layers.{Layers}
-use Rattle.chain_core.specs.States.{State, IsServing, LeavesOthers, AreHeld, seen_in, sector_of, disk_now, dirty_now, files_of, wide, made, others_of, AreWritten, IsCourse}
+use Rattle.chain_core.specs.States.{State, IsServing, LeavesOthers, AreHeld, seen_in, sector_of, disk_now, dirty_now, files_of, wide, made, others_of, AreWritten, IsCourse, Relinks, Rest, child_of, child_parts, merging, plain}
 use Rattle.chain_core.specs.Answering.{IsDone, IsRefused, HasBroken, LayerAnswers}
 use Rattle.layer_session.proofs.FileLayers.{file_layers_stand}
 use Rattle.chain_core.proofs.Rests.{call_survives, leaf_survives, loose_after, opens_now, top_loose}
@@ -58,6 +64,7 @@ pub record LeafStep (old new : Layers) (leaf next : Layer) : Type 0 where
   pub geometry : new.geometry ≡ old.geometry
   pub below : new.below ≡ old.below
   pub merge : new.merge ≡ old.merge
+  pub parts : next.tables.parts ≡ leaf.tables.parts
   pub was : old.leaf ≡ Some leaf
   pub now : new.leaf ≡ Some next
 
@@ -191,6 +198,60 @@ written_on old new leaf next v step serving =
     subst (λ o. IfSome o (λ leaf. (v.writes v.top.number ≡ true) × AreWritten v.writes new.below.items)) (sym step.now)
     (subst (λ b. (v.writes v.top.number ≡ true) × AreWritten v.writes b.items) (sym step.below) was)
 
+-- ---- the course
+
+-- what the child's layer goes by
+child_parts_on : (old new : Layers) (leaf next : Layer) (place : ℕ) → LeafStep old new leaf next → child_parts new.leaf new.below.items place ≡ child_parts old.leaf old.below.items place
+child_parts_on old new leaf next place step =
+    ap (λ b. child_parts new.leaf b.items place) step.below
+    ∙ ap (λ (o : Option TableParts). cond (place == 0) o (get_or (map (λ l. Some (table_parts l)) old.below.items) (place - 1) None))
+    (ap (option_map (λ (l : Layer). l.tables.parts)) step.now ∙ ap Some step.parts ∙ sym (ap (option_map (λ (l : Layer). l.tables.parts)) step.was))
+
+-- a child that differs from the one that is relinked in its layer and in what is loose of it
+pub relinks_alike : (table_len : ℕ) (pages : List Page) (child other target : Placed) → other.metadata ≡ child.metadata → other.member.ties ≡ child.member.ties → other.member.name ≡ child.member.name → Relinks table_len pages child target → Relinks table_len pages other target
+relinks_alike table_len pages child other target metadata ties name r = record {
+  ties = r.ties;
+  region = r.region;
+  into = record {
+    inside = subst (λ m. All (IsInRegion m) pages) (sym metadata) r.into.inside;
+    region_is = r.into.region_is ∙ ap (λ m. region_with m pages) (sym metadata);
+    reads = subst (λ (x : RegionBytes). (m : Metadata) → read_metadata x.bytes table_len ≡ Ok m → read_metadata r.region table_len ≡ Ok (record m { locator = r.ties.locator; retired = r.ties.retired })) (sym metadata) r.into.reads;
+    ties_are = r.into.ties_are ∙ ap (λ (t : Ties). record t { locator = r.ties.locator; retired = r.ties.retired }) (sym ties);
+  };
+  retired = r.retired ∙ ap (λ (t : Ties). t.retired) (sym ties);
+  parent = record { has = r.parent.has; item = r.parent.item; locator = r.parent.locator; pairs = r.parent.pairs; read = r.parent.read; named = r.parent.named; linked = r.parent.linked; geometry = r.parent.geometry };
+}
+
+-- the child once the leaf is another, tied alike
+relinks_on : (table_len : ℕ) (pages : List Page) (top new : Placed) (above : List Placed) (target : Placed) → new.metadata ≡ top.metadata → new.member.ties ≡ top.member.ties → new.member.name ≡ top.member.name
+    → Relinks table_len pages (child_of top above) target → Relinks table_len pages (child_of new above) target
+relinks_on table_len pages top new [] target metadata ties name r = relinks_alike table_len pages top new target metadata ties name r
+relinks_on table_len pages top new (p ∷ above) target metadata ties name r = r
+
+child_number : (writes : ℕ → Bool) (top new : Placed) (above : List Placed) → new.number ≡ top.number → writes (child_of top above).number ≡ true → writes (child_of new above).number ≡ true
+child_number writes top new [] same w = ap writes same ∙ w
+child_number writes top new (p ∷ above) same w = w
+
+-- the course goes on while the leaf's layer is called
+pub course_on : (z : ℕ) (old new : Layers) (leaf next : Layer) (writes : ℕ → Bool) (top after : Placed) (rest : Rest) → LeafStep old new leaf next → after.metadata ≡ top.metadata → after.member.ties ≡ top.member.ties → after.member.name ≡ top.member.name
+    → after.number ≡ top.number → IsCourse z writes old old.merge top rest → IsCourse z writes new new.merge after rest
+course_on z old new leaf next writes top after rest step metadata ties name number course = subst (λ o. IsCourse z writes new o after rest) (sym step.merge) (by_rest old.merge rest course)
+  where
+    by_rest : (o : Option Underway) (rest : Rest) → IsCourse z writes old o top rest → IsCourse z writes new o after rest
+    by_rest None (plain others) is = tt
+    by_rest None (merging above source target below m) is = absurd is
+    by_rest (Some u) (plain others) is = absurd is
+    by_rest (Some u) (merging above source target below m) is = record {
+      place = is.place;
+      written = is.written;
+      child_written = child_number writes top after above number is.child_written;
+      parts = is.parts;
+      goes_by = child_parts_on old new leaf next u.source step ∙ is.goes_by;
+      relinks = relinks_on is.parts.bat_len u.relink top after above target metadata ties name is.relinks;
+      marks = is.marks;
+      under_way = is.under_way;
+    }
+
 -- the call was done
 pub done : (e : Entry) (v : State) (old new : Layers) (leaf next : Layer) (trace now : Trace) → LeafStep old new leaf next → IsServing old v trace → IsMade (sector_of v) e.call v.top next trace now → IsDone e v new trace now
 done e v old new leaf next trace now step serving is =
@@ -203,7 +264,7 @@ done e v old new leaf next trace now step serving is =
         geometry = step.geometry ∙ serving.geometry;
         served = call.served (layers_are_kept next now (made z e.call v.top) is.holds).shows;
         loose = loose_after z v.history e v.top (made z e.call v.top) v.rest (leaves_loose z e v.top) serving.loose;
-        course = subst (λ o. IsCourse z v.writes o v.rest) (sym step.merge) serving.course;
+        course = course_on z old new leaf next v.writes v.top (made z e.call v.top) v.rest step refl refl refl refl serving.course;
         held = held_by old new leaf next v (made z e.call v.top) (ShowsFile (wide z e.call v.top)) trace now step serving is.moments is.holds;
         whole = whole_on z e.call v.top (others_of v.rest) serving.whole;
         synced = serving.synced;
@@ -226,7 +287,7 @@ as_before v old new leaf next trace now step serving is =
         geometry = step.geometry ∙ serving.geometry;
         served = over.served (layers_are_kept next now v.top is.holds).shows;
         loose = serving.loose;
-        course = subst (λ o. IsCourse z v.writes o v.rest) (sym step.merge) serving.course;
+        course = course_on z old new leaf next v.writes v.top v.top v.rest step refl refl refl refl serving.course;
         held = held_by old new leaf next v v.top (ShowsFile v.top) trace now step serving is.moments is.holds;
         whole = serving.whole;
         synced = serving.synced;

@@ -1,5 +1,5 @@
 -- What stands of a session for every store, whether it tells its content or not.
-use Rattle.std.specs.Prelude.{◌≡◌, ◌≢◌, ◌+◌, ◌^◌, ◌<◌, ◌≤◌, ⊤, ℕ, Bool, true, false, is_some, List, [], ◌∷◌, length, map, slice_index_or, Option, None, option_map, IfSome}
+use Rattle.std.specs.Prelude.{◌≡◌, ◌≢◌, ◌+◌, ◌-◌, ◌^◌, ◌<◌, ◌≤◌, ⊤, ℕ, Bool, true, false, is_some, List, [], ◌∷◌, length, map, slice_index_or, Option, None, option_map, IfSome}
 use Rattle.vx_base.specs.declared.parts.Geometry.{Geometry}
 use Rattle.store_model.specs.Disk.{Disk}
 use Rattle.store_model.specs.declared.fault.StoreFault.{StoreFault}
@@ -57,12 +57,13 @@ AreApart (n ∷ numbers) = AllByRecursion (λ other. other ≢ n) numbers × Are
 abbrev pub is_session_at : List FileLayer → ℕ → Bool
 is_session_at layers at = is_some (slice_index_or (map log_number layers) at None)
 
--- A merge of files below the leaf, which is in a session: its source and its target are among them, the target in a session, and each
--- stripe of the disk has its mark.
+-- A merge of files below the leaf, which is in a session: its source and its target are among them, the target in a session, and so is the
+-- file directly above the source; and each stripe of the disk has its mark.
 pub record IsMergeOf (geometry : Geometry) (top : Option Layer) (below : List FileLayer) (merge : Underway) : Type 0 where
   pub session : is_some top ≡ true
   pub there : merge.source + 1 < length below
   pub target : is_session_at below (merge.source + 1) ≡ true
+  pub child : 0 < merge.source → is_session_at below (merge.source - 1) ≡ true
   pub stripes : merge.marks.stripes ≡ stripe_count geometry.sector geometry.sectors
 
 -- layers of files that can be read, and those written that are in a session

@@ -1,5 +1,5 @@
 -- What a chain keeps in a session, where its store tells its content.
-use Rattle.std.specs.Prelude.{◌≡◌, ◌<◌, ℕ, Bool, true, false, if◌then◌else◌, is_some, List, [], ◌∷◌, ◌++◌, length, Option, Some, None, IfSome, ⊤}
+use Rattle.std.specs.Prelude.{◌≡◌, ◌<◌, ◌==◌, ◌-◌, ℕ, Bool, true, false, if◌then◌else◌, is_some, List, [], ◌∷◌, ◌++◌, length, map, slice_index_or, Option, Some, None, option_map, IfSome, ⊤}
 use Rattle.std.specs.List.{AllByRecursion}
 use Rattle.store_model.specs.File.{is_synced}
 use Rattle.store_model.specs.Trace.{Trace, file_of}
@@ -9,7 +9,7 @@ use Rattle.guest_model.specs.declared.call.Entry.{Entry}
 use Rattle.guest_model.specs.Calls.{Disk, is_named}
 use Rattle.guest_model.specs.History.{History, either, is_dirty, is_flush, replay}
 use Rattle.chain_model.specs.Layers.{Layer as SectorLayer, through, with_call}
-use Rattle.chain_model.specs.Members.{layers_of}
+use Rattle.chain_model.specs.Members.{IsParentOf, Ties, layers_of}
 use Rattle.chain_model.specs.Images.{Placed, members_of}
 use Rattle.chain_model.specs.Moments.{EachOpensToPrefix}
 use Rattle.chain_model.specs.Sessions.{IsServed, LooseAtTop, LooseInMerge}
@@ -17,7 +17,10 @@ use Rattle.chain_model.specs.PhaseLaws.{IsNamedOnce, loosened}
 use Rattle.layer_session.specs.declared.file.Layer.{Layer}
 use Rattle.layer_session.specs.declared.file_layer.FileLayer.{FileLayer}
 use Rattle.layer_session.specs.Keeping.{Serves}
-use Rattle.layer_session.specs.FileLayers.{HaveFiles, log_number, number_of}
+use Rattle.layer_session.specs.FileLayers.{HaveFiles, log_number, number_of, table_parts}
+use Rattle.layer_session.specs.Updating.{TurnsInto, turned}
+use Rattle.table_pages.specs.declared.tables.TableParts.{TableParts}
+use Rattle.vhdx_format.specs.declared.log_entry.Page.{Page}
 use Rattle.chain_model.specs.Merges.{IsUnderWay}
 use Rattle.merge_core.specs.Copied.{marks_of}
 use Rattle.chain_core.specs.declared.layers.Underway.{Underway}
@@ -119,20 +122,42 @@ LeavesOthers v trace = (other : ℕ) → v.writes other ≡ false → file_of tr
 abbrev pub AreWritten : (ℕ → Bool) → List FileLayer → Type 0
 AreWritten writes layers = AllByRecursion (λ l. writes (number_of l) ≡ is_session l) layers
 
+-- the file directly above the source: the leaf where none stands between
+abbrev pub child_of : Placed → List Placed → Placed
+child_of top [] = top
+child_of top (file ∷ above) = child_of file above
+
+-- These pages give a child the target for its parent: with them its metadata has a locator that names the target as it is, and it is tied
+-- else as before.
+pub record Relinks (table_len : ℕ) (pages : List Page) (child target : Placed) : Type 0 where
+  pub ties : Ties
+  pub region : List ℕ
+  pub into : TurnsInto table_len pages child ties region
+  pub retired : ties.retired ≡ child.member.ties.retired
+  pub parent : IsParentOf (turned ties region child).member target.member
+
+-- what the layer of the child goes by, if it is in a session: that of the leaf, or of the file before the source's place
+abbrev pub child_parts : Option Layer → List FileLayer → ℕ → Option TableParts
+child_parts leaf below place = if place == 0 then option_map (λ (l : Layer). l.tables.parts) leaf else slice_index_or (map (λ l. Some (table_parts l)) below) (place - 1) None
+
 -- A merge that the code keeps is the one under way: of the source at its place, with the marks of the stripes that are copied. What the
--- source owns in a marked stripe is in the target, and elsewhere both are as they were.
-pub record IsUnder (z : ℕ) (writes : ℕ → Bool) (u : Underway) (above : List Placed) (source target : Placed) (m : Merging) : Type 0 where
+-- source owns in a marked stripe is in the target, and elsewhere both are as they were. The pages that it keeps relink the child.
+pub record IsUnder (z : ℕ) (writes : ℕ → Bool) (layers : Layers) (u : Underway) (top : Placed) (above : List Placed) (source target : Placed) (m : Merging) : Type 0 where
   pub place : u.source ≡ length above
   pub written : writes target.number ≡ true
+  pub child_written : writes (child_of top above).number ≡ true
+  pub parts : TableParts
+  pub goes_by : child_parts layers.leaf layers.below.items u.source ≡ Some parts
+  pub relinks : Relinks parts.bat_len u.relink (child_of top above) target
   pub marks : (t : ℕ) → marks_of u.marks t ≡ m.marks t
   pub under_way : IsUnderWay z m.first m.before [] m.marks source.member.layer target.member.layer
 
 -- the code keeps a merge where one is under way
-abbrev pub IsCourse : ℕ → (ℕ → Bool) → Option Underway → Rest → Type 0
-IsCourse z writes None (plain others) = ⊤
-IsCourse z writes None (merging above source target below m) = ⊥
-IsCourse z writes (Some u) (plain others) = ⊥
-IsCourse z writes (Some u) (merging above source target below m) = IsUnder z writes u above source target m
+abbrev pub IsCourse : ℕ → (ℕ → Bool) → Layers → Option Underway → Placed → Rest → Type 0
+IsCourse z writes layers None top (plain others) = ⊤
+IsCourse z writes layers None top (merging above source target below m) = ⊥
+IsCourse z writes layers (Some u) top (plain others) = ⊥
+IsCourse z writes layers (Some u) top (merging above source target below m) = IsUnder z writes layers u top above source target m
 
 -- A session in which no change failed: the history's disk is that of its files, which its layers have; only the leaf has loose sectors,
 -- which are dirty ones, and the target of a merge under way, of those that its source owns; and each moment since it began opens to a
@@ -142,7 +167,7 @@ pub record IsServing (layers : Layers) (v : State) (trace : Trace) : Type 0 wher
   pub geometry : layers.geometry ≡ v.top.member.ties.geometry
   pub served : IsServed (sector_of v) v.opening v.history v.leaf v.retired (files_of v) trace
   pub loose : IsLoose (dirty_now v) v.top v.rest
-  pub course : IsCourse (sector_of v) v.writes layers.merge v.rest
+  pub course : IsCourse (sector_of v) v.writes layers layers.merge v.top v.rest
   pub held : AreHeld layers.leaf layers.below.items trace v.top (others_of v.rest)
   -- each sector of the disk is in one of the files
   pub whole : (s : ℕ) → s < v.top.member.ties.geometry.sectors → is_some (seen_in (files_of v) s) ≡ true

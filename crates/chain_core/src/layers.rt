@@ -12,6 +12,7 @@ ghost use Rattle.chain_core.specs.Sessions.{AreReady, IsLow};
 
 use layer_session::{FileLayer, Layer, LayerFault, own_files};
 use merge_core::Marks;
+use meta_edit::Updates;
 use store_model::{Store, StoreFault};
 use vx_base::Geometry;
 
@@ -22,6 +23,8 @@ pub struct Underway {
     pub(crate) source: usize,
     /// Which stripes are copied.
     pub(crate) marks: Marks,
+    /// The pages that give the file directly above the source the target for its parent.
+    pub(crate) relink: Updates,
 }
 
 /// The layers of a chain's files, whose disk has this geometry.

@@ -9,12 +9,12 @@ use Rattle.chain_core.proofs.layers.Layers.put.Goals as goal
 pub returns-in-Some-clause-told : goal.returns-in-Some-clause-told
 returns-in-Some-clause-told g c =
     write_told c.args.first c.args.bytes.now c.args.self.now _ c.in-Some.leaf c.put.new.self (g.S.Store.disk c.args.store.now) (g.S.Store.disk c.put.new.store) c.put.result
-    (record { geometry = refl; below = refl; merge = refl; was = c.in-Some.is; now = refl }) c.put.ensures.moments c.put.ensures.put c.put.ensures.kept c.put.ensures.quiet
+    (record { geometry = refl; below = refl; merge = refl; parts = c.put.ensures.parts; was = c.in-Some.is; now = refl }) c.put.ensures.moments c.put.ensures.put c.put.ensures.kept c.put.ensures.quiet
 
 pub returns-in-Some-clause-ready : goal.returns-in-Some-clause-ready
 returns-in-Some-clause-ready g c =
     ready_still c.args.self.now _ c.in-Some.leaf c.put.new.self _ (g.S.Store.disk c.args.store.now) (g.S.Store.disk c.put.new.store) c.put.result
-    (record { geometry = refl; below = refl; merge = refl; was = c.in-Some.is; now = refl }) c.put.ensures.parts c.requires.ready
+    (record { geometry = refl; below = refl; merge = refl; parts = c.put.ensures.parts; was = c.in-Some.is; now = refl }) c.put.ensures.parts c.requires.ready
     (others_stand.put c.in-Some.leaf _ _ (g.S.Store.disk c.args.store.now) (g.S.Store.disk c.put.new.store) (leaf_of c.args.self.now c.in-Some.leaf (g.S.Store.disk c.args.store.now) c.in-Some.is c.requires.ready).ready c.put.ensures.moments) c.put.ensures.counts c.put.ensures.err c.put.ensures.ready c.put.ensures.refused
 
 pub returns-in-Some-clause-room : goal.returns-in-Some-clause-room
