@@ -11,4 +11,5 @@ pub mod Bringing
 pub mod Taking
 pub mod ReadOnly
 pub mod FileLayers
+pub mod Masked
 pub mod Laws
