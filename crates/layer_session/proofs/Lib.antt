@@ -63,6 +63,10 @@ pub mod Readable
 pub mod Tests
 pub mod ReadOnly
 pub mod FileLayers
+mod Masking
+mod Spots
+mod Emptied
+mod Spotting
 pub mod Beginning
 pub mod BitRuns
 pub mod Brought

@@ -12,4 +12,5 @@ pub mod Taking
 pub mod ReadOnly
 pub mod FileLayers
 pub mod Updating
+pub mod Masked
 pub mod Laws

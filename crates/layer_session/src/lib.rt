@@ -5,6 +5,7 @@ mod file;
 mod file_layer;
 mod geometry;
 mod laws;
+mod masked;
 mod planning;
 mod preparing;
 mod read_layer;

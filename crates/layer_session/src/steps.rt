@@ -33,7 +33,7 @@ use vhdx_format::MEGABYTE;
 pub const FULLY_PRESENT: u32 = 6;
 
 /// That of one of which the file has the marked sectors alone.
-const PARTIALLY_PRESENT: u32 = 7;
+pub const PARTIALLY_PRESENT: u32 = 7;
 
 impl Layer {
     // A block of which these sectors are all becomes zeros without a place, and leaves its place.
