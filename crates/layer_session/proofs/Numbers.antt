@@ -240,6 +240,13 @@ reads_items header old parts d =
 region_of : (header : Header) (old : List ℕ) (parts : Parts) (d : IsRead header old parts) (file : List ℕ) → read_metadata (metadata_region file d.regions) d.regions.bat_len ≡ read_metadata (bytes_at file parts.meta_at parts.meta_len) parts.bat_len
 region_of header old parts d file = let p = parts_are header old parts d in rw (p.meta_at, p.meta_len, p.bat_len) refl
 
+-- the metadata are read
+pub metadata_read : (header : Header) (old : List ℕ) (parts : Parts) → read_parts header old ≡ Ok parts → (m : Metadata) × (read_metadata (bytes_at old parts.meta_at parts.meta_len) parts.bat_len ≡ Ok m)
+metadata_read header old parts h =
+    let d = is_read header old parts h in
+    let r = reads_items header old parts d in
+    (r.m, sym (region_of header old parts d old) ∙ r.is)
+
 -- what the metadata say of locator and retired name is the numbers'
 pub items_read : (header : Header) (old : List ℕ) (parts : Parts) (m : Metadata) → read_parts header old ≡ Ok parts → read_metadata (bytes_at old parts.meta_at parts.meta_len) parts.bat_len ≡ Ok m → (m.locator ≡ parts.locator) × (m.retired ≡ parts.retired)
 unfolding parts_of

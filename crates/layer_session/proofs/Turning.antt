@@ -119,7 +119,6 @@ module _ (region : RegionBytes) where
 
 -- ---- pages of a file's metadata
 
-
 module _ (parts : Parts) (sizes : AreSizes parts) (old : List ℕ) (numbers : read_parts parts.header old ≡ Ok parts) (sound : IsSoundTable (shape_of parts) (taken_areas parts) old) (long : 327680 ≤ length old)
     (pages : List Page) (inside : All (IsInRegion (metadata_of parts old)) pages) where
   abbrev p : Shape

@@ -127,9 +127,11 @@ module _ (l : Layer) (pages : List Page) (old new : Disk) (one_file : l.log.file
           let here : KeepsBeside l.log pages (seen (file_of t file.number)) (seen (file_of u file.number)) = subst (λ i. KeepsBeside l.log pages (seen (file_of t i)) (seen (file_of u i))) n k in
           let are : AreTables l.tables.parts (seen (file_of t file.number)) pages cache = puts (seen (file_of t file.number)) s.as_held.pages (lie_in_file l t file s none pages x.ties x.region into) in
           let p : Parts = named_as x.ties.locator x.ties.retired s.parts in
-          let w = whole_now l t file s none pages x.ties x.region into cache are keeps in
-          (p, subst (λ i. IsHeld then p file.member.layer (seen (file_of u i))) s.number
-          (same_log (with_changed l pages cache) log p file.member.layer (seen (file_of u file.number)) (held_still (with_changed l pages cache) t (turned x.ties x.region file) p s.tables w (seen (file_of u file.number)) here)))
+          let w = whole_now l t file s none pages x.ties x.region into cache are keeps in (
+            p,
+            subst (λ i. IsHeld then p file.member.layer (seen (file_of u i))) s.number
+                (same_log (with_changed l pages cache) log p file.member.layer (seen (file_of u file.number)) (held_still (with_changed l pages cache) t (turned x.ties x.region file) p s.tables w (seen (file_of u file.number)) here)),
+          )
 
       rest_held : (t u : Trace) → Turns l pages t → KeepsBeside l.log pages (seen (file_of t l.log.file)) (seen (file_of u l.log.file)) → HoldsRest l then 0 0 t u
       rest_held t u x k = record { holds = λ file s. let h = one_held t u file x s k in (h.0, (file.member.layer, h.1, λ i e. refl)) }

@@ -19,7 +19,7 @@ pub fn writes_are_served()
     ensures { WritesAreServed }
 {}
 
-/// Pages by which a file's metadata are read otherwise turn what a layer serves.
+/// Pages by which a file's metadata are read otherwise turn what a layer serves; and its metadata are read, and say what ties it.
 pub fn pages_turn()
     ensures { PagesTurn }
 {}

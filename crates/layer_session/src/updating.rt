@@ -42,6 +42,7 @@ impl Layer {
         if !self.can_take(pages) {
             return Ok(());
         }
+        // Where a change fails, reads go on over these pages.
         self.tables.put_pages(pages);
         self.log.commit(store, &mut self.tables.pending)?;
         self.space.committed();
