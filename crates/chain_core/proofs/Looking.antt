@@ -55,7 +55,7 @@ read_on first count who v layers trace s =
       whole = s.whole;
       synced = s.synced;
       still = s.still;
-      past = past_goes_on.call z v.opening v.history e (λ s. false) v.leaf v.began trace trace s.past (opens_still first count who v layers trace s);
+      past = past_goes_on.call z v.opening v.history e (λ s. false) (λ s. false) v.leaf v.began trace trace (λ s out. refl) s.past (opens_still first count who v layers trace s);
     } in
     subst (λ (top : Placed). let w : State = record longer { top = top } in IsServing layers w trace) (read_leaves z first count v.top) kept
 

@@ -197,7 +197,7 @@ done e v old new leaf next trace now step serving is =
         whole = whole_on z e.call v.top v.others serving.whole;
         synced = serving.synced;
         still = still_others v old (ShowsFile (wide z e.call v.top)) trace now serving is.moments;
-        past = past_goes_on.call z v.opening v.history e (λ s. false) v.leaf v.began trace now serving.past call.moments;
+        past = past_goes_on.call z v.opening v.history e (λ s. false) (λ s. false) v.leaf v.began trace now (λ s out. refl) serving.past call.moments;
       };
     }
 

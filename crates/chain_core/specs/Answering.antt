@@ -106,7 +106,7 @@ pub record IsRefused (v : State) (layers : Layers) (trace now : Trace) : Type 0 
   pub moments : EachOpensNow v trace now
   pub serving : IsServing layers v now
 
--- The call broke the session, for good; from then on what it names is as a dirty sector.
+-- The call broke the session, for good; from then on it is the next one behind the whole history, and what it names is open.
 pub record HasBroken (e : Entry) (v : State) (trace now : Trace) : Type 0 where
   pub moments : EachOpensBefore e v trace now
   pub still : LeavesOthers v now
