@@ -78,8 +78,8 @@ pub data AreTold (drive : Drive) : ℕ → History → Option Break → List Lin
 
 -- ---- and what stands behind them
 
--- A session stands so over the state: it serves the history; or a fault has broken it, in a call whose sectors are open for good, and
--- each moment since it began opens to a prefix of the history.
+-- A session stands so over the state: it serves the history; or a fault has broken it, in a call that is the next one behind the whole
+-- history for good, and each moment since it began opens to a prefix of the history.
 pub data Stands (v : State) (s : Session) (now : Trace) : Option Break → Type 0 where
   serves : s.broken ≡ None → IsServing s.layers v now → Stands v s now None
   is_broken : (b : Break) → s.broken ≡ Some b.fault → LeavesOthers v now

@@ -22,7 +22,7 @@ use Rattle.script_session.specs.Histories.{AreTold, Break, Drive, disk_after}
 use Rattle.script_session.specs.Told.{Told, last_fault, sector_size, transcript}
 use Rattle.script_session.specs.declared.session.ScriptRun.{ScriptRun}
 
--- the sectors that the call names which broke a session: a crash may leave anything in them
+-- the sectors that the call names which broke a session: behind the whole history a crash may leave anything in them
 abbrev pub open_by : Option Break → ℕ → Bool
 open_by None s = false
 open_by (Some b) s = is_named sector_size b.call s

@@ -93,8 +93,8 @@ first_rests now name is_broken disk idle opens = record {
   m = 0;
   within = omega arith;
   opens =
-      subst (λ d. EachImageOpens name (λ s. is_open sector_size [] 0 s || is_broken s) d now) opens.is
-      (rest_opens now name (λ s. is_open sector_size [] 0 s || is_broken s) opens.retired opens.chain idle opens.linked);
+      subst (λ d. EachImageOpens name (λ s. is_open sector_size [] is_broken 0 s) d now) opens.is
+      (rest_opens now name (λ s. is_open sector_size [] is_broken 0 s) opens.retired opens.chain idle opens.linked);
 }
 
 -- a host that stays as it was

@@ -217,15 +217,18 @@ module _ (leaf : List ℕ) (ro : Bool) (before now : World) (status : Status) (i
               meant = Refused;
               text = _;
               said = record {
-                refusal = Spent number;
-                text_is = refl;
-                so = steps.spent number (λ f told other links. subst (λ (l : Linked). IsSpent number l.files) (one_linked leaf linked before.host mid h f told other links) (begins_high number linked.files cause.0)) cause.1;
+                refused = record {
+                  refusal = Spent number;
+                  text_is = refl;
+                  so = steps.spent number (λ f told other links. subst (λ (l : Linked). IsSpent number l.files) (one_linked leaf linked before.host mid h f told other links) (begins_high number linked.files cause.0)) cause.1;
+                };
+                unrun = refl;
               };
               sent = sent;
             }
             by_refusal (refusal.Spent number) counts cause (inr sent) = record { meant = NoMemory; text = codes "no memory\n"; said = refl; sent = sent }
             by_refusal (refusal.IdUnfit id) counts cause (inl sent) =
-                record { meant = Refused; text = _; said = record { refusal = IdUnfit id; text_is = refl; so = steps.id_unfit id (draws_for (Some id) cause) }; sent = sent }
+                record { meant = Refused; text = _; said = record { refused = record { refusal = IdUnfit id; text_is = refl; so = steps.id_unfit id (draws_for (Some id) cause) }; unrun = refl }; sent = sent }
             by_refusal (refusal.IdUnfit id) counts cause (inr sent) = record { meant = NoMemory; text = codes "no memory\n"; said = refl; sent = sent }
 
         not_run_runs : RunsSteps leaf ro before now status

@@ -26,12 +26,12 @@ pub record IsCleanFolderImage (folder : List Held) (image : List NamedBytes) : T
 abbrev pub EachImageOpens : List ℕ → (ℕ → Bool) → Disk → List Held → Type 0
 EachImageOpens leaf among disk folder = (image : List NamedBytes) → IsCleanFolderImage folder image → OpensWithin (files_in image) leaf among disk
 
--- The disk is that of the first m calls of the history, for some m, outside the sectors that are dirty then, those that the next call
--- names, and those of a call that broke the session.
+-- The disk is that of the first m calls of the history, for some m, outside the sectors that are dirty then and those that the next call
+-- names: behind the whole history that is the call that broke the session, if one did.
 pub record OpensToFirst (leaf : List ℕ) (opening : Disk) (h : History) (is_broken : ℕ → Bool) (folder : List Held) : Type 0 where
   pub m : ℕ
   pub within : m ≤ length h
-  pub opens : EachImageOpens leaf (λ s. is_open sector_size h m s || is_broken s) (replay sector_size opening (take m h)) folder
+  pub opens : EachImageOpens leaf (λ s. is_open sector_size h is_broken m s) (replay sector_size opening (take m h)) folder
 
 -- A file while a session goes on: only the leaf is written; any other holds what it held, nothing of it being unsynced.
 pub data IsSpared (leaf : List ℕ) (held : Held) : Held → Type 0 where

@@ -120,10 +120,15 @@ pub data RefusesSession (leaf : List ℕ) (before now : World) : Refusal → Typ
   spent : (number : ℕ) → LeadsAt leaf before (λ linked. IsSpent number linked.files) → now.drawn ≡ before.drawn → RefusesSession leaf before now (Spent number)
   id_unfit : (id : List ℕ) → DrawsForLeaf leaf before now (Some id) → RefusesSession leaf before now (IdUnfit id)
 
+-- a session that one of these refuses: no line of the script was run
+pub record ShowsNoSession (leaf : List ℕ) (before now : World) (ran : Ran) (text : List ℕ) : Type 0 where
+  pub refused : ShowsRefusal (RefusesSession leaf before now) text
+  pub unrun : ran.lines ≡ []
+
 -- what is printed once the chain is opened
 abbrev pub IsStepsText : List ℕ → Bool → World → World → Ran → Status → List ℕ → Type 0
 IsStepsText leaf read_only before now ran Done text = ShowsTranscript leaf read_only before now ran text
-IsStepsText leaf read_only before now ran Refused text = ShowsRefusal (RefusesSession leaf before now) text
+IsStepsText leaf read_only before now ran Refused text = ShowsNoSession leaf before now ran text
 IsStepsText leaf read_only before now ran Usage text = ⊥
 IsStepsText leaf read_only before now ran Fault text = ShowsStepsFault leaf before now ran text
 IsStepsText leaf read_only before now ran NoMemory text = text ≡ codes "no memory\n"
