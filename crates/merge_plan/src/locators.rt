@@ -11,7 +11,7 @@ ghost use Rattle.merge_plan.specs.Steps.{AreBytes, AreTyped, HasSoundLocator, Le
 use crate::finding::Found;
 use crate::refusal::PrepareRefusal;
 use link_rules::LinkedFile;
-use parent_locator::{Locator, fits, len_of, parse, relinked, with_both_linkages};
+use parent_locator::{Locator, LocatorRefusal, fits, len_of, parse, relinked, with_both_linkages};
 use std::alloc::Global;
 use vx_base::{Bytes, Guid, NoRoom};
 
@@ -52,11 +52,12 @@ fn pairs_of(alloc: Global, file: &LinkedFile) -> Result<Locator, NoRoom>
     ensures { IfOk result (λ pairs. pairs ≡ locator_pairs file.now.parts.locator) }
 {
     let Some(item) = &file.parts.locator else {
-        return Err(NoRoom);
+        unreachable!()
     };
     match parse(alloc, item.as_slice()) {
         Ok(pairs) => Ok(pairs),
-        Err(_) => Err(NoRoom),
+        Err(LocatorRefusal::NoRoom) => Err(NoRoom),
+        Err(_) => unreachable!(),
     }
 }
 
