@@ -1,0 +1,7 @@
+pub mod Opened
+pub mod Judging
+pub mod Placing
+pub mod Lines
+pub mod Drawn
+pub mod Paging
+pub mod Planned
