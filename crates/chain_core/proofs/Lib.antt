@@ -1,5 +1,6 @@
 mod Rests
 mod Putting
+mod Finishing
 pub mod Steps
 pub mod Leafs
 pub mod Standing
