@@ -4,9 +4,14 @@
 
 mod marking;
 mod marks;
+mod piece;
+mod putting;
 mod stamps;
 mod stripes;
+mod taking;
 
 pub use marks::Marks;
+pub use piece::Piece;
+pub use putting::put_piece;
 pub use stamps::Stamps;
 pub use stripes::{stripe_count, stripe_range, stripes_touched};
