@@ -2,6 +2,7 @@
 //! and the pieces that are taken from the source and put into the target.
 #![tactic(auto)]
 
+mod laws;
 mod marking;
 mod marks;
 mod piece;
@@ -10,6 +11,7 @@ mod stamps;
 mod stripes;
 mod taking;
 
+pub use laws::calls_touch_ranges;
 pub use marks::Marks;
 pub use piece::Piece;
 pub use putting::put_piece;
