@@ -8,7 +8,6 @@ pub mod Concluding
 pub mod Holding
 pub mod Finding
 pub mod Looking
-pub mod Opened
 pub mod Beginning
 pub mod Fresh
 pub mod Showing

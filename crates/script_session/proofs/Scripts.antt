@@ -17,7 +17,8 @@ use Rattle.link_rules.specs.declared.linked.LinkedFile.{LinkedFile}
 use Rattle.layer_session.specs.declared.file.Layer.{Layer}
 use Rattle.chain_core.specs.Answering.{HasClosed, HasEnded}
 use Rattle.chain_core.specs.Sessions.{Session}
-use Rattle.chain_core.specs.Starting.{CanStart, HasStarted, IsOfDisk, StartsWith, opening_disk, started, under}
+use Rattle.merge_plan.specs.Attached.{CanStart}
+use Rattle.chain_core.specs.Starting.{HasStarted, IsOfDisk, StartsWith, opening_disk, started, under}
 use Rattle.chain_core.specs.States.{IsServing, State, disk_now, sector_of}
 use Rattle.chain_core.specs.declared.starting.Mode.{Mode}
 use Rattle.chain_core.specs.declared.starting.Mode.TheVariants.{Guests, ReadOnly}
