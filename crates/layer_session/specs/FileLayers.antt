@@ -1,18 +1,22 @@
 -- Files of a chain, each in a session or only read.
-use Rattle.std.specs.Prelude.{◌≡◌, ◌≢◌, ◌<◌, ⊤, ℕ, List, [], ◌∷◌, Option, Some, None, map}
+use Rattle.std.specs.Prelude.{◌≡◌, ◌≢◌, ◌<◌, ◌≤◌, ⊤, ℕ, true, is_some, List, [], ◌∷◌, Option, Some, None, IfSome, map}
 use Rattle.std.specs.List.{AllByRecursion}
 use Rattle.vx_base.specs.declared.parts.Geometry.{Geometry}
 use Rattle.vx_base.specs.declared.parts.Parts.{Parts}
 use Rattle.store_model.specs.Disk.{Disk, WhereBothTold}
-use Rattle.store_model.specs.Trace.{Trace}
+use Rattle.store_model.specs.File.{is_synced}
+use Rattle.store_model.specs.Trace.{Trace, file_of}
 use Rattle.table_pages.specs.declared.tables.TableParts.{TableParts}
 use Rattle.chain_model.specs.Images.{Placed, members_of}
 use Rattle.chain_model.specs.Layers as chain
-use Rattle.chain_model.specs.Members.{layers_of}
-use Rattle.chain_model.specs.Sessions.{GoesOver}
-use Rattle.layer_session.specs.Calls.{IsBeside, KeepsOver, PutsInto, own_bytes, own_file}
+use Rattle.chain_model.specs.Members.{Ties, layers_of}
+use Rattle.chain_model.specs.Moments.{IsPhase}
+use Rattle.chain_model.specs.Sessions.{GoesOver, IsKept, ShowsFile}
+use Rattle.vhdx_format.specs.declared.log_entry.Page.{Page}
+use Rattle.layer_session.specs.Calls.{IsBeside, KeepsOver, PutsInto, own_bytes, own_file, settled}
 use Rattle.layer_session.specs.Keeping.{IsHeld, IsReadable, IsReady, Serves}
 use Rattle.layer_session.specs.ReadOnly.{CanRead, IsRead}
+use Rattle.layer_session.specs.Updating.{TurnsInto, turned}
 use Rattle.layer_session.specs.declared.file.Layer.{Layer}
 use Rattle.layer_session.specs.declared.file_layer.FileLayer.{FileLayer}
 use Rattle.layer_session.specs.declared.file_layer.FileLayer.TheVariants.{Session, Read}
@@ -60,6 +64,56 @@ pub record IsSameFile (old new : FileLayer) (disk : Disk) : Type 0 where
   pub ready : FileIsReady old disk → FileIsReady new disk
   pub holds : (trace : Trace) (layer : chain.Layer) → disk.told ≡ Some trace → Holds old trace layer → Holds new trace layer
   pub has : (trace : Trace) (file : Placed) → disk.told ≡ Some trace → HasFile old trace file → HasFile new trace file
+
+-- ---- a file's commit, its update, its end
+
+-- the file is in a session, and not only read
+abbrev pub HasSession : FileLayer → Type 0
+HasSession l = is_some (log_number l) ≡ true
+
+-- where it is in a session the last entry of its log has this number at most
+abbrev pub IsNumbered : ℕ → FileLayer → Type 0
+IsNumbered most l = IfSome (log_number l) (λ n. n ≤ most)
+
+-- no changed page of its tables waits for a commit
+abbrev pub WaitsForNone : FileLayer → Type 0
+WaitsForNone (Session l) = l.tables.pending ≡ []
+WaitsForNone (Read l) = ⊤
+
+-- At each moment from old to new, whatever is answered, each image of a file in a session shows it as before. No other file is changed.
+pub record FileKeepsOver (l : FileLayer) (old new : Trace) : Type 0 where
+  pub over : (file : Placed) → HasFile l old file → HasSession l → IsPhase file.number (ShowsFile file) old new
+
+-- After a commit a file in a session is had with nothing loose.
+pub record FileHasCommitted (old_l new_l : FileLayer) (old new : Trace) : Type 0 where
+  pub has : (file : Placed) → HasFile old_l old file → HasSession old_l → HasFile new_l new (settled file)
+
+-- After a failed change it is read on: as held it has the layer that it had.
+pub record FileHoldsStill (old_l new_l : FileLayer) (old new : Trace) : Type 0 where
+  pub holds : (file : Placed) → HasFile old_l old file → Holds new_l new file.member.layer
+
+-- The session of a file has ended: the file is synced, and nothing of it loose.
+pub record FileHasEnded (l : FileLayer) (old new : Trace) : Type 0 where
+  pub synced : (file : Placed) → HasFile l old file → HasSession l → is_synced (file_of new file.number) ≡ true
+  pub kept : (file : Placed) → HasFile l old file → HasSession l → IsKept new (settled file)
+
+-- the pages turn the metadata of the file that the layer has
+pub record FileTurns (l : FileLayer) (pages : List Page) (trace : Trace) : Type 0 where
+  pub file : Placed
+  pub ties : Ties
+  pub region : List ℕ
+  pub has : HasFile l trace file
+  pub into : TurnsInto (table_parts l).bat_len pages file ties region
+
+-- At each moment from old to new each image of the file shows it as before, or with what the pages turn its metadata into.
+pub record FileUpdatesOver (l : FileLayer) (pages : List Page) (old new : Trace) : Type 0 where
+  pub over : (file : Placed) (ties : Ties) (region : List ℕ) → HasFile l old file → TurnsInto (table_parts l).bat_len pages file ties region
+      → GoesOver file (turned ties region file) old new
+
+-- And then the layer has it so.
+pub record FileHasUpdated (old_l new_l : FileLayer) (pages : List Page) (old new : Trace) : Type 0 where
+  pub has : (file : Placed) (ties : Ties) (region : List ℕ) → HasFile old_l old file → TurnsInto (table_parts old_l).bat_len pages file ties region
+      → HasFile new_l new (turned ties region file)
 
 -- ---- several files
 

@@ -1,17 +1,21 @@
 //! A file of a chain, in a session or only read.
 
-ghost use Rattle.std.specs.Prelude.{◌≡◌, ◌+◌, ◌*◌, ◌^◌, ◌<◌, ◌≤◌, ℕ, List, length, Contains, IfErr, OnOk};
-ghost use Rattle.store_model.specs.Disk.{ReadFailed, WhereTold};
+ghost use Rattle.std.specs.Prelude.{◌≡◌, ◌+◌, ◌-◌, ◌*◌, ◌^◌, ◌<◌, ◌≤◌, ℕ, List, length, Contains, IfErr, OnOk, OnErr, None, Ok, is_some};
+ghost use Rattle.store_model.specs.Disk.{ReadFailed, WhereTold, WhereBothTold};
+ghost use Rattle.store_model.specs.Plans.{FailsToChange};
+ghost use Rattle.log_format.specs.PendingPages.{HasOnePageEach};
 ghost use Rattle.chain_model.specs.Images.{Placed, members_of};
 ghost use Rattle.chain_model.specs.Layers as chain;
 ghost use Rattle.chain_model.specs.Layers.{through};
 ghost use Rattle.chain_model.specs.Members.{layers_of};
 ghost use Rattle.layer_session.specs.Calls.{AddsOwned};
 ghost use Rattle.layer_session.specs.ReadOnly.{SomeReadFailed};
-ghost use Rattle.layer_session.specs.FileLayers.{AreReadableFiles, AreSameFiles, FileCanBeRead, FileLayersStand, HaveFiles, HaveSameNumbers, HasFile, Hold, Holds, IsSameFile, OthersStand, file_numbers, number_of, table_parts};
+ghost use Rattle.layer_session.specs.FileLayers.{AreReadableFiles, AreSameFiles, FileCanBeRead, FileIsReady, FileLayersStand, HaveFiles, HaveSameNumbers, HasFile, Hold, Holds, IsSameFile, OthersStand, file_numbers, log_number, number_of, table_parts};
+ghost use Rattle.layer_session.specs.FileLayers.{FileHasCommitted, FileHasEnded, FileHasUpdated, FileHoldsStill, FileKeepsOver, FileTurns, FileUpdatesOver, HasSession, IsNumbered, WaitsForNone};
 
 use crate::file::Layer;
 use crate::read_layer::ReadLayer;
+use log_format::Page;
 use sector_bits::are_set;
 use store_model::{Store, StoreFault};
 use vx_base::Geometry;
@@ -61,6 +65,77 @@ impl FileLayer {
         match self {
             FileLayer::Session(layer) => layer.own(store, first, count, out, mask, at),
             FileLayer::Read(layer) => layer.own(store, first, count, out, mask, at),
+        }
+    }
+
+    /// Commits a file that is in a session: a crash leaves from then on what the layer has. Of one that is only read nothing is
+    /// done. After a fault the file is to be written no more; reads go on.
+    pub fn commit<S: Store>(&mut self, store: &mut S) -> Result<(), StoreFault>
+        requires ready { FileIsReady self.old (S.disk store.old) }
+        requires numbers { IsNumbered (2 ^ 64 - 2 ^ 32) self.old }
+        // At each moment, whatever it answers, in every image without a torn match.
+        ensures moments { WhereBothTold (FileKeepsOver self.old) (S.disk store.old).told (S.disk store.new).told }
+        ensures committed { OnOk result (WhereBothTold (FileHasCommitted self.old self.new) (S.disk store.old).told (S.disk store.new).told) }
+        ensures ready { OnOk result (FileIsReady self.new (S.disk store.new)) }
+        ensures empty { OnOk result (WaitsForNone self.new) }
+        ensures number { (most : ℕ) → IsNumbered most self.old → IsNumbered (most + 1) self.new }
+        ensures session { is_some (log_number self.new) ≡ is_some (log_number self.old) }
+        ensures parts { table_parts self.new ≡ table_parts self.old }
+        ensures readable { OnErr result (FileCanBeRead self.new (S.disk store.new)) }
+        ensures holds { OnErr result (WhereBothTold (FileHoldsStill self.old self.new) (S.disk store.old).told (S.disk store.new).told) }
+        ensures reads { log_number self.old ≡ None → (result ≡ Ok tt) × (self.new ≡ self.old) × (store.new ≡ store.old) }
+        ensures counts { OnOk result (S.disk store.new ≡ record (S.disk store.old) { told = (S.disk store.new).told }) }
+        ensures err { IfErr result (FailsToChange (number_of self.old) (S.disk store.old) (S.disk store.new)) }
+    {
+        match self {
+            FileLayer::Session(layer) => layer.commit(store),
+            FileLayer::Read(_) => Ok(()),
+        }
+    }
+
+    /// Commits pages that change the metadata of a file in a session, as one entry of its log: at each moment a crash leaves the
+    /// file tied as before, or anew. Nothing else waits for a commit. After a fault the file is to be written no more; reads go on.
+    pub fn update<S: Store>(&mut self, store: &mut S, pages: &[Page]) -> Result<(), StoreFault>
+        requires session { HasSession self.old }
+        requires ready { FileIsReady self.old (S.disk store.old) }
+        requires empty { WaitsForNone self.old }
+        requires numbers { IsNumbered (2 ^ 64 - 2 ^ 32) self.old }
+        requires few { length pages.now ≤ 120 }
+        requires apart { HasOnePageEach pages.now }
+        requires turns { WhereTold (S.disk store.old).told (FileTurns self.old pages.now) }
+        // At each moment, whatever it answers, in every image without a torn match.
+        ensures moments { WhereBothTold (FileUpdatesOver self.old pages.now) (S.disk store.old).told (S.disk store.new).told }
+        ensures updated { OnOk result (WhereBothTold (FileHasUpdated self.old self.new pages.now) (S.disk store.old).told (S.disk store.new).told) }
+        ensures ready { OnOk result (FileIsReady self.new (S.disk store.new)) }
+        ensures empty { OnOk result (WaitsForNone self.new) }
+        ensures number { (most : ℕ) → IsNumbered most self.old → IsNumbered (most + 1) self.new }
+        ensures session { HasSession self.new }
+        ensures parts { table_parts self.new ≡ table_parts self.old }
+        ensures readable { OnErr result (FileCanBeRead self.new (S.disk store.new)) }
+        ensures holds { OnErr result (WhereBothTold (FileHoldsStill self.old self.new) (S.disk store.old).told (S.disk store.new).told) }
+        ensures counts { OnOk result (S.disk store.new ≡ record (S.disk store.old) { told = (S.disk store.new).told }) }
+        ensures err { IfErr result (FailsToChange (number_of self.old) (S.disk store.old) (S.disk store.new)) }
+    {
+        match self {
+            FileLayer::Session(layer) => layer.update(store, pages),
+            FileLayer::Read(_) => Ok(()),
+        }
+    }
+
+    /// Ends a file's session, if it is in one: commits, and writes a header that names no log. After a fault the file is to be
+    /// written no more, so that its log stays named.
+    pub fn end<S: Store>(self, store: &mut S) -> Result<(), StoreFault>
+        requires ready { FileIsReady self (S.disk store.old) }
+        requires numbers { IsNumbered (2 ^ 64 - 2 ^ 32) self }
+        ensures moments { WhereBothTold (FileKeepsOver self) (S.disk store.old).told (S.disk store.new).told }
+        ensures ended { OnOk result (WhereBothTold (FileHasEnded self) (S.disk store.old).told (S.disk store.new).told) }
+        ensures reads { log_number self ≡ None → (result ≡ Ok tt) × (store.new ≡ store.old) }
+        ensures counts { OnOk result (S.disk store.new ≡ record (S.disk store.old) { told = (S.disk store.new).told }) }
+        ensures err { IfErr result (FailsToChange (number_of self) (S.disk store.old) (S.disk store.new)) }
+    {
+        match self {
+            FileLayer::Session(layer) => layer.end(store),
+            FileLayer::Read(_) => Ok(()),
         }
     }
 }
