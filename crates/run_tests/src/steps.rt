@@ -173,11 +173,26 @@ fn blocks_of_a_child(rt: HostRuntime) -> Result<(), Fail> {
     Ok(())
 }
 
-// The first bytes of sectors 0 and 1 of the disk of d.vhdx, as a dump has them.
+// A sector's line of a dump: so many bytes bb, then zeros.
+fn front_line(alloc: Global, number: &str, n: usize) -> Result<String, Fail> {
+    let mut line = String::from_str(alloc, number)?;
+    line.push_str(" ")?;
+    for i in 0..512 {
+        line.push_str(if i < n { "bb" } else { "00" })?;
+    }
+    line.push_str("\n")?;
+    Ok(line)
+}
+
+// Stands for a sector of which the front alone was written.
+const TORN: u8 = 0x0B;
+
+// The first bytes of sectors 0 and 1 of the disk of d.vhdx, as a dump has them, or that the second was written up to there.
 fn first_sectors<R: Threads + Wait>(
     rt: &R,
     alloc: Global,
     host: &mut MemHost,
+    front: usize,
 ) -> Result<[u8; 2], Fail>
     requires { WhereTold (hosted_by host.old).folder AllIdle }
 {
@@ -187,13 +202,15 @@ fn first_sectors<R: Threads + Wait>(
         return Err(Fail::from("not dumped"));
     }
     for (zero, one, shown) in [
-        ("00", "00", [0, 0]),
-        ("aa", "00", [0xAA, 0]),
-        ("aa", "bb", [0xAA, 0xBB]),
-        ("00", "bb", [0, 0xBB]),
+        ("00", 0, [0, 0]),
+        ("aa", 0, [0xAA, 0]),
+        ("aa", 512, [0xAA, 0xBB]),
+        ("00", 512, [0, 0xBB]),
+        ("aa", front, [0xAA, TORN]),
+        ("00", front, [0, TORN]),
     ] {
         let mut text = line_of(alloc, "0", zero)?;
-        let second = line_of(alloc, "1", one)?;
+        let second = front_line(alloc, "1", one)?;
         text.push_str(second.as_str())?;
         if out.bytes.as_slice() == text.as_bytes() {
             return Ok(shown);
@@ -203,6 +220,14 @@ fn first_sectors<R: Threads + Wait>(
 }
 
 const FLUSHED: &str = "write 0 1 aa\nflush\nwrite 1 1 bb\n";
+
+// How many of a sector's bytes an image has at least, if it has some of them.
+fn front_of(pick: Pick) -> usize {
+    match pick {
+        Pick::Front(n) => n as usize,
+        Pick::Nothing | Pick::Everything | Pick::EverySecond => 512,
+    }
+}
 
 // What a crash at this moment of the session leaves of the disk; None behind its end.
 fn crashed<R: Threads + Wait>(
@@ -230,23 +255,50 @@ fn crashed<R: Threads + Wait>(
     };
     let bytes = bytes_of(&left, "d.vhdx").ok_or("no file")?;
     let mut again = host_with(alloc, "d.vhdx", bytes)?;
-    Ok(Some(first_sectors(rt, alloc, &mut again)?))
+    Ok(Some(first_sectors(rt, alloc, &mut again, front_of(pick))?))
+}
+
+// What a crash at the last moment of the session leaves of the disk, and whether one at some moment left the second sector torn. At each
+// moment the second write is there only once the first one is, which was flushed before.
+fn each_crash<R: Threads + Wait>(
+    rt: &R,
+    alloc: Global,
+    pick: Pick,
+) -> Result<([u8; 2], bool), Fail> {
+    let mut shown = [0, 0];
+    let mut torn = false;
+    for moment in 0..1000 {
+        let Some(now) = crashed(rt, alloc, moment, pick)? else {
+            return if moment > 10 {
+                Ok((shown, torn))
+            } else {
+                Err(Fail::from("too few moments"))
+            };
+        };
+        if now[0] == 0 && now[1] != 0 {
+            return Err(Fail::from("the second write alone"));
+        }
+        torn |= now[1] == TORN;
+        shown = now;
+    }
+    Err(Fail::from("too many moments"))
 }
 
 #[test]
 fn crashes_of_a_session(rt: HostRuntime) -> Result<(), Fail> {
     for pick in [Pick::Nothing, Pick::Everything, Pick::EverySecond] {
-        let mut shown = [0, 0];
-        for moment in 0..1000 {
-            let Some(now) = crashed(&rt, rt.alloc(), moment, pick)? else {
-                assert!(rt; moment > 10);
-                break;
-            };
-            // The second write began when the first one was flushed.
-            assert!(rt; now[0] == 0xAA || now[1] == 0, "{moment} {pick:?}");
-            shown = now;
-        }
-        assert_eq!(rt; shown, [0xAA, 0xBB]);
+        let left = each_crash(&rt, rt.alloc(), pick)?;
+        assert_eq!(rt; left, ([0xAA, 0xBB], false), "{pick:?}");
+    }
+    Ok(())
+}
+
+// Of each write 40 bytes tear a header, and an entry of the log in its own; 256 a sector; 6,000 an entry in its first page.
+#[test]
+fn torn_writes_of_a_session(rt: HostRuntime) -> Result<(), Fail> {
+    for (front, torn) in [(40, true), (256, true), (6000, false)] {
+        let left = each_crash(&rt, rt.alloc(), Pick::Front(front))?;
+        assert_eq!(rt; left, ([0xAA, 0xBB], torn), "{front}");
     }
     Ok(())
 }
