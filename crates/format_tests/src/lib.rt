@@ -8,6 +8,8 @@ mod locators;
 #[cfg(test)]
 mod logs;
 #[cfg(test)]
+mod merges;
+#[cfg(test)]
 mod metadata;
 #[cfg(test)]
 mod numbers;

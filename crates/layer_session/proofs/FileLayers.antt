@@ -1,10 +1,8 @@
 -- Files of a chain, each in a session or only read.
-use Rattle.std.proofs.Common.{◌≡◌, ◌≢◌, ◌⊎◌, ℕ, List, [], ◌∷◌, map, length, suc, Option, Some, None, refl, sym, ap, subst, ◌∙◌, arith}
+use Rattle.std.proofs.Common.{◌≡◌, ◌≢◌, ◌⊎◌, ℕ, List, [], ◌∷◌, map, suc, Some, refl, sym, ap, subst, ◌∙◌, arith}
 use Rattle.std.specs.Prelude.{Contains}
-use Rattle.std.specs.List.{AllByRecursion}
 use Rattle.vx_base.specs.declared.parts.Geometry.{Geometry}
-use Rattle.vx_base.specs.declared.parts.Parts.{Parts}
-use Rattle.store_model.specs.Disk.{Disk, WhereBothTold, WhereTold}
+use Rattle.store_model.specs.Disk.{Disk, WhereBothTold}
 use Rattle.store_model.specs.File.{File, seen}
 use Rattle.store_model.specs.Trace.{NamedBytes, Trace, at_moment, file_of, moment}
 use Rattle.store_model.proofs.Spans.{at_moment-now}
@@ -15,10 +13,10 @@ use Rattle.chain_model.specs.Members.{layers_of}
 use Rattle.chain_model.specs.Moments.{IsPhase}
 use Rattle.chain_model.specs.PhaseLaws.{loosened}
 use Rattle.chain_model.specs.Sessions.{ShowsFile}
-use Rattle.layer_session.specs.Calls.{AddsOwned, IsBeside, IsSame, KeepsOver, PutsInto, loose_or_named, own_bytes, own_file}
-use Rattle.layer_session.specs.FileLayers.{AreOthers, AreReadableFiles, AreReadyFiles, AreSameFiles, FileCanBeRead, FileIsReady, FileLayersStand, HasFile, HaveFiles, Hold, Holds, IsReadableFile, IsReadyFile, IsSameFile, LeavesOthers, OthersStand, file_numbers, log_number, number_of, table_parts}
+use Rattle.layer_session.specs.Calls.{AddsOwned, IsBeside, IsSame, KeepsOver, PutsInto, loose_or_named, own_file}
+use Rattle.layer_session.specs.FileLayers.{AreOthers, AreReadableFiles, AreReadyFiles, AreSameFiles, FileCanBeRead, FileIsReady, FileLayersStand, HasFile, HaveFiles, Hold, Holds, IsReadableFile, IsSameFile, LeavesOthers, OthersStand, file_numbers, number_of, table_parts}
 use Rattle.layer_session.specs.Keeping.{IsHeld, IsReady, Serves}
-use Rattle.layer_session.specs.ReadOnly.{IsRead, IsSameRead}
+use Rattle.layer_session.specs.ReadOnly.{IsSameRead}
 use Rattle.layer_session.specs.declared.file.Layer.{Layer}
 use Rattle.layer_session.specs.declared.read_layer.ReadLayer.{ReadLayer}
 use Rattle.layer_session.specs.declared.file_layer.FileLayer.{FileLayer}

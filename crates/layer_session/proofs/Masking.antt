@@ -1,5 +1,5 @@
 -- Sectors that a test names are put, one step behind another.
-use Rattle.std.proofs.Common.{◌≡◌, ◌≢◌, ℕ, ◌+◌, ◌-◌, ◌*◌, ◌<◌, ◌≤◌, ◌⊎◌, ◌==◌, ◌&&◌, ◌||◌, Bool, true, false, List, length, take, drop, Option, Some, None, refl, sym, ap, subst, ◌∙◌, arith, inl, inr, eq-eqb, if◌then◌else◌}
+use Rattle.std.proofs.Common.{◌≡◌, ◌≢◌, ℕ, ◌+◌, ◌-◌, ◌*◌, ◌<◌, ◌≤◌, ◌==◌, ◌&&◌, ◌||◌, Bool, true, false, List, length, take, drop, Option, Some, refl, sym, ap, subst, ◌∙◌, arith, eq-eqb, if◌then◌else◌}
 use Rattle.std.proofs.lemmas.Bool.{and_parts, eqb-true}
 use Rattle.std.specs.Prelude.{Err, IfErr, Ok, Result}
 use Rattle.vx_base.specs.Fields.{bytes_at}
@@ -28,7 +28,6 @@ use Rattle.layer_session.proofs.Ending.{phase_weaken, phases_join}
 use Rattle.layer_session.proofs.Joining.{among_split, or_none, or_parts, same_file}
 use Rattle.layer_session.proofs.Parting.{none_among}
 use Rattle.layer_session.proofs.Payload.{within}
-use Rattle.layer_session.proofs.Readying.{quiet_now}
 use Rattle.layer_session.proofs.Told.{both_and, both_map, both_self, both_then}
 use Rattle.layer_session.proofs.Zeroing.{bytes_join, bytes_off}
 

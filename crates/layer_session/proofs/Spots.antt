@@ -1,16 +1,14 @@
 -- Where sectors of one block are to be written, once the block has a place.
-use Rattle.std.proofs.Common.{◌≡◌, ◌≢◌, ℕ, ◌+◌, ◌-◌, ◌*◌, ◌/◌, ◌%◌, ◌^◌, ◌<◌, ◌≤◌, ◌⊎◌, min, Bool, true, false, List, length, Option, Some, refl, sym, ap, subst, ◌∙◌, arith, inl, inr, mul_comm}
-use Rattle.std.specs.Prelude.{Err, IfOk, Ok, Result}
+use Rattle.std.proofs.Common.{◌≡◌, ℕ, ◌+◌, ◌-◌, ◌*◌, ◌/◌, ◌%◌, ◌^◌, ◌<◌, ◌≤◌, ◌⊎◌, Bool, true, false, List, length, Option, Some, refl, sym, ap, subst, ◌∙◌, arith, inl, inr, mul_comm}
 use Rattle.std.proofs.Math.Nat.{add-mul}
 use Rattle.std.proofs.lemmas.Bool.{cases_lt}
 use Rattle.std.proofs.lemmas.Nat.{le-div, mod_below}
 use Rattle.vx_base.specs.Fields.{zeros}
-use Rattle.vhdx_format.specs.AllocationTables.{IsSectorSize, state_of, unit_of}
+use Rattle.vhdx_format.specs.AllocationTables.{state_of, unit_of}
 use Rattle.vhdx_format.specs.Fields.{megabyte}
 use Rattle.vhdx_format.specs.FileParts.{shape_of}
 use Rattle.vhdx_format.specs.HeldBlocks.{payload}
-use Rattle.vhdx_format.specs.Layers.{HasSizes, Shape, bitmap_entry_of, chunk_ratio_of, entry_of, place_at, state_at, table_entry}
-use Rattle.vhdx_format.specs.declared.log_entry.Page.{Page}
+use Rattle.vhdx_format.specs.Layers.{HasSizes, Shape, chunk_ratio_of, entry_of, place_at, state_at, table_entry}
 use Rattle.vhdx_format.proofs.LayerLemmas.{same_chunk, sector_entries}
 use Rattle.vhdx_format.proofs.SizeLemmas.{block_least, sector_least}
 use Rattle.store_model.specs.Disk.{Disk, WhereBothTold, WhereTold}
@@ -24,29 +22,23 @@ use Rattle.log_format.specs.PendingPages.{has_place}
 use Rattle.chain_model.specs.Images.{Placed}
 use Rattle.layer_session.specs.declared.file.Layer.{Layer}
 use Rattle.layer_session.specs.declared.masked.Spot.{Spot}
-use Rattle.layer_session.specs.declared.planning.Plan.{Plan}
-use Rattle.layer_session.specs.declared.planning.Step.TheVariants.{Make, MakePart, Mark, Write}
 use Rattle.layer_session.specs.Blocks.{run_in_block}
-use Rattle.layer_session.specs.declared.file.LayerFault.{LayerFault}
-use Rattle.layer_session.specs.Calls.{Fails, HasKept, HoldsRest, is_among, loose_or_named, placed_with}
+use Rattle.layer_session.specs.Calls.{loose_or_named, placed_with}
 use Rattle.layer_session.specs.Keeping.{IsReady, IsRunAt, Serves}
-use Rattle.layer_session.specs.Masked.{HasEmpty, HasMarkPages, IsSpot, KeepsSpots, StandsInPart}
-use Rattle.layer_session.specs.Planning.{are_marked, is_marking, step_by}
-use Rattle.layer_session.specs.Steps.{IsMade, IsToDo, StandFrom, held_by}
-use Rattle.layer_session.specs.Taking.{HasMade, IsAbsent, IsBroken, IsTrimming, KeepsEntries, MayBeMade}
+use Rattle.layer_session.specs.Masked.{HasMarkPages, IsSpot, KeepsSpots, StandsInPart}
+use Rattle.layer_session.specs.Steps.{IsMade, held_by}
+use Rattle.layer_session.specs.Taking.{KeepsEntries}
 use Rattle.layer_session.proofs.Alike.{block_in_file}
 use Rattle.layer_session.proofs.Beside.{among}
 use Rattle.layer_session.proofs.Brought.{pages_between}
 use Rattle.layer_session.proofs.Entered.{held_as_long, sizes}
 use Rattle.layer_session.proofs.Going.{ready_next}
 use Rattle.layer_session.proofs.Marks.{Marks, marks_bits, marks_bitmap, marks_serves, marks_state}
-use Rattle.layer_session.proofs.Parting.{one_bitmap, part_bitmap, part_served, run_in_one, same_block}
+use Rattle.layer_session.proofs.Parting.{one_bitmap, run_in_one, same_block}
 use Rattle.layer_session.proofs.Places.{in_run}
-use Rattle.layer_session.proofs.Readying.{StepSays, make_made, make_may, part_absent, step_says, write_made}
-use Rattle.layer_session.proofs.Running.{never_trimmed, stands_in}
 use Rattle.layer_session.proofs.SameEntries.{held_here}
-use Rattle.layer_session.proofs.Told.{both_end, both_map, both_self, both_then, told_on}
-use Rattle.layer_session.proofs.Zeroing.{part_chunk, stand_still, sub_run}
+use Rattle.layer_session.proofs.Told.{both_map, both_self, both_then, told_on}
+use Rattle.layer_session.proofs.Zeroing.{stand_still, sub_run}
 
 -- ---- a part of the sectors
 

@@ -190,10 +190,26 @@ impl Layer {
             ..spot
         };
         if !run.set {
-            return self.put_spots(store, next, first + len, count - len, rest, mask, at + run.count);
+            return self.put_spots(
+                store,
+                next,
+                first + len,
+                count - len,
+                rest,
+                mask,
+                at + run.count,
+            );
         }
         self.put_spot(store, spot, first, len, these)?;
-        self.put_spots(store, next, first + len, count - len, rest, mask, at + run.count)
+        self.put_spots(
+            store,
+            next,
+            first + len,
+            count - len,
+            rest,
+            mask,
+            at + run.count,
+        )
     }
 
     /// Writes those of so many sectors from `first` on that the mask names, by its bits from the first one on; they lie in one

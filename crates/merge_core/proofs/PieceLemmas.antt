@@ -1,5 +1,5 @@
 -- Pieces as sectors.
-use Rattle.std.proofs.Common.{◌≡◌, ◌≢◌, ℕ, ◌+◌, ◌-◌, ◌*◌, ◌/◌, ◌%◌, ◌<◌, ◌≤◌, ◌⊎◌, ◌==◌, ◌&&◌, ◌||◌, Bool, true, false, List, length, take, drop, ◌++◌, Option, Some, None, refl, sym, ap, subst, ◌∙◌, arith, inl, inr, mul_comm, if◌then◌else◌}
+use Rattle.std.proofs.Common.{◌≡◌, ℕ, ◌+◌, ◌-◌, ◌*◌, ◌/◌, ◌%◌, ◌<◌, ◌≤◌, ◌⊎◌, ◌==◌, ◌&&◌, Bool, true, false, List, length, take, drop, ◌++◌, Option, Some, None, refl, sym, ap, subst, ◌∙◌, arith, inl, inr, mul_comm, if◌then◌else◌}
 use Rattle.std.specs.Prelude.{Err, Ok, OnOk, Result, is_some, nat_le, nat_lt}
 use Rattle.std.specs.Option.{option_or}
 use Rattle.std.proofs.Math.Nat.{add-mul, div-eq_of_lt-le}
@@ -14,7 +14,6 @@ use Rattle.vhdx_format.specs.Layers.{Shape}
 use Rattle.vhdx_format.proofs.SizeLemmas.{sector_cases}
 use Rattle.store_model.specs.Disk.{Disk, WhereBothTold}
 use Rattle.store_model.specs.Trace.{Trace}
-use Rattle.guest_model.specs.History.{either}
 use Rattle.chain_model.specs.Layers as chain
 use Rattle.chain_model.specs.Layers.{over}
 use Rattle.layer_session.specs.Calls.{OnBroken, is_among}

@@ -77,7 +77,13 @@ impl Marks {
     {
         set(self.bits.as_mut_slice(), stripe as usize, true);
         if stripe == self.low {
-            self.low = past_gap(self.bits.as_slice(), stripe + 1, self.gap, self.until, self.stripes);
+            self.low = past_gap(
+                self.bits.as_slice(),
+                stripe + 1,
+                self.gap,
+                self.until,
+                self.stripes,
+            );
         }
     }
 

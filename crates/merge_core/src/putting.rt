@@ -43,5 +43,11 @@ pub fn put_piece<S: Store>(
 {
     let long = (u64::from(piece.sector) * piece.count) as usize;
     let bytes = &piece.bytes.as_slice()[..long];
-    target.put_masked(store, piece.first, piece.count, bytes, piece.mask.as_slice())
+    target.put_masked(
+        store,
+        piece.first,
+        piece.count,
+        bytes,
+        piece.mask.as_slice(),
+    )
 }

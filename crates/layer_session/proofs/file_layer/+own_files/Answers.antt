@@ -1,6 +1,6 @@
 use Rattle.std.proofs.Common.{rules, List, ◌∷◌, Contains, IfErr, sym, ap, subst, ◌∙◌}
 use Rattle.layer_session.specs.Calls.{AddsOwned}
-use Rattle.layer_session.specs.FileLayers.{AreReadableFiles, AreSameFiles, HaveFiles, HaveSameNumbers, Hold, file_numbers}
+use Rattle.layer_session.specs.FileLayers.{AreReadableFiles, AreSameFiles, Hold, file_numbers}
 use Rattle.layer_session.specs.declared.file_layer.FileLayer.{FileLayer}
 use Rattle.chain_model.specs.Images.{members_of}
 use Rattle.chain_model.specs.Members.{layers_of}

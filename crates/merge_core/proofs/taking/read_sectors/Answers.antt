@@ -1,4 +1,4 @@
-use Rattle.std.proofs.Common.{◌≡◌, ◌+◌, ◌*◌, ◌≤◌, ℕ, length, length-take, take, drop, sym, subst, ap, arith, ◌∙◌}
+use Rattle.std.proofs.Common.{◌≡◌, ◌*◌, length, length-take, take, drop, sym, subst, ap, arith, ◌∙◌}
 use Rattle.layer_session.specs.Calls.{AddsOwned}
 use Rattle.layer_session.proofs.Owned.{layers_are_added}
 use Rattle.merge_core.proofs.PieceLemmas.{none_found, on_ok, row_fits, told_more}

@@ -1,14 +1,13 @@
 use Rattle.std.proofs.Common.{◌≡◌, ◌+◌, ◌-◌, ◌*◌, ◌%◌, ◌<◌, ◌≤◌, ℕ, Bool, true, false, arith, rules, refl, sym, subst, ap, ◌∙◌, length, take, drop}
 use Rattle.std.specs.Prelude.{OnOk, IfErr}
 use Rattle.vhdx_format.specs.SectorBitmaps.{bit_of, bit_value}
-use Rattle.vhdx_format.specs.Layers.{HasSizes, Shape}
+use Rattle.vhdx_format.specs.Layers.{HasSizes}
 use Rattle.store_model.specs.Disk.{WhereBothTold, WhereTold}
 use Rattle.table_pages.specs.Held.{shape_of}
 use Rattle.table_pages.specs.declared.tables.TableParts.{TableParts}
 use Rattle.chain_model.specs.Layers as chain
 use Rattle.layer_session.specs.declared.masked.Spot.{Spot}
-use Rattle.layer_session.specs.Masked.{HasMarkPages, IsBrokenNamed, IsDoneNamed, IsSpot, PutsNamed, is_masked, with_masked}
-use Rattle.layer_session.specs.Steps.{held_by}
+use Rattle.layer_session.specs.Masked.{HasMarkPages, IsBrokenNamed, IsDoneNamed, PutsNamed, is_masked, with_masked}
 use Rattle.layer_session.proofs.Masking.{keeps_named, masked_kept, masked_nobody, nothing_named, range_broken, range_named, skip_layer, skip_test, spots_broken, spots_done, spots_moments}
 use Rattle.layer_session.proofs.Readying.{quiet_now}
 use Rattle.layer_session.proofs.Spots.{in_chunk, next_kept, next_spot, pages_of, pages_stay, rest_fits, spot_low_part}
@@ -43,20 +42,37 @@ put_spots-requires g t c κs within =
     let place : WhereTold (g.S.Store.disk c.args.store.now).told (λ t. c.saturating_add.result ≡ c.args.spot.place + c.args.self.now.tables.parts.sector * n) = λ t told.
     let low = spot_low_part c.args.self.now (g.S.Store.disk c.args.store.now) c.requires.ready c.args.spot c.args.first c.args.count (omega arith) c.requires.on_disk c.requires.run (c.requires.spot (omega arith)) n fits t told in
     let long : c.from.result * n ≡ c.args.self.now.tables.parts.sector * n = ap (λ x. x * n) c.from.ensures in
-    omega (arith, low, long, c.saturating_add.ensures) in
-    (omega (arith, c.first_run-run.ensures.some), (within.0, (within.1, (c.requires.ready, (back_whole c.args.self.now.tables.parts.sector n c.args.count fits c.args.bytes.now c.split_at.result.1.now c.requires.whole back_is, (omega (arith, fits, c.requires.on_disk), (
-      rest_fits (shape_of c.args.self.now.tables.parts) sized c.args.first n c.args.count fits c.requires.run,
+    omega (arith, low, long, c.saturating_add.ensures) in (
+      omega (arith, c.first_run-run.ensures.some),
       (
-        omega (arith, fits, c.requires.mask),
+        within.0,
         (
-          omega (arith, fits, c.requires.ends),
+          within.1,
           (
-            λ more. next_spot c.args.self.now (g.S.Store.disk c.args.store.now) c.requires.ready c.args.spot c.args.first c.args.count (omega arith) c.requires.on_disk c.requires.run (c.requires.spot (omega arith)) n next (omega (arith, more)) place refl refl,
-            pages_of c.args.self.now.tables c.args.first c.args.count (c.args.first + n) (c.args.count - n) c.args.spot next refl refl room (omega arith) (omega (arith, fits)) c.requires.pages,
+            c.requires.ready,
+            (
+              back_whole c.args.self.now.tables.parts.sector n c.args.count fits c.args.bytes.now c.split_at.result.1.now c.requires.whole back_is,
+              (
+                omega (arith, fits, c.requires.on_disk),
+                (
+                  rest_fits (shape_of c.args.self.now.tables.parts) sized c.args.first n c.args.count fits c.requires.run,
+                  (
+                    omega (arith, fits, c.requires.mask),
+                    (
+                      omega (arith, fits, c.requires.ends),
+                      (
+                        λ more. next_spot c.args.self.now (g.S.Store.disk c.args.store.now) c.requires.ready c.args.spot c.args.first c.args.count (omega arith) c.requires.on_disk c.requires.run (c.requires.spot (omega arith)) n next (omega (arith, more)) place refl refl,
+                        pages_of c.args.self.now.tables c.args.first c.args.count (c.args.first + n) (c.args.count - n) c.args.spot next refl refl room (omega arith) (omega (arith, fits)) c.requires.pages,
+                      ),
+                    ),
+                  ),
+                ),
+              ),
+            ),
           ),
         ),
       ),
-    )))))))
+    )
 
 pub returns-then-not-run-clause-moments : goal.returns-then-not-run-clause-moments
 returns-then-not-run-clause-moments g t c =
@@ -135,11 +151,37 @@ put_spots-requires-2 g t c κs within =
     let disk = subst (λ (p : TableParts). c.args.first + n + (c.args.count - n) ≤ p.sectors) (sym one.parts) (omega (arith, fits, c.requires.on_disk)) in
     let run = subst (λ (p : TableParts). (c.args.first + n) * p.sector % p.block + (c.args.count - n) * p.sector ≤ p.block) (sym one.parts) (rest_fits (shape_of c.args.self.now.tables.parts) sized c.args.first n c.args.count fits c.requires.run) in
     let pages : HasMarkPages c.put_spot.new.self.tables (c.args.first + n) (c.args.count - n) next = pages_stay c.args.self.now.tables c.put_spot.new.self.tables (c.args.first + n) (c.args.count - n) next c.put_spot.ensures.places
-    (pages_of c.args.self.now.tables c.args.first c.args.count (c.args.first + n) (c.args.count - n) c.args.spot next refl refl room (omega arith) (omega (arith, fits)) c.requires.pages) in
-    (omega (arith, c.first_run-run.ensures.some), (within.0, (within.1, (one.ready, (whole, (disk, (run, (omega (arith, fits, c.requires.mask), (omega (arith, fits, c.requires.ends), (
-      λ more. next_kept c.args.self.now (g.S.Store.disk c.args.store.now) c.requires.ready c.args.spot c.args.first c.args.count (omega arith) c.requires.on_disk c.requires.run (c.requires.spot (omega arith)) c.put_spot.new.self (g.S.Store.disk c.put_spot.new.store) n next one.parts (omega (arith, more)) place refl refl c.in_ok-put_spot.ensures.spots,
-      pages,
-    ))))))))))
+    (pages_of c.args.self.now.tables c.args.first c.args.count (c.args.first + n) (c.args.count - n) c.args.spot next refl refl room (omega arith) (omega (arith, fits)) c.requires.pages) in (
+      omega (arith, c.first_run-run.ensures.some),
+      (
+        within.0,
+        (
+          within.1,
+          (
+            one.ready,
+            (
+              whole,
+              (
+                disk,
+                (
+                  run,
+                  (
+                    omega (arith, fits, c.requires.mask),
+                    (
+                      omega (arith, fits, c.requires.ends),
+                      (
+                        λ more. next_kept c.args.self.now (g.S.Store.disk c.args.store.now) c.requires.ready c.args.spot c.args.first c.args.count (omega arith) c.requires.on_disk c.requires.run (c.requires.spot (omega arith)) c.put_spot.new.self (g.S.Store.disk c.put_spot.new.store) n next one.parts (omega (arith, more)) place refl refl c.in_ok-put_spot.ensures.spots,
+                        pages,
+                      ),
+                    ),
+                  ),
+                ),
+              ),
+            ),
+          ),
+        ),
+      ),
+    )
 
 pub returns-clause-moments : goal.returns-clause-moments
 returns-clause-moments g t c =

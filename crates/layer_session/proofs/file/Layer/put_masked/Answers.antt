@@ -1,15 +1,12 @@
-use Rattle.std.proofs.Common.{◌≡◌, ℕ, ◌+◌, ◌*◌, ◌%◌, ◌<◌, ◌≤◌, arith, rules, true, false, sym, subst, ap, ◌∙◌}
-use Rattle.std.specs.Prelude.{IfOk}
+use Rattle.std.proofs.Common.{◌≡◌, ◌+◌, ◌*◌, ◌%◌, ◌<◌, ◌≤◌, arith, rules, true, false, sym, subst, ap, ◌∙◌}
 use Rattle.vhdx_format.specs.Layers.{HasSizes}
-use Rattle.vhdx_format.specs.SectorBitmaps.{bit_of}
 use Rattle.store_model.specs.Disk.{WhereBothTold, WhereTold}
 use Rattle.table_pages.specs.Held.{shape_of}
 use Rattle.table_pages.specs.declared.tables.TableParts.{TableParts}
-use Rattle.layer_session.specs.declared.file.Layer.{Layer}
 use Rattle.layer_session.specs.Blocks.{run_in_block}
 use Rattle.layer_session.specs.Masked.{HasPutNamed, IsSpot, is_masked, with_masked}
 use Rattle.layer_session.specs.Steps.{Begins, Wants, held_by}
-use Rattle.layer_session.proofs.Frames.{plan_there, run_pages, run_room, run_todo}
+use Rattle.layer_session.proofs.Frames.{run_pages, run_room, run_todo}
 use Rattle.layer_session.proofs.Masking.{all_broken, all_moments, all_put, early_broken, keeps_named, masked_off, none_masked, nothing_named, ready_broken, ready_moments, some_masked}
 use Rattle.layer_session.proofs.Readying.{quiet_now}
 use Rattle.layer_session.proofs.Spots.{all_in_block}

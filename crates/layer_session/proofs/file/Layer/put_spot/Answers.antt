@@ -1,11 +1,10 @@
-use Rattle.std.proofs.Common.{◌≡◌, rules, true, refl, sym, subst, ap, ℕ}
+use Rattle.std.proofs.Common.{◌≡◌, rules, true, refl, sym, subst, ap}
 use Rattle.std.specs.Prelude.{OnOk, IfErr}
 use Rattle.store_model.specs.Disk.{WhereBothTold, WhereTold}
-use Rattle.table_pages.specs.declared.tables.TableParts.{TableParts}
 use Rattle.layer_session.specs.declared.file.Layer.{Layer}
-use Rattle.layer_session.specs.Calls.{PutsInto, sectors_in, with_bytes}
+use Rattle.layer_session.specs.Calls.{PutsInto, with_bytes}
 use Rattle.layer_session.specs.Masked.{KeepsSpots}
-use Rattle.layer_session.specs.Steps.{IsMade, StandFrom}
+use Rattle.layer_session.specs.Steps.{StandFrom}
 use Rattle.layer_session.specs.Taking.{IsBroken, IsDone}
 use Rattle.layer_session.proofs.Marks.{Marks}
 use Rattle.layer_session.proofs.Readying.{quiet_now}

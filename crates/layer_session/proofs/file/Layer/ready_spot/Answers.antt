@@ -1,4 +1,3 @@
-use Rattle.std.proofs.Common.{inl, rules}
 use Rattle.layer_session.proofs.Readying.{quiet_now}
 use Rattle.layer_session.proofs.Spotting.{here_spot, make_may_be, mark_spot}
 use Rattle.layer_session.proofs.file.Layer.ready_spot.Goals as goal

@@ -1,10 +1,9 @@
-use Rattle.std.proofs.Common.{sym, subst, refl}
+use Rattle.std.proofs.Common.{sym, subst}
 use Rattle.std.specs.Prelude.{OnOk}
 use Rattle.store_model.specs.Disk.{WhereTold}
-use Rattle.chain_model.specs.Images.{Placed}
 use Rattle.chain_model.specs.Layers as chain
 use Rattle.layer_session.specs.Calls.{AddsOwned}
-use Rattle.layer_session.specs.FileLayers.{HasFile, Holds, table_parts}
+use Rattle.layer_session.specs.FileLayers.{Holds, table_parts}
 use Rattle.layer_session.specs.declared.file_layer.FileLayer.{FileLayer}
 use Rattle.layer_session.proofs.FileLayers.{has_held}
 use Rattle.layer_session.proofs.Parted.{ok_then}

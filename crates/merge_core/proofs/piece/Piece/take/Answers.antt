@@ -1,8 +1,7 @@
-use Rattle.std.proofs.Common.{◌≡◌, ◌<◌, ◌≤◌, ℕ, List, arith, rules, sym, subst}
+use Rattle.std.proofs.Common.{◌≡◌, ◌≤◌, ℕ, List, rules, sym, subst}
 use Rattle.std.proofs.lemmas.List.{places, with_items_is}
 use Rattle.std.specs.Vec.{with_items}
 use Rattle.merge_core.specs.Pieces.{Tells}
-use Rattle.chain_model.specs.Stripes.{per_stripe}
 use Rattle.layer_session.proofs.FileLayers.{has_held}
 use Rattle.merge_core.proofs.PieceLemmas.{holds_off, is_taken, on_ok, some_sectors}
 use Rattle.merge_core.proofs.piece.Piece.take.Goals as goal
