@@ -18,10 +18,10 @@ use Rattle.guest_model.specs.History.{either, is_dirty}
 use Rattle.log_write.specs.declared.ids.SessionIds.{SessionIds}
 use Rattle.chain_model.specs.Files.{at_rest, layer_in}
 use Rattle.chain_model.specs.Images.{NoneLoose, Placed, members_of}
-use Rattle.chain_model.specs.Members.{IsChain, IsChainOf, IsParentOf, Member, NoneTwice, disk_of, names_of}
+use Rattle.chain_model.specs.Members.{IsChain, IsChainOf, Member, NoneTwice, names_of}
 use Rattle.chain_model.specs.Moments.{EachOpens, OpensToPrefix}
-use Rattle.chain_model.specs.PhaseLaws.{IsNamedOnce, Survives}
-use Rattle.chain_model.specs.Sessions.{GoesOver, IsKept, IsServed as IsServedChain, LooseAtTop, ShowsFile}
+use Rattle.chain_model.specs.PhaseLaws.{Survives}
+use Rattle.chain_model.specs.Sessions.{IsKept, IsServed as IsServedChain, LooseAtTop, ShowsFile}
 use Rattle.chain_model.proofs.Owning.{base_owns_all}
 use Rattle.chain_model.proofs.Phasing.{file_goes_over}
 use Rattle.chain_model.proofs.Linking.{files_may_change}
@@ -29,7 +29,7 @@ use Rattle.chain_model.proofs.Serving.{chains_begin, prefixes_stay, served_chain
 use Rattle.link_rules.specs.Chains.{most_files}
 use Rattle.link_rules.specs.Chains as links
 use Rattle.link_rules.specs.Effects.{IsServed}
-use Rattle.link_rules.specs.Lines.{IsFollowedBy, IsLine}
+use Rattle.link_rules.specs.Lines.{IsLine}
 use Rattle.link_rules.specs.declared.linked.LinkedFile.{LinkedFile}
 use Rattle.layer_session.specs.declared.file.Layer.{Layer}
 use Rattle.layer_session.specs.declared.read_layer.ReadLayer.{ReadLayer}
@@ -42,9 +42,10 @@ use Rattle.layer_session.specs.declared.file_layer.FileLayer.{FileLayer}
 use Rattle.layer_session.specs.declared.file_layer.FileLayer.TheVariants.{Read, Session}
 use Rattle.layer_session.proofs.Crashes.{layers_are_kept}
 use Rattle.chain_core.specs.declared.layers.Layers.{Layers}
-use Rattle.chain_core.specs.Starting.{AreAsOpened, AreAttached, AreReadOf, CanStart, EachOpensAlike, IsAsOpened, IsOfDisk, JudgesIds, LeavesOthersFrom, StartsWith, under, opening_disk, placed_from, started}
+use Rattle.merge_plan.specs.Attached.{AreAsOpened, AreAttached, CanStart}
+use Rattle.chain_core.specs.Starting.{AreReadOf, EachOpensAlike, IsOfDisk, JudgesIds, LeavesOthersFrom, StartsWith, under, opening_disk, placed_from, started}
 use Rattle.chain_core.specs.Starting.{HasBegun as HasBegunSession, IsRead as IsReadOnly}
-use Rattle.chain_core.specs.declared.starting.NewIds.{NewIds}
+use Rattle.merge_plan.specs.declared.drawing.NewIds.{NewIds}
 use Rattle.chain_core.specs.declared.starting.StartRefusal.{StartRefusal}
 use Rattle.chain_core.specs.Sessions.{AreApart, AreReady, IsLow, IsMergeOf, IsReadyLeaf}
 use Rattle.chain_core.specs.States.{AreHeld, AreWritten, IsCourse, IsServing, State, plain, seen_in}

@@ -1,6 +1,6 @@
 -- New identifiers of which none is unfit let the leaf's session begin.
-use Rattle.std.proofs.Common.{◌≡◌, ℕ, zero, suc, ◌+◌, ◌-◌, ◌*◌, ◌/◌, ◌%◌, ◌<◌, ◌≤◌, ◌||◌, Bool, true, false, cond, List, [], ◌∷◌, ◌++◌, length, take, drop, min, refl, sym, ap, subst, ◌∙◌, arith}
-use Rattle.std.specs.Prelude.{Option, Some, None, Ok, Result, codes, if◌then◌else◌}
+use Rattle.std.proofs.Common.{◌≡◌, ℕ, zero, suc, ◌+◌, ◌-◌, ◌*◌, ◌/◌, ◌%◌, ◌<◌, ◌≤◌, Bool, true, false, cond, List, [], ◌∷◌, ◌++◌, length, take, drop, min, refl, sym, ap, subst, ◌∙◌, arith}
+use Rattle.std.specs.Prelude.{Option, Some, None, Ok, codes, if◌then◌else◌}
 use Rattle.std.specs.List.{list_any}
 use Rattle.std.specs.Str.{bytes_eq}
 use Rattle.std.proofs.lemmas.Bool.{or_parts}
@@ -10,17 +10,15 @@ use Rattle.std.proofs.lemmas.Slice.Eq.{bytes_eq-Decides}
 use Rattle.uuid.specs.Parts.{swap_fields}
 use Rattle.vx_base.specs.Fields.{bytes_at, guid_at}
 use Rattle.vx_base.specs.declared.parts.Header.{Header}
-use Rattle.vx_base.specs.declared.parts.Parts.{Parts}
 use Rattle.vhdx_format.specs.Fields.{is_zero_id, same_id}
-use Rattle.vhdx_format.specs.FileParts.{HasNumbers, read_head}
+use Rattle.vhdx_format.specs.FileParts.{read_head}
 use Rattle.vhdx_format.specs.Headers.{held_header}
-use Rattle.vhdx_format.specs.Logs.{entry_id}
 use Rattle.vhdx_format.specs.SettledFiles.{Settles, ring_of, with_updates}
-use Rattle.vhdx_format.specs.TornWrites.{HasNoHead, IsHead, head_at}
+use Rattle.vhdx_format.specs.TornWrites.{HasNoHead, IsHead}
 use Rattle.store_model.specs.Disk.{Disk, WhereTold}
 use Rattle.store_model.specs.File.{seen}
 use Rattle.store_model.specs.Trace.{Trace, file_of}
-use Rattle.chain_model.specs.Files.{HasParts, at_rest, with_pages}
+use Rattle.chain_model.specs.Files.{with_pages}
 use Rattle.link_rules.specs.Effects.{IsServed}
 use Rattle.link_rules.specs.declared.linked.LinkedFile.{LinkedFile}
 use Rattle.log_write.proofs.Entries.{megabytes}
@@ -28,8 +26,9 @@ use Rattle.make_file.specs.Identifiers.{first_unfit, is_unfit}
 use Rattle.shown_ids.specs.Shown.{header_ids, listed, locator_ids, place_id, place_ids, shown}
 use Rattle.layer_session.specs.Begins.{CanServe}
 use Rattle.layer_session.proofs.Numbers.{are_numbers}
-use Rattle.chain_core.specs.Starting.{CanStart, IsAsOpened, JudgesIds, shown_from}
-use Rattle.chain_core.specs.declared.starting.NewIds.{NewIds}
+use Rattle.merge_plan.specs.Attached.{CanStart, IsAsOpened, shown_from}
+use Rattle.chain_core.specs.Starting.{JudgesIds}
+use Rattle.merge_plan.specs.declared.drawing.NewIds.{NewIds}
 
 -- ---- the third of three identifiers
 

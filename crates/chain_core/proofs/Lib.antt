@@ -1,5 +1,6 @@
 mod Rests
 mod Putting
+mod Finishing
 pub mod Steps
 pub mod Leafs
 pub mod Standing
@@ -7,7 +8,6 @@ pub mod Concluding
 pub mod Holding
 pub mod Finding
 pub mod Looking
-pub mod Opened
 pub mod Beginning
 pub mod Fresh
 pub mod Showing

@@ -28,6 +28,7 @@ use Rattle.layer_session.specs.declared.file.LayerFault.TheVariants.{Read, Write
 use Rattle.layer_session.specs.declared.file_layer.FileLayer.{FileLayer}
 use Rattle.layer_session.specs.declared.file_layer.FileLayer.TheVariants.{Session}
 use Rattle.layer_session.specs.FileLayers.{HasFile, HaveFiles}
+use Rattle.layer_session.specs.Calls.{settled}
 use Rattle.layer_session.specs.Keeping.{Serves}
 use Rattle.layer_session.proofs.Crashes.{layers_are_kept}
 use Rattle.layer_session.proofs.FileLayers.{file_layers_stand}
@@ -375,3 +376,19 @@ module _ (v : State) (top : Placed) (above : List Placed) (source target : Place
               serving = serving_on new u next target m.marks (ShowsFile target) now kept_as.moments geometry leaf_now merge_now items kept_as.holds refl under_old.written (λ s there. there)
                   (over.served (layers_are_kept next now target kept_as.holds).shows) serving.loose (under_by new next target u leaf_now items parts_are refl refl refl under_old under_old.under_way) all_written over.moments;
             }
+
+      -- ---- a commit of the target
+
+      pub target_settled : (new : Layers) (u : Underway) (next : Layer) (now : Trace) → new.geometry ≡ layers.geometry → new.leaf ≡ Some leaf → layers.merge ≡ Some u → new.merge ≡ Some u → new.below.items ≡ a ++ Session next ∷ b
+          → next.tables.parts ≡ l.tables.parts → AreWritten v.writes new.below.items → IsPhase target.number (ShowsFile target) trace now → Serves next now (settled target)
+          → EachOpensNow here trace now × IsServing new (record v { top = top; rest = merging above source (settled target) below m }) now
+      target_settled new u next now geometry leaf_now merge merge_now items parts_are all_written phase serves =
+          let after : Placed = settled target in
+          let tight : LooseInMerge (dirty_now here) (top ∷ above) source after below = record { others = serving.loose.others; owned = λ s none. refl } in
+          let under : IsUnder (sector_of here) v.writes layers u top above source target m = subst (λ o. IsCourse (sector_of here) v.writes layers o top (merging above source target below m)) merge serving.course in
+          let over =
+              target_goes_over (sector_of here) v.opening v.history v.leaf (dirty_now here) v.retired (top ∷ above) source target after below trace now serving.once serving.served (goes_over target after trace now refl refl phase)
+              (λ s none. refl) refl serving.loose tight in
+          (over.moments,
+              serving_on new u next after m.marks (ShowsFile target) now phase geometry leaf_now merge_now items serves refl under.written (λ s there. there)
+              (over.served (layers_are_kept next now after serves).shows) tight (under_by new next after u leaf_now items parts_are refl refl refl under under.under_way) all_written over.moments)

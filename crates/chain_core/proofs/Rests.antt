@@ -12,7 +12,7 @@ use Rattle.chain_model.specs.PhaseLaws.{CallSurvives, IsNamedOnce, LeafCall, Sur
 use Rattle.chain_model.proofs.Calling.{calls_survive}
 use Rattle.chain_model.proofs.Linking.{alike_self, ties_keep_chain}
 use Rattle.chain_model.proofs.Phasing.{file_goes_over}
-use Rattle.chain_model.proofs.MergePhasing.{leaf_goes_over}
+use Rattle.chain_model.proofs.MergePhasing.{above_goes_over}
 use Rattle.chain_model.proofs.Serving.{loose_is_dirty, served_chains_open}
 use Rattle.chain_core.specs.States.{IsLoose, Rest, others_of, plain, merging}
 
@@ -52,7 +52,7 @@ leaf_survives z opening h leaf among retired before after (plain others) old now
     (ties_keep_chain leaf (members_of retired) (before.member ∷ members_of others) (members_of retired) (after.member ∷ members_of others) served.linked (alike_self (members_of retired))
     (record { name = sym over.one_name; ties = ties }, alike_self (members_of others))) loose_before loose_after
 leaf_survives z opening h leaf among retired before after (merging above source target below m) old now once served over same ties loose_before loose_after =
-    leaf_goes_over z opening h leaf among retired before after above source target below old now once served over same ties loose_before loose_after
+    above_goes_over z opening h leaf among retired [] before after above source target below old now once served over same ties loose_before loose_after
 
 -- ---- what a crash leaves
 

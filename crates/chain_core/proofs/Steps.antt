@@ -21,7 +21,7 @@ use Rattle.layer_session.specs.declared.file.Layer.{Layer}
 use Rattle.layer_session.specs.declared.file.LayerFault.{LayerFault}
 use Rattle.layer_session.specs.declared.file.LayerFault.TheVariants.{Read, Write, FileFull}
 use Rattle.layer_session.specs.declared.file_layer.FileLayer.{FileLayer}
-use Rattle.layer_session.specs.Calls.{IsBeside}
+use Rattle.layer_session.specs.Calls.{IsBeside, settled}
 use Rattle.layer_session.specs.Keeping.{Serves}
 use Rattle.layer_session.specs.FileLayers.{HaveFiles, table_parts}
 use Rattle.layer_session.specs.Updating.{IsInRegion, region_with}
@@ -32,10 +32,10 @@ use Rattle.vhdx_format.specs.MetadataTables.{read_metadata}
 use Rattle.chain_core.specs.declared.layers.Underway.{Underway}
 use Rattle.layer_session.proofs.Crashes.{layers_are_kept}
 use Rattle.chain_core.specs.declared.layers.Layers.{Layers}
-use Rattle.chain_core.specs.States.{State, IsServing, LeavesOthers, AreHeld, seen_in, sector_of, disk_now, dirty_now, files_of, wide, made, others_of, AreWritten, IsCourse, Relinks, Rest, child_of, child_parts, merging, plain}
-use Rattle.chain_core.specs.Answering.{IsDone, IsRefused, HasBroken, LayerAnswers}
+use Rattle.chain_core.specs.States.{State, IsServing, LeavesOthers, AreHeld, seen_in, sector_of, disk_now, dirty_now, files_of, wide, made, others_of, AreWritten, IsCourse, Relinks, Rest, child_of, child_parts, merging, plain, IsLoose}
+use Rattle.chain_core.specs.Answering.{IsDone, IsRefused, HasBroken, LayerAnswers, EachOpensNow}
 use Rattle.layer_session.proofs.FileLayers.{file_layers_stand}
-use Rattle.chain_core.proofs.Rests.{call_survives, leaf_survives, loose_after, opens_now, top_loose}
+use Rattle.chain_core.proofs.Rests.{call_survives, leaf_survives, loose_after, opens_now, top_loose, new_top}
 
 -- ---- the leaf's answer, of its file
 
@@ -296,6 +296,30 @@ as_before v old new leaf next trace now step serving is =
         past = past_goes_on.quiet z v.opening v.history (λ s. false) v.leaf v.began trace now serving.past over.moments;
       };
     }
+
+-- the leaf was committed, and no call was made
+pub leaf_settled : (v : State) (old new : Layers) (leaf next : Layer) (trace now : Trace) → LeafStep old new leaf next → IsServing old v trace → IsPhase v.top.number (ShowsFile v.top) trace now → Serves next now (settled v.top)
+    → EachOpensNow v trace now × IsServing new (record v { top = settled v.top }) now
+leaf_settled v old new leaf next trace now step serving phase serves =
+    let z = sector_of v in
+    let after : Placed = settled v.top in
+    let tight : IsLoose (dirty_now v) after v.rest = new_top (dirty_now v) (dirty_now v) v.top after v.rest serving.loose (λ s clean. refl) in
+    let over = leaf_survives z v.opening v.history v.leaf (dirty_now v) v.retired v.top after v.rest trace now serving.once serving.served (goes_over v.top after trace now refl refl phase)
+    (λ s. refl) refl serving.loose tight in
+    let served : IsServing new (record v { top = after }) now = record {
+      once = still_once v.top.number (ShowsFile v.top) trace now phase serving.once;
+      geometry = step.geometry ∙ serving.geometry;
+      served = over.served (layers_are_kept next now after serves).shows;
+      loose = tight;
+      course = course_on z old new leaf next v.writes v.top after v.rest step refl refl refl refl serving.course;
+      held = held_by old new leaf next v after (ShowsFile v.top) trace now step serving phase serves;
+      whole = serving.whole;
+      synced = serving.synced;
+      written = written_on old new leaf next v step serving;
+      still = still_others v old leaf (ShowsFile v.top) trace now step.was serving phase;
+      past = past_goes_on.quiet z v.opening v.history (λ s. false) v.leaf v.began trace now serving.past over.moments;
+    } in
+    (over.moments, served)
 
 -- a change of the leaf failed
 pub failed : (e : Entry) (v : State) (layers : Layers) (trace now : Trace) → IsServing layers v trace → LeavesOthers v now → HasFailed (sector_of v) e.call v.top trace now → HasBroken e v trace now

@@ -3,26 +3,21 @@ use Rattle.std.specs.Prelude.{◌≡◌, ◌≢◌, ◌⊎◌, ◌==◌, ⊤, �
 use Rattle.vx_base.specs.declared.parts.Geometry.{Geometry}
 use Rattle.vx_base.specs.declared.parts.Parts.{Parts}
 use Rattle.store_model.specs.Disk.{Disk, WhereBothTold, WhereTold}
-use Rattle.store_model.specs.File.{is_sealed, is_synced, seen}
+use Rattle.store_model.specs.File.{seen}
 use Rattle.store_model.specs.Trace.{EachMoment, Trace, file_of}
 use Rattle.store_model.specs.declared.fault.SealFault.TheVariants as seal
 use Rattle.guest_model.specs.Calls.{Disk as GuestDisk}
 use Rattle.log_write.specs.Writing.{BeginFails}
 use Rattle.log_write.specs.declared.ids.SessionIds.{SessionIds}
-use Rattle.chain_model.specs.Files.{HasParts, at_rest}
-use Rattle.chain_model.specs.Images.{Placed, members_of, name_of}
-use Rattle.chain_model.specs.Members.{NoneTwice, disk_of}
+use Rattle.chain_model.specs.Images.{Placed, members_of}
+use Rattle.chain_model.specs.Members.{disk_of}
 use Rattle.chain_model.specs.Moments.{EachOpens}
-use Rattle.chain_model.specs.PhaseLaws.{IsNamedOnce}
 use Rattle.chain_model.specs.Sessions.{as_read}
-use Rattle.link_rules.specs.Chains.{most_files, names_of}
-use Rattle.link_rules.specs.Effects.{IsServed}
-use Rattle.link_rules.specs.Lines.{IsLine}
 use Rattle.link_rules.specs.declared.linked.LinkedFile.{LinkedFile}
 use Rattle.make_file.specs.Identifiers.{Draws, first_unfit}
-use Rattle.shown_ids.specs.Shown.{shown}
-use Rattle.shown_ids.specs.declared.fault.CollectFault.{CollectFault}
-use Rattle.shown_ids.specs.declared.fault.CollectFault.TheVariants as collect
+use Rattle.merge_plan.specs.Attached.{shown_from}
+use Rattle.merge_plan.specs.Drawing.{drawn_ids}
+use Rattle.merge_plan.specs.declared.drawing.NewIds.{NewIds}
 use Rattle.layer_session.specs.declared.file_layer.FileLayer.{FileLayer}
 use Rattle.layer_session.specs.declared.file_layer.FileLayer.TheVariants as kind
 use Rattle.layer_session.specs.Begins.{in_session}
@@ -31,46 +26,10 @@ use Rattle.chain_core.specs.States.{IsServing, State, plain}
 use Rattle.chain_core.specs.declared.layers.Layers.{Layers}
 use Rattle.chain_core.specs.declared.starting.Mode.{Mode}
 use Rattle.chain_core.specs.declared.starting.Mode.TheVariants.{Guests, ReadOnly}
-use Rattle.chain_core.specs.declared.starting.NewIds.{NewIds}
 use Rattle.chain_core.specs.declared.starting.StartRefusal.{StartRefusal}
 use Rattle.chain_core.specs.declared.starting.StartRefusal.TheVariants.{IdUnfit, Spent, Store, NoRoom}
 
 -- ---- what is started
-
--- A file of the store is as opening leaves one of this name and these numbers: nothing of it is unsynced, and it holds what it stands for.
-pub record IsAsOpened (trace : Trace) (number : ℕ) (file : LinkedFile) : Type 0 where
-  pub within : number < length trace.attached
-  pub name : name_of trace.attached number ≡ file.name
-  pub synced : is_synced (file_of trace number) ≡ true
-  pub unsealed : is_sealed (file_of trace number) ≡ false
-  pub most : length (seen (file_of trace number)) ≤ 2 ^ 63
-  pub reads : HasParts (at_rest (seen (file_of trace number))) (seen (file_of trace number)) file.parts
-
--- so are these, numbered from this one on
-abbrev pub AreAsOpened : Trace → ℕ → List LinkedFile → Type 0
-AreAsOpened trace number [] = ⊤
-AreAsOpened trace number (file ∷ files) = IsAsOpened trace number file × AreAsOpened trace (number + 1) files
-
--- the first of them is no retired leaf
-abbrev pub BeginsInUse : List LinkedFile → Type 0
-BeginsInUse [] = ⊤
-BeginsInUse (file ∷ files) = file.parts.retired ≡ None
-
--- The files of a store are these, in order, as opening left them.
-pub record AreAttached (files : List LinkedFile) (trace : Trace) : Type 0 where
-  pub once : IsNamedOnce trace
-  pub in_use : BeginsInUse files
-  pub each : AreAsOpened trace 0 files
-
--- Files of a chain that may be started over a store, whether it tells its content or not: at most 64, of which the store has no fewer,
--- each followed by its parent, with names that differ.
-pub record CanStart (files : List LinkedFile) (disk : Disk) : Type 0 where
-  pub few : length files ≤ most_files
-  pub there : length files ≤ disk.files
-  pub line : IsLine files
-  pub once : NoneTwice (names_of files)
-  pub served : All IsServed files
-  pub told : WhereTold disk.told (AreAttached files)
 
 -- the number of the leaf's header leaves room for those of a session
 abbrev pub BeginsLow : List LinkedFile → Type 0
@@ -128,21 +87,13 @@ IsOfDisk (leaf ∷ others) geometry = geometry ≡ leaf.parts.geometry
 
 -- ---- identifiers
 
--- new identifiers in the order in which they are drawn, and as the session's
-abbrev pub drawn_ids : NewIds → List (List ℕ)
-drawn_ids ids = ids.file_write ∷ ids.data_write ∷ ids.log ∷ []
-
+-- new identifiers as the session's
 abbrev pub session_ids : NewIds → SessionIds
 session_ids ids = record { file_write = ids.file_write; data_write = Some ids.data_write; log = ids.log }
 
 -- a file's numbers in its session
 abbrev pub under : NewIds → Parts → Parts
 under ids parts = in_session parts (session_ids ids)
-
--- the identifiers that these files show
-abbrev pub shown_from : Trace → ℕ → List LinkedFile → List (List ℕ)
-shown_from trace number [] = []
-shown_from trace number (file ∷ files) = shown file.parts (seen (file_of trace number)) ++ shown_from trace (number + 1) files
 
 -- three were drawn
 pub record HasDrawn (before now : Option (List (List ℕ))) : Type 0 where
@@ -216,11 +167,6 @@ AreReadOf number [] [] = ⊤
 AreReadOf number [] (layer ∷ layers) = ⊥
 AreReadOf number (file ∷ files) [] = ⊥
 AreReadOf number (file ∷ files) (layer ∷ layers) = ReadsFile number file layer × AreReadOf (number + 1) files layers
-
--- identifiers weren't collected: a read of some file failed, or memory ran out
-abbrev pub CollectFails : Disk → Disk → CollectFault → Type 0
-CollectFails old new (collect.Store fault) = SomeReadFailed old new fault
-CollectFails old new collect.NoRoom = new ≡ old
 
 -- the leaf's session doesn't begin
 abbrev pub BeginsNot : Disk → Disk → StartRefusal → Type 0

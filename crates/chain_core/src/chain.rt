@@ -8,7 +8,8 @@ ghost use Rattle.chain_core.specs.Ending.{IsOfSession, SomeChangeFailed};
 ghost use Rattle.chain_core.specs.Events.{HasWholeSectors, IsCaused, RepliesBy, answer_by, placed};
 ghost use Rattle.chain_core.specs.Reading.{Finds};
 ghost use Rattle.chain_core.specs.Refusing.{IfRefused, counted, is_read, misplaced, range_of, fill, refused, unfit};
-ghost use Rattle.chain_core.specs.Starting.{CanStart, EachOpensAlike, HasStarted, IsOfDisk, LeavesOthersFrom, RefusesStart};
+ghost use Rattle.merge_plan.specs.Attached.{CanStart};
+ghost use Rattle.chain_core.specs.Starting.{EachOpensAlike, HasStarted, IsOfDisk, LeavesOthersFrom, RefusesStart};
 ghost use Rattle.chain_core.specs.Sessions.{IsCounted, IsSound, seen};
 
 use crate::answer::Answer;

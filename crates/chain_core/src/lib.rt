@@ -11,4 +11,4 @@ pub use answer::Answer;
 pub use chain::Chain;
 pub use laws::sessions_are_held;
 pub use layers::Layers;
-pub use starting::{Mode, NewIds, StartRefusal};
+pub use starting::{Mode, StartRefusal};

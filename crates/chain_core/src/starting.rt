@@ -1,22 +1,19 @@
 //! How the session of a chain starts.
 
-ghost use Rattle.std.specs.Prelude.{◌≡◌, ◌≤◌, ◌+◌, ◌++◌, ◌∷◌, [], None, Some, true, length, All, is_some, option_map, IfErr, IfOk, IfSome, OnOk};
-ghost use Rattle.std.specs.List.{list_any};
+ghost use Rattle.std.specs.Prelude.{◌≡◌, ◌≤◌, ◌+◌, ◌∷◌, None, Some, true, length, All, is_some, IfErr, IfOk, IfSome, OnOk};
 ghost use Rattle.store_model.specs.Disk.{WhereTold};
-ghost use Rattle.vhdx_format.specs.Fields.{guid_bytes, same_id};
-ghost use Rattle.vx_base.specs.Fields.{IsGuid};
 ghost use Rattle.link_rules.specs.Effects.{IsServed};
-ghost use Rattle.make_file.specs.Identifiers as identifiers;
-ghost use Rattle.make_file.specs.Identifiers.{Draws};
 ghost use Rattle.layer_session.specs.Begins.{CanServe};
 ghost use Rattle.chain_core.specs.Sessions.{AreReady, IsLow};
-ghost use Rattle.chain_core.specs.Starting.{AreAsOpened, AreReadOf, BeginsHigh, BeginsLow, BeginsNot, CanStart, CollectFails, EachOpensAlike, HasBegun, HasStarted, IsOfDisk, JudgesIds, LeavesOthersFrom, RefusesGuests, RefusesSession, RefusesStart, StartsWith, drawn_ids, session_ids, shown_from, under};
+ghost use Rattle.merge_plan.specs.Attached.{CanStart};
+ghost use Rattle.chain_core.specs.Starting.{AreReadOf, BeginsHigh, BeginsLow, BeginsNot, EachOpensAlike, HasBegun, HasStarted, IsOfDisk, JudgesIds, LeavesOthersFrom, RefusesGuests, RefusesSession, RefusesStart, StartsWith, session_ids, under};
 
 use crate::layers::Layers;
 use layer_session::{FileLayer, Layer, ReadLayer};
 use link_rules::LinkedFile;
 use log_write::SessionIds;
-use shown_ids::{CollectFault, collect};
+use merge_plan::{NewIds, all_shown};
+use shown_ids::CollectFault;
 use std::alloc::Global;
 use store_model::{Ids, SealFault, Store, StoreFault};
 use vx_base::{Guid, NoRoom};
@@ -91,119 +88,15 @@ impl From<SealFault> for StartRefusal {
     }
 }
 
-/// New identifiers of a leaf: of the file's writes, of its data and of its log.
-#[derive(Clone, Copy, Debug, PartialEq, Eq)]
-pub struct NewIds {
-    pub(crate) file_write: Guid,
-    pub(crate) data_write: Guid,
-    pub(crate) log: Guid,
-}
-
-// The identifier that stands in a file as these bytes.
-#[tactic(auto, using(vx_base::proofs::ReadBack::swap_twice))]
-fn id_of(bytes: [u8; 16]) -> Guid
-    ensures id { IsGuid result }
-    ensures stands { guid_bytes result ≡ bytes }
+// New identifiers as those of the leaf's session.
+fn of_session(ids: &NewIds) -> SessionIds
+    ensures { result ≡ session_ids ids.now }
 {
-    let id = Guid::from_file(&bytes);
-    id.as_bytes();
-    id
-}
-
-// Draws one.
-fn draw<I: Ids>(ids: &mut I) -> Guid
-    ensures id { IsGuid result }
-    ensures told { I.drawn ids.new ≡ option_map (λ drawn. drawn ++ guid_bytes result ∷ []) (I.drawn ids.old) }
-{
-    id_of(ids.draw())
-}
-
-// Whether an identifier is one of these.
-fn is_among(id: Guid, known: &[Guid]) -> bool
-    ensures { result ≡ list_any (same_id id) known.now }
-{
-    known.iter().any(|other| id == *other)
-}
-
-// Whether an identifier is zero, or one of two or of these.
-fn is_third_unfit(id: Guid, second: Guid, first: Guid, known: &[Guid]) -> bool
-    ensures { result ≡ identifiers.is_unfit (second ∷ first ∷ known.now) id }
-{
-    id.is_zero() || id == second || id == first || is_among(id, known)
-}
-
-impl NewIds {
-    // Draws all three.
-    fn draw<I: Ids>(ids: &mut I) -> NewIds
-        ensures { Draws (drawn_ids result) (I.drawn ids.old) (I.drawn ids.new) }
-    {
-        let file_write = draw(ids);
-        let data_write = draw(ids);
-        let log = draw(ids);
-        NewIds {
-            file_write,
-            data_write,
-            log,
-        }
+    SessionIds {
+        file_write: ids.file_write,
+        data_write: Some(ids.data_write),
+        log: ids.log,
     }
-
-    // The first of the three that is unfit, where these are taken.
-    fn first_unfit(&self, known: &[Guid]) -> Option<Guid>
-        ensures { result ≡ identifiers.first_unfit known.now (drawn_ids self.now) }
-    {
-        let (file_write, data_write, log) = (self.file_write, self.data_write, self.log);
-        if file_write.is_zero() || is_among(file_write, known) {
-            return Some(file_write);
-        }
-        if data_write.is_zero() || data_write == file_write || is_among(data_write, known) {
-            return Some(data_write);
-        }
-        if is_third_unfit(log, data_write, file_write, known) {
-            return Some(log);
-        }
-        None
-    }
-
-    // As those of the leaf's session.
-    fn of_session(&self) -> SessionIds
-        ensures { result ≡ session_ids self.now }
-    {
-        SessionIds {
-            file_write: self.file_write,
-            data_write: Some(self.data_write),
-            log: self.log,
-        }
-    }
-}
-
-// Adds identifiers.
-fn append(known: &mut Vec<Guid>, shown: &mut Vec<Guid>) -> Result<(), NoRoom>
-    ensures { OnOk result (known.new.items ≡ known.old.items ++ shown.old.items) }
-{
-    known.append(shown)?;
-    Ok(())
-}
-
-// Adds the identifiers that the store's files show.
-fn add_shown<S: Store>(
-    alloc: Global,
-    store: &mut S,
-    files: &[LinkedFile],
-    known: &mut Vec<Guid>,
-) -> Result<(), CollectFault>
-    requires there { length files.now ≤ (S.disk store.old).files }
-    requires few { length files.now ≤ 64 }
-    requires served { All IsServed files.now }
-    requires told { WhereTold (S.disk store.old).told (λ trace. AreAsOpened trace 0 files.now) }
-    ensures ids { OnOk result (WhereTold (S.disk store.old).told (λ trace. known.new.items ≡ known.old.items ++ shown_from trace 0 files.now)) }
-    ensures stays { OnOk result (S.disk store.new ≡ S.disk store.old) }
-    ensures err { IfErr result (CollectFails (S.disk store.old) (S.disk store.new)) }
-{
-    for (number, file) in files.iter().enumerate() {
-        let mut shown = collect(alloc, store, number as u32, &file.parts)?;
-        append(known, &mut shown)?;
-    }
-    Ok(())
 }
 
 // Draws new identifiers for the leaf of these files, and refuses them where one is unfit.
@@ -220,8 +113,7 @@ fn choose_ids<S: Store, I: Ids>(
     ensures err { IfErr result (RefusesGuests files.now (S.disk store.old) (S.disk store.new) (I.drawn ids.old) (I.drawn ids.new)) }
 {
     let drawn = NewIds::draw(ids);
-    let mut known = Vec::new(alloc);
-    add_shown(alloc, store, files, &mut known)?;
+    let known = all_shown(alloc, store, files)?;
     match drawn.first_unfit(known.as_slice()) {
         Some(id) => Err(StartRefusal::IdUnfit { id }),
         None => Ok(drawn),
@@ -278,7 +170,7 @@ impl Layers {
         ensures err { IfErr result (BeginsNot (S.disk store.old) (S.disk store.new)) }
     {
         let below = layers_of(alloc, 1, others)?;
-        let session = Layer::begin(alloc, store, 0, &leaf.parts, ids.of_session(), LEAF_PAGES)?;
+        let session = Layer::begin(alloc, store, 0, &leaf.parts, of_session(ids), LEAF_PAGES)?;
         Ok(Layers {
             geometry: leaf.parts.geometry,
             leaf: Some(session),

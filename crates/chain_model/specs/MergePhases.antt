@@ -8,11 +8,11 @@ use Rattle.chain_model.specs.Images.{Placed}
 use Rattle.chain_model.specs.Sessions.{IsServed, GoesOver, LooseInMerge}
 use Rattle.chain_model.specs.PhaseLaws.{IsNamedOnce, Survives}
 
--- The leaf is committed, or nothing is done to it.
-abbrev pub LeafGoesOver : Type 0
-LeafGoesOver =
-    (z : ℕ) (opening : Disk) (h : History) (leaf : List ℕ) (among : ℕ → Bool) (retired : List Placed) (before after : Placed) (above : List Placed) (source target : Placed) (below : List Placed) (old new : Trace)
-    → IsNamedOnce old → IsServed z opening h leaf retired (before ∷ above ++ (source ∷ target ∷ below)) old → GoesOver before after old new
+-- A file above the source is committed, or nothing is done to it.
+abbrev pub AboveGoesOver : Type 0
+AboveGoesOver =
+    (z : ℕ) (opening : Disk) (h : History) (leaf : List ℕ) (among : ℕ → Bool) (retired above : List Placed) (before after : Placed) (between : List Placed) (source target : Placed) (below : List Placed) (old new : Trace)
+    → IsNamedOnce old → IsServed z opening h leaf retired ((above ++ before ∷ between) ++ (source ∷ target ∷ below)) old → GoesOver before after old new
     → Same before.member.layer after.member.layer → before.member.ties ≡ after.member.ties
-    → LooseInMerge among (before ∷ above) source target below → LooseInMerge among (after ∷ above) source target below
-    → Survives z opening h leaf among after retired (after ∷ above ++ (source ∷ target ∷ below)) old new
+    → LooseInMerge among (above ++ before ∷ between) source target below → LooseInMerge among (above ++ after ∷ between) source target below
+    → Survives z opening h leaf among after retired ((above ++ after ∷ between) ++ (source ∷ target ∷ below)) old new

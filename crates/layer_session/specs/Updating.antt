@@ -37,7 +37,7 @@ pub record TurnsInto (table_len : ℕ) (pages : List Page) (file : Placed) (ties
   pub reads : IsReadThen table_len file region (λ m. record m { locator = ties.locator; retired = ties.retired })
   pub ties_are : ties ≡ record (file.member.ties) { locator = ties.locator; retired = ties.retired }
 
--- of the layer's file
+-- how long that is in a layer's file
 abbrev pub own_len : Layer → ℕ
 own_len l = l.tables.parts.bat_len
 

@@ -1,3 +1,4 @@
 pub mod Copied
 pub mod Ranges
+pub mod Pieces
 pub mod Stamping

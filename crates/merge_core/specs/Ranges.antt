@@ -1,11 +1,28 @@
 -- The sectors of a stripe that a disk has.
-use Rattle.std.specs.Prelude.{◌≡◌, ◌<◌, ℕ, ◌+◌, ◌-◌, ◌*◌, Bool, true, min}
+use Rattle.std.specs.Prelude.{◌≡◌, ◌<◌, ℕ, ◌+◌, ◌-◌, ◌*◌, Bool, true, List, [], ◌∷◌, ◌++◌, length, min}
 use Rattle.guest_model.specs.declared.call.Call.{Call}
+use Rattle.guest_model.specs.declared.call.Entry.{Entry}
 use Rattle.guest_model.specs.Calls.{changes, first_sector, sector_count}
-use Rattle.chain_model.specs.Stripes.{per_stripe, stripe_of, touches}
+use Rattle.guest_model.specs.History.{History}
 use Rattle.chain_model.specs.Merges.{marks_after}
+use Rattle.chain_model.specs.Stripes.{per_stripe, stamp, stripe_of}
 use Rattle.merge_core.specs.Copied.{without_marks}
+use Rattle.merge_core.specs.Stamping.{with_stamps}
 
 -- how many sectors of a stripe a disk of n sectors of z bytes has
 abbrev pub range_count : ℕ → ℕ → ℕ → ℕ
 range_count stripe z n = min (per_stripe z) (n - stripe * per_stripe z)
+
+-- the first and the last stripe of which a call has a sector
+abbrev pub first_touched : ℕ → Call → ℕ
+first_touched z call = stripe_of z (first_sector call)
+
+abbrev pub last_touched : ℕ → Call → ℕ
+last_touched z call = stripe_of z (first_sector call + sector_count z call - 1)
+
+-- A Write or a Trim of some sectors takes the marks of those stripes away, and gives them its place as their stamp.
+pub record CallsTouchRanges : Type 0 where
+  pub marks : (z : ℕ) (call : Call) (marks : ℕ → Bool) (t : ℕ) → 0 < per_stripe z → changes call ≡ true → 0 < sector_count z call
+      → marks_after z call marks t ≡ without_marks (first_touched z call) (last_touched z call) marks t
+  pub stamps : (z : ℕ) (h : History) (e : Entry) (t : ℕ) → 0 < per_stripe z → changes e.call ≡ true → 0 < sector_count z e.call
+      → stamp z (h ++ e ∷ []) t ≡ with_stamps (first_touched z e.call) (last_touched z e.call) (length h + 1) (stamp z h) t

@@ -2,11 +2,18 @@
 //! and the pieces that are taken from the source and put into the target.
 #![tactic(auto)]
 
+mod laws;
 mod marking;
 mod marks;
+mod piece;
+mod putting;
 mod stamps;
 mod stripes;
+mod taking;
 
+pub use laws::calls_touch_ranges;
 pub use marks::Marks;
+pub use piece::Piece;
+pub use putting::put_piece;
 pub use stamps::Stamps;
 pub use stripes::{stripe_count, stripe_range, stripes_touched};

@@ -30,6 +30,29 @@ fn next_open(bits: &[u8], from: u32, end: u32) -> u32
     }
 }
 
+// The same, where all places from `gap` on are set that lie below `until`: they aren't looked at.
+fn past_gap(bits: &[u8], from: u32, gap: u32, until: u32, end: u32) -> u32
+    requires order { from ≤ end }
+    requires within { end ≤ 8 * length bits.now }
+    requires until { until ≤ end }
+    requires behind { (t : ℕ) → gap ≤ t → t < until → bit_of bits.now t ≡ 1 }
+    ensures from { from ≤ result }
+    ensures to { result ≤ end }
+    ensures set { (t : ℕ) → from ≤ t → t < result → bit_of bits.now t ≡ 1 }
+    ensures stops { result < end → bit_of bits.now result ≢ 1 }
+{
+    if from >= until || gap >= until {
+        return next_open(bits, from, end);
+    }
+    if from < gap {
+        let low = next_open(bits, from, gap);
+        if low < gap {
+            return low;
+        }
+    }
+    next_open(bits, until, end)
+}
+
 impl Marks {
     /// So many stripes, none of them marked.
     pub fn new(alloc: Global, stripes: u32) -> Result<Marks, NoRoom>
@@ -41,6 +64,8 @@ impl Marks {
             bits,
             stripes,
             low: 0,
+            gap: 0,
+            until: 0,
         })
     }
 
@@ -52,7 +77,7 @@ impl Marks {
     {
         set(self.bits.as_mut_slice(), stripe as usize, true);
         if stripe == self.low {
-            self.low = next_open(self.bits.as_slice(), stripe + 1, self.stripes);
+            self.low = past_gap(self.bits.as_slice(), stripe + 1, self.gap, self.until, self.stripes);
         }
     }
 
@@ -62,8 +87,7 @@ impl Marks {
         ensures marks { (t : ℕ) → marks_of self.new t ≡ without_mark stripe (marks_of self.old) t }
         ensures stripes { self.new.stripes ≡ self.old.stripes }
     {
-        set(self.bits.as_mut_slice(), stripe as usize, false);
-        self.low = self.low.min(stripe);
+        self.unmark_range(stripe, stripe);
     }
 
     /// Takes the marks of the stripes from `first` to `last` away.
@@ -75,7 +99,13 @@ impl Marks {
     {
         let count = (last - first) as usize + 1;
         set_range(self.bits.as_mut_slice(), first as usize, count, false);
-        self.low = self.low.min(first);
+        if first < self.low {
+            self.gap = last + 1;
+            self.until = self.low;
+            self.low = first;
+        } else if first < self.until {
+            self.gap = self.gap.max(last + 1);
+        }
     }
 
     /// Whether a stripe is marked.

@@ -41,6 +41,9 @@ pub fn stripe_range(stripe: u32, geometry: Geometry) -> (u64, u64)
     ensures some { 0 < result.1 }
     ensures most { result.1 ≤ stripes.per_stripe geometry.sector }
     ensures on_disk { result.0 + result.1 ≤ geometry.sectors }
+    // In bytes it begins at a whole number of stripes, and is no longer than one.
+    ensures begins { result.0 * geometry.sector ≡ stripe * 2 ^ 20 }
+    ensures long { geometry.sector * result.1 ≤ 2 ^ 20 }
 {
     let per = per_stripe(geometry.sector);
     let first = u64::from(stripe) * per;

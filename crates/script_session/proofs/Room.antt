@@ -16,7 +16,7 @@ use Rattle.layer_session.specs.Steps.{is_full}
 use Rattle.chain_core.specs.Answering.{HasRoom}
 use Rattle.chain_core.specs.Refusing.{barred, is_read, or_else, out_of, range_of, refused, unfit}
 use Rattle.chain_core.specs.Sessions.{Session}
-use Rattle.chain_core.specs.States.{AreHeld, IsServing, State, sector_of}
+use Rattle.chain_core.specs.States.{AreHeld, IsServing, State, others_of, sector_of}
 use Rattle.script_session.proofs.Full.{full_is_far}
 
 -- ---- what isn't refused before it reaches the files
@@ -52,7 +52,7 @@ full_leaf : (o : Option Layer) (v : State) (s : Session) (trace : Trace) (trims 
     → count ≤ 524288 → IfSome s.layers.leaf (λ leaf. is_full (trims leaf) first count next leaf s.disk) → 2 ^ 43 < next + 1024
 full_leaf None v s trace trims first count next is some serving sector told few full = absurd (let never : false ≡ true = sym (ap is_some is) ∙ some in cc)
 full_leaf (Some leaf) v s trace trims first count next is some serving sector told few full =
-    let serves : Serves leaf trace v.top = (subst (λ o. AreHeld o s.layers.below.items trace v.top v.others) is serving.held).0 in
+    let serves : Serves leaf trace v.top = (subst (λ o. AreHeld o s.layers.below.items trace v.top (others_of v.rest)) is serving.held).0 in
     let size : leaf.tables.parts.sector ≡ 512 = ap (λ (p : Shape). p.sector) serves.as_held.shape ∙ sym (ap (λ (t : Ties). t.geometry.sector) serves.ties) ∙ sector in
     full_is_far (trims leaf) first count next leaf s.disk trace serves.as_held.sizes size few told (subst (λ o. IfSome o (λ leaf. is_full (trims leaf) first count next leaf s.disk)) is full)
 

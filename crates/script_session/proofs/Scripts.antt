@@ -1,5 +1,5 @@
 -- A script's session, from its start to its end.
-use Rattle.std.proofs.Common.{◌≡◌, ◌≢◌, ◌<◌, ◌≤◌, ◌+◌, ◌^◌, ℕ, Bool, true, false, List, [], ◌∷◌, length, take, Option, Some, None, Result, Ok, Err, refl, sym, ap, ap₂, subst, ◌∙◌, arith}
+use Rattle.std.proofs.Common.{◌≡◌, ◌≢◌, ◌<◌, ◌≤◌, ◌+◌, ◌^◌, ℕ, Bool, true, false, List, [], ◌∷◌, length, take, Option, Some, None, Result, Ok, Err, refl, sym, ap, ap₂, subst, ◌∙◌, arith, ne_eqb, ◌==◌}
 use Rattle.std.specs.Prelude.{IfOk, IfSome, OnOk, is_some}
 use Rattle.std.proofs.lemmas.List.{length-take}
 use Rattle.std.proofs.lemmas.Option.{same_Some}
@@ -17,7 +17,8 @@ use Rattle.link_rules.specs.declared.linked.LinkedFile.{LinkedFile}
 use Rattle.layer_session.specs.declared.file.Layer.{Layer}
 use Rattle.chain_core.specs.Answering.{HasClosed, HasEnded}
 use Rattle.chain_core.specs.Sessions.{Session}
-use Rattle.chain_core.specs.Starting.{CanStart, HasStarted, IsOfDisk, StartsWith, opening_disk, started, under}
+use Rattle.merge_plan.specs.Attached.{CanStart}
+use Rattle.chain_core.specs.Starting.{HasStarted, IsOfDisk, StartsWith, opening_disk, started, under}
 use Rattle.chain_core.specs.States.{IsServing, State, disk_now, sector_of}
 use Rattle.chain_core.specs.declared.starting.Mode.{Mode}
 use Rattle.chain_core.specs.declared.starting.Mode.TheVariants.{Guests, ReadOnly}
@@ -71,8 +72,8 @@ past_as z z' o o' leaf leaf' began began' h b now ez eo el et past =
     subst (λ n. EachOpensToPrefix n o' h (b n) leaf' began' now) ez
     (subst (λ d. EachOpensToPrefix z d h (b z) leaf' began' now) eo (subst (λ l. EachOpensToPrefix z o h (b z) l began' now) el (subst (λ t. EachOpensToPrefix z o h (b z) leaf t now) et past)))
 
-still_as : (n n' : ℕ) (began began' now : Trace) → n ≡ n' → began ≡ began' → ((other : ℕ) → other ≢ n → file_of now other ≡ file_of began other) → (other : ℕ) → other ≢ n' → file_of now other ≡ file_of began' other
-still_as n n' began began' now en et still other ne = still other (λ e. ne (e ∙ en)) ∙ ap (λ t. file_of t other) et
+still_as : (writes : ℕ → Bool) (began began' now : Trace) → writes ≡ (λ number. number == 0) → began ≡ began' → ((other : ℕ) → writes other ≡ false → file_of now other ≡ file_of began other) → (other : ℕ) → other ≢ 0 → file_of now other ≡ file_of began' other
+still_as writes began began' now ew et still other ne = still other (ap (λ w. w other) ew ∙ ne_eqb other 0 ne) ∙ ap (λ t. file_of t other) et
 
 no_leaf : (o : Option Layer) → is_some o ≡ false → o ≡ None
 no_leaf None e = refl
@@ -101,15 +102,15 @@ module _ (mode : Mode) (leaf : LinkedFile) (others : List LinkedFile) (parts : P
   moments_as b now past =
       past_as (sector_of later) sector_size later.opening (opening_disk trace (leaf ∷ others)) later.leaf leaf.name later.began trace later.history b now tells.over.sector tells.over.opening tells.same.leaf tells.same.began past
 
-  others_as : (now : Trace) → ((other : ℕ) → other ≢ later.top.number → file_of now other ≡ file_of later.began other) → (other : ℕ) → other ≢ 0 → file_of now other ≡ file_of trace other
-  others_as now still = still_as later.top.number 0 later.began trace now tells.same.number tells.same.began still
+  others_as : (now : Trace) → ((other : ℕ) → later.writes other ≡ false → file_of now other ≡ file_of later.began other) → (other : ℕ) → other ≢ 0 → file_of now other ≡ file_of trace other
+  others_as now still = still_as later.writes later.began trace now tells.same.writes tells.same.began still
 
   -- where the files are only read
   unchanged_in : (now : Trace) → after.told ≡ Some now → (can_change mode ≡ false → after ≡ behind.disk) → can_change mode ≡ false → now ≡ trace
   unchanged_in now is same none = same_Some now trace (sym is ∙ ap (λ (d : Disk). d.told) (same none) ∙ stays none)
 
   -- a fault has broken the session
-  behind_break : (b : Break) → tells.broken ≡ Some b → behind.broken ≡ Some b.fault → ((other : ℕ) → other ≢ later.top.number → file_of tells.now other ≡ file_of later.began other)
+  behind_break : (b : Break) → tells.broken ≡ Some b → behind.broken ≡ Some b.fault → ((other : ℕ) → later.writes other ≡ false → file_of tells.now other ≡ file_of later.began other)
       → EachOpensToPrefix (sector_of later) later.opening later.history (is_named (sector_of later) b.call) later.leaf later.began tells.now → WhereBothTold (HaveHistory mode (leaf ∷ others) lines told closed) (Some trace) after.told
   behind_break b is broken still past =
       let e = subst (λ o. IfSome o (λ fault. (closed ≡ Err fault) × (after ≡ behind.disk))) broken ended.broken in

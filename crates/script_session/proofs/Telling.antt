@@ -234,10 +234,11 @@ module _ (drive : Drive) (number : ℕ) (form : Form) (v : State) (old new : Ses
         same = λ h later is. record {
           leaf = is.leaf;
           retired = is.retired;
-          others = is.others;
+          rest = is.rest;
           number = is.number;
           opening = is.opening;
           began = is.began;
+          writes = is.writes;
           history = is.history;
         };
         over = record {
@@ -305,7 +306,7 @@ lines_told drive number [] [] v broken old new trace seen stands over few is = s
   later = v;
   now = trace;
   broken = broken;
-  same = record { leaf = refl; retired = refl; others = refl; number = refl; opening = refl; began = refl; history = refl };
+  same = record { leaf = refl; retired = refl; rest = refl; number = refl; opening = refl; began = refl; writes = refl; history = refl };
   told_so = none_left number v.history broken;
   over = over;
   seen = seen;

@@ -89,10 +89,11 @@ pub data Stands (v : State) (s : Session) (now : Trace) : Option Break → Type 
 pub record IsLater (v : State) (h : History) (later : State) : Type 0 where
   pub leaf : later.leaf ≡ v.leaf
   pub retired : later.retired ≡ v.retired
-  pub others : later.others ≡ v.others
+  pub rest : later.rest ≡ v.rest
   pub number : later.top.number ≡ v.top.number
   pub opening : later.opening ≡ v.opening
   pub began : later.began ≡ v.began
+  pub writes : later.writes ≡ v.writes
   pub history : later.history ≡ h
 
 -- The session of a chain over this drive, with the state's history, which its recorder has if it tells it.

@@ -14,7 +14,7 @@ use Rattle.chain_core.specs.Sessions.{Session}
 use Rattle.chain_core.specs.Starting.{JudgesIds, opening_disk}
 use Rattle.chain_core.specs.declared.starting.Mode.{Mode}
 use Rattle.chain_core.specs.declared.starting.Mode.TheVariants.{Guests, ReadOnly}
-use Rattle.chain_core.specs.declared.starting.NewIds.{NewIds}
+use Rattle.merge_plan.specs.declared.drawing.NewIds.{NewIds}
 use Rattle.script.specs.declared.form.Line.{Line}
 use Rattle.script_session.specs.Answers.{HasRun}
 use Rattle.script_session.specs.Faults.{Counts}

@@ -2,7 +2,8 @@
 
 ghost use Rattle.std.specs.Prelude.{◌≡◌, ◌≤◌, ◌^◌, length, map, IfErr, IfOk, OnErr};
 ghost use Rattle.chain_core.specs.Sessions.{IsSound, seen};
-ghost use Rattle.chain_core.specs.Starting.{CanStart, EachOpensAlike, LeavesOthersFrom, RefusesStart};
+ghost use Rattle.merge_plan.specs.Attached.{CanStart};
+ghost use Rattle.chain_core.specs.Starting.{EachOpensAlike, LeavesOthersFrom, RefusesStart};
 ghost use Rattle.script_session.specs.Running.{HasRunScript, HasRunToEnd};
 
 use crate::lines::{LinesRun, run_lines};

@@ -19,7 +19,7 @@ use Rattle.link_rules.proofs.Alike.{members_alike}
 use Rattle.link_rules.proofs.Chained.{links_are_chains}
 use Rattle.link_rules.proofs.Composing.{replays_keep}
 use Rattle.link_rules.proofs.OneLinking.{one_linking}
-use Rattle.chain_core.specs.Starting.{BeginsInUse}
+use Rattle.merge_plan.specs.Attached.{BeginsInUse}
 use Rattle.vhdx_app.specs.Folders.{files_of}
 use Rattle.vhdx_app.specs.Sessions.{IsChainIn, IsFollowedTo, first_of, leaf_name}
 use Rattle.vhdx_app.proofs.Followed.{opened_after}

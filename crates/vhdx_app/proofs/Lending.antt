@@ -14,7 +14,7 @@ use Rattle.link_rules.specs.Effects.{IsServed}
 use Rattle.link_rules.specs.Lines.{IsLine}
 use Rattle.link_rules.specs.Folders.{contents}
 use Rattle.link_rules.specs.declared.linked.LinkedFile.{LinkedFile}
-use Rattle.chain_core.specs.Starting.{AreAsOpened, AreAttached, BeginsInUse, CanStart}
+use Rattle.merge_plan.specs.Attached.{AreAsOpened, AreAttached, BeginsInUse, CanStart}
 use Rattle.vhdx_app.specs.Commands.{AreOpened, AreShort, Lends}
 use Rattle.vhdx_app.specs.Sessions.{AreLent, AreLentFrom}
 use Rattle.vhdx_app.proofs.Back.{attached_as, bytes_there}

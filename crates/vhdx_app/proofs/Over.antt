@@ -29,10 +29,11 @@ use Rattle.link_rules.specs.declared.linked.Linked.{Linked}
 use Rattle.link_rules.specs.declared.linked.LinkedFile.{LinkedFile}
 use Rattle.layer_session.specs.ReadOnly.{SomeReadFailed}
 use Rattle.log_write.specs.Writing.{BeginFails}
-use Rattle.chain_core.specs.Starting.{EachOpensAlike, JudgesIds, LeavesOthersFrom, RefusesReading, RefusesSession, RefusesStart, opening_disk, shown_from as shown_of}
+use Rattle.merge_plan.specs.Attached.{shown_from as shown_of}
+use Rattle.chain_core.specs.Starting.{EachOpensAlike, JudgesIds, LeavesOthersFrom, RefusesReading, RefusesSession, RefusesStart, opening_disk}
 use Rattle.chain_core.specs.declared.starting.Mode.{Mode}
 use Rattle.chain_core.specs.declared.starting.Mode.TheVariants.{Guests, ReadOnly}
-use Rattle.chain_core.specs.declared.starting.NewIds.{NewIds}
+use Rattle.merge_plan.specs.declared.drawing.NewIds.{NewIds}
 use Rattle.chain_core.specs.declared.starting.StartRefusal.{StartRefusal}
 use Rattle.chain_core.specs.declared.starting.StartRefusal.TheVariants as start
 use Rattle.script.specs.declared.form.Line.{Line}

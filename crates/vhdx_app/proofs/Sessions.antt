@@ -21,7 +21,8 @@ use Rattle.link_rules.specs.Lines.{BeginsWith}
 use Rattle.link_rules.specs.declared.linked.Linked.{Linked}
 use Rattle.link_rules.specs.declared.linked.LinkedFile.{LinkedFile}
 use Rattle.link_rules.specs.declared.refusal.LinkRefusal.{LinkRefusal}
-use Rattle.chain_core.specs.Starting.{BeginsHigh, drawn_ids}
+use Rattle.merge_plan.specs.Drawing.{drawn_ids}
+use Rattle.chain_core.specs.Starting.{BeginsHigh}
 use Rattle.script.specs.Grammar.{IsScript}
 use Rattle.script.specs.Sources.{IsTaken}
 use Rattle.script.specs.declared.form.Line.{Line}

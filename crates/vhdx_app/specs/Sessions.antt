@@ -27,10 +27,12 @@ use Rattle.link_rules.specs.Touches.{IsOnWay, TouchesSafely}
 use Rattle.link_rules.specs.declared.linked.Linked.{Linked}
 use Rattle.link_rules.specs.declared.linked.LinkedFile.{LinkedFile}
 use Rattle.link_rules.specs.declared.refusal.LinkRefusal.{LinkRefusal}
-use Rattle.chain_core.specs.Starting.{BeginsHigh, BeginsInUse, EachOpensAlike, JudgesIds, drawn_ids}
+use Rattle.merge_plan.specs.Attached.{BeginsInUse}
+use Rattle.merge_plan.specs.Drawing.{drawn_ids}
+use Rattle.chain_core.specs.Starting.{BeginsHigh, EachOpensAlike, JudgesIds}
 use Rattle.chain_core.specs.declared.starting.Mode.{Mode}
 use Rattle.chain_core.specs.declared.starting.Mode.TheVariants.{Guests, ReadOnly}
-use Rattle.chain_core.specs.declared.starting.NewIds.{NewIds}
+use Rattle.merge_plan.specs.declared.drawing.NewIds.{NewIds}
 use Rattle.chain_core.specs.declared.starting.StartRefusal.{StartRefusal}
 use Rattle.chain_core.specs.declared.starting.StartRefusal.TheVariants as start
 use Rattle.script.specs.declared.form.Line.{Line}

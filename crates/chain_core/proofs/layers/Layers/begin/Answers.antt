@@ -3,7 +3,7 @@ use Rattle.std.specs.Prelude.{None, Some}
 use Rattle.log_write.specs.declared.ids.SessionIds.{SessionIds}
 use Rattle.layer_session.specs.Begins.{in_session}
 use Rattle.chain_core.specs.declared.layers.Layers.{Layers}
-use Rattle.chain_core.specs.Starting.{StartsWith, session_ids}
+use Rattle.chain_core.specs.Starting.{StartsWith}
 use Rattle.std.specs.Prelude.{◌∷◌}
 use Rattle.chain_core.proofs.Beginning.{begun_moments, begun_ready, begun_serving, none_changed, none_logged, others_stay, rest_moments}
 use Rattle.chain_core.proofs.layers.Layers.begin.Goals as goal

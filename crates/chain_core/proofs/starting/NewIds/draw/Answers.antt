@@ -1,7 +1,0 @@
-use Rattle.make_file.proofs.Drawn.{three}
-use Rattle.chain_core.proofs.starting.NewIds.draw.Goals as goal
-
-pub returns : goal.returns
-returns g c =
-    three _ _ _ _ _ _ _ c.draw-file_write.ensures.id c.draw-data_write.ensures.id c.draw-log.ensures.id c.draw-file_write.ensures.told c.draw-data_write.ensures.told
-    c.draw-log.ensures.told
