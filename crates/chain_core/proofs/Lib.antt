@@ -11,3 +11,4 @@ pub mod Looking
 pub mod Beginning
 pub mod Fresh
 pub mod Showing
+mod Ending

@@ -140,7 +140,7 @@ tight_with writes [] source target below written none =
     ((λ w s. (none s).0), ((λ w. absurd (let never : true ≡ false = sym written ∙ w in cc)), all_tight writes below (λ s. (none s).1)))
 tight_with writes (p ∷ above) source target below written none = ((λ w s. (none s).0), tight_with writes above source target below written (λ s. (none s).1))
 
-tight_others : (z : ℕ) (writes dirty : ℕ → Bool) (layers : Layers) (merge : Option Underway) (top : Placed) (rest : Rest) → IsCourse z writes layers merge top rest → IsLoose dirty top rest → AllByRecursion (IsTight writes) (others_of rest)
+pub tight_others : (z : ℕ) (writes dirty : ℕ → Bool) (layers : Layers) (merge : Option Underway) (top : Placed) (rest : Rest) → IsCourse z writes layers merge top rest → IsLoose dirty top rest → AllByRecursion (IsTight writes) (others_of rest)
 tight_others z writes dirty layers merge top (plain others) course loose = all_tight writes others loose.1
 tight_others z writes dirty layers None top (merging above source target below m) course loose = absurd course
 tight_others z writes dirty layers (Some u) top (merging above source target below m) course loose = tight_with writes above source target below course.written loose.others.1

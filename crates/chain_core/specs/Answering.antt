@@ -1,7 +1,8 @@
 -- What the answer of a guest call says: for every store, and where it tells its content.
-use Rattle.std.specs.Prelude.{◌≡◌, ◌<◌, ◌+◌, ◌/◌, ℕ, Bool, true, false, is_some, length, List, ◌++◌, ◌∷◌, [], Option, Some, None, option_map, not, Result, Ok, Err, IfSome}
+use Rattle.std.specs.Prelude.{◌≡◌, ◌+◌, ◌/◌, ℕ, Bool, true, false, is_some, length, ◌++◌, ◌∷◌, [], Option, Some, None, option_map, not, Result, Ok, Err, IfSome}
+use Rattle.std.specs.List.{AllByRecursion}
 use Rattle.store_model.specs.declared.fault.StoreFault.{StoreFault}
-use Rattle.store_model.specs.Disk.{Disk, WhereBothTold, WhereTold}
+use Rattle.store_model.specs.Disk.{Disk, WhereBothTold}
 use Rattle.store_model.specs.Trace.{Trace, EachMoment, file_of}
 use Rattle.store_model.specs.File.{is_synced}
 use Rattle.guest_model.specs.declared.refusal.ChainRefusal.{ChainRefusal}
@@ -11,8 +12,7 @@ use Rattle.guest_model.specs.declared.call.Call.{Call}
 use Rattle.guest_model.specs.declared.call.Call.TheVariants as calls
 use Rattle.guest_model.specs.declared.call.Caller.{Caller}
 use Rattle.guest_model.specs.declared.call.Entry.{Entry}
-use Rattle.guest_model.specs.declared.call.Reply.TheVariants as replies
-use Rattle.guest_model.specs.Calls.{is_named, reply}
+use Rattle.guest_model.specs.Calls.{is_named}
 use Rattle.guest_model.specs.History.{either}
 use Rattle.chain_model.specs.Moments.{EachOpens, EachOpensToPrefix}
 use Rattle.layer_session.specs.declared.file.Layer.{Layer}
@@ -23,7 +23,7 @@ use Rattle.layer_session.specs.ReadOnly.{SomeReadFailed}
 use Rattle.layer_session.specs.Steps.{has_room, is_full}
 use Rattle.chain_core.specs.Refusing.{refused}
 use Rattle.chain_core.specs.Sessions.{Session}
-use Rattle.chain_core.specs.States.{State, IsServing, LeavesOthers, dirty_now, disk_now, entry, sector_of, with_entry}
+use Rattle.chain_core.specs.States.{State, IsServing, LeavesOthers, dirty_now, disk_now, entry, files_of, sector_of, with_entry}
 use Rattle.chain_core.specs.declared.layers.Layers.{Layers}
 
 -- ---- for every store
@@ -135,11 +135,11 @@ pub record HasEnded (v : State) (trace now : Trace) : Type 0 where
   pub still : LeavesOthers v now
   pub past : EachOpensToPrefix (sector_of v) v.opening v.history (λ s. false) v.leaf v.began now
 
--- The session has ended: each image opens to the history's disk, on all sectors, and nothing of the leaf is unsynced if it had a session.
+-- The session has ended: each image opens to the history's disk, on all sectors, and if there was a session nothing of any file is unsynced.
 pub record HasEndedWhole (session : Bool) (v : State) (trace now : Trace) : Type 0 where
   pub ended : HasEnded v trace now
   pub all : EachOpens v.leaf (λ s. false) (disk_now v) now
-  pub synced : session ≡ true → is_synced (file_of now v.top.number) ≡ true
+  pub synced : session ≡ true → AllByRecursion (λ f. is_synced (file_of now f.number) ≡ true) (files_of v)
 
 abbrev pub HasClosed : Bool → State → Trace → Trace → Result (Unit {0}) StoreFault → Type 0
 HasClosed session v trace now (Ok done) = HasEndedWhole session v trace now

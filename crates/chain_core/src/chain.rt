@@ -3,8 +3,8 @@
 ghost use Rattle.std.specs.Prelude.{◌≡◌, ◌+◌, ◌-◌, ◌*◌, ◌/◌, ◌%◌, ◌<◌, ◌++◌, ◌∷◌, [], Ok, Err, true, false, None, Some, length, take, is_some, option_map, IfErr, IfNone, IfOk, IfSome, IsTrue, OnErr, OnOk};
 ghost use Rattle.guest_model.specs.declared.call.Call.TheVariants as calls;
 ghost use Rattle.guest_model.specs.Calls.{call_of, entry_of};
-ghost use Rattle.store_model.specs.Plans.{FailsToChange};
 ghost use Rattle.chain_core.specs.Answering.{AnswersTold, ClosesTold, HasCause, HasReadCause, HasRoom, IsDurable, Notes, answer_of, as_read, breaks};
+ghost use Rattle.chain_core.specs.Ending.{IsOfSession, SomeChangeFailed};
 ghost use Rattle.chain_core.specs.Events.{HasWholeSectors, IsCaused, RepliesBy, answer_by, placed};
 ghost use Rattle.chain_core.specs.Reading.{Finds};
 ghost use Rattle.chain_core.specs.Refusing.{IfRefused, counted, is_read, misplaced, range_of, fill, refused, unfit};
@@ -340,15 +340,15 @@ impl<S: Store, R: Recorder> Chain<S, R> {
         }
     }
 
-    /// Ends the session, and gives store and recorder back. A session that a fault broke answers it, and its files are written no more,
-    /// so that the leaf's log stays named.
+    /// Ends the session of every file that has one, and gives store and recorder back. A session that a fault broke answers it, and its
+    /// files are written no more, so that their logs stay named.
     pub fn close(self) -> (S, R, Result<(), StoreFault>)
         requires { IsSound (seen S.disk R.noted R.told self) }
         ensures recorder { result.1 ≡ self.recorder }
         ensures broken { IfSome self.broken (λ fault. (result.2 ≡ Err fault) × (result.0 ≡ self.store)) }
         ensures read { self.broken ≡ None → self.layers.leaf ≡ None → (result.2 ≡ Ok tt) × (result.0 ≡ self.store) }
         ensures counts { self.broken ≡ None → OnOk result.2 (S.disk result.0 ≡ record (S.disk self.store) { told = (S.disk result.0).told }) }
-        ensures err { self.broken ≡ None → IfErr result.2 (FailsToChange 0 (S.disk self.store) (S.disk result.0)) }
+        ensures err { self.broken ≡ None → IfErr result.2 (SomeChangeFailed (IsOfSession self.layers) (S.disk self.store) (S.disk result.0)) }
         ensures told { self.broken ≡ None → ClosesTold (seen S.disk R.noted R.told self) (S.disk result.0) result.2 }
     {
         let Chain {

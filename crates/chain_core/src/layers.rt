@@ -5,10 +5,13 @@ ghost use Rattle.guest_model.specs.declared.call.Call.TheVariants as calls;
 ghost use Rattle.layer_session.specs.declared.file.Layer.{Layer};
 ghost use Rattle.layer_session.specs.Calls.{Fails};
 ghost use Rattle.layer_session.specs.ReadOnly.{SomeReadFailed};
-ghost use Rattle.store_model.specs.Plans.{FailsToChange};
 ghost use Rattle.chain_core.specs.Answering.{EndsTold, FailsByChange, LayerRoomIs, LayerTold, UnlessBroken, as_change};
+ghost use Rattle.layer_session.specs.Calls.{IsBeside};
+ghost use Rattle.layer_session.specs.FileLayers.{AreOthers, file_numbers};
+ghost use Rattle.store_model.specs.Disk.{WhereBothTold};
+ghost use Rattle.chain_core.specs.Ending.{AreAllReady, AreNumbered, EndsOnTold, IsInSession, IsOfSession, SomeChangeFailed};
 ghost use Rattle.chain_core.specs.Reading.{AddsPart, Finds, HasOnlyRead, of_read, of_session};
-ghost use Rattle.chain_core.specs.Sessions.{AreReady, IsLow};
+ghost use Rattle.chain_core.specs.Sessions.{AreApart, AreReady, IsLow};
 
 use layer_session::{FileLayer, Layer, LayerFault, own_files};
 use merge_core::Marks;
@@ -190,26 +193,46 @@ impl Layers {
         }
     }
 
-    /// Ends the leaf's session, if it has one.
+    /// Ends the session of every file that has one, from the base upward, the leaf last; nothing where the leaf has none.
     pub fn end<S: Store>(self, store: &mut S) -> Result<(), StoreFault>
         requires ready { AreReady self (S.disk store.old) }
         requires low { IsLow (2 ^ 63 + 1) self }
         ensures told { EndsTold self (S.disk store.old) (S.disk store.new) result }
         ensures read { self.leaf ≡ None → (result ≡ Ok tt) × (store.new ≡ store.old) }
         ensures counts { OnOk result (S.disk store.new ≡ record (S.disk store.old) { told = (S.disk store.new).told }) }
-        ensures err { IfErr result (FailsToChange 0 (S.disk store.old) (S.disk store.new)) }
+        ensures err { IfErr result (SomeChangeFailed (IsOfSession self) (S.disk store.old) (S.disk store.new)) }
     {
         let Layers {
             geometry: _,
             leaf,
-            below: _,
+            below,
             merge: _,
         } = self;
         match leaf {
-            Some(leaf) => leaf.end(store),
+            Some(leaf) => {
+                end_files(below, store)?;
+                leaf.end(store)
+            }
             None => Ok(()),
         }
     }
+}
+
+// Ends the sessions of those files that have one, the last file first.
+fn end_files<S: Store>(mut below: Vec<FileLayer>, store: &mut S) -> Result<(), StoreFault>
+    requires ready { AreAllReady (S.disk store.old) below.items }
+    requires low { AreNumbered below.items }
+    requires apart { AreApart (file_numbers below.items) }
+    ensures told { EndsOnTold below.items (S.disk store.old) (S.disk store.new) result }
+    ensures beside { (number : ℕ) → AreOthers number below.items → WhereBothTold (IsBeside number) (S.disk store.old).told (S.disk store.new).told }
+    ensures counts { OnOk result (S.disk store.new ≡ record (S.disk store.old) { told = (S.disk store.new).told }) }
+    ensures err { IfErr result (SomeChangeFailed (IsInSession below.items) (S.disk store.old) (S.disk store.new)) }
+{
+    let Some(file) = below.pop() else {
+        return Ok(());
+    };
+    file.end(store)?;
+    end_files(below, store)
 }
 
 // The answer of a call whose one fault is a failed change.

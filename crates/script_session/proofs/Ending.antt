@@ -5,6 +5,7 @@ use Rattle.store_model.specs.Disk.{Disk}
 use Rattle.store_model.specs.Plans.{FailsToChange}
 use Rattle.store_model.specs.declared.fault.StoreFault.{StoreFault}
 use Rattle.chain_core.specs.Answering.{ClosesTold}
+use Rattle.chain_core.specs.Ending.{IsOfSession, SomeChangeFailed}
 use Rattle.chain_core.specs.Sessions.{Session}
 use Rattle.script_session.specs.Faults.{Counts, CountsFaults}
 use Rattle.script_session.specs.Running.{IsEnded}
@@ -15,7 +16,7 @@ use Rattle.script_session.proofs.Counting.{counts_change, counts_still, if_some,
 -- by the clauses of a chain's end
 pub ended_by : {S : Type 0} (disk : S → Disk) (s : Session) (store after : S) (closed : Result (Unit {0}) StoreFault) → s.disk ≡ disk store → IfSome s.broken (λ fault. (closed ≡ Err fault) × (after ≡ store))
     → (s.broken ≡ None → s.layers.leaf ≡ None → (closed ≡ Ok tt) × (after ≡ store)) → (s.broken ≡ None → OnOk closed (disk after ≡ record (s.disk) { told = (disk after).told }))
-    → (s.broken ≡ None → IfErr closed (FailsToChange 0 s.disk (disk after))) → (s.broken ≡ None → ClosesTold s (disk after) closed) → IsEnded s (disk after) closed
+    → (s.broken ≡ None → IfErr closed (SomeChangeFailed (IsOfSession s.layers) s.disk (disk after))) → (s.broken ≡ None → ClosesTold s (disk after) closed) → IsEnded s (disk after) closed
 ended_by disk s store after closed same broken read counts err told = record {
   broken = if_some s.broken (λ fault. (closed ≡ Err fault) × (after ≡ store)) (λ fault. (closed ≡ Err fault) × (disk after ≡ s.disk)) (λ fault b. (b.0, ap disk b.1 ∙ sym same)) broken;
   only_read = λ whole none. let r = read whole none in (r.0, ap disk r.1 ∙ sym same);
@@ -30,7 +31,7 @@ ended_by disk s store after closed same broken read counts err told = record {
 data Ends (s : Session) (after : Disk) (closed : Result (Unit {0}) StoreFault) : Type 0 where
   was_broken : (fault : StoreFault) → s.broken ≡ Some fault → closed ≡ Err fault → after ≡ s.disk → Ends s after closed
   has_ended : s.broken ≡ None → closed ≡ Ok tt → after ≡ record (s.disk) { told = after.told } → Ends s after closed
-  has_failed : (fault : StoreFault) → s.broken ≡ None → closed ≡ Err fault → FailsToChange 0 s.disk after fault → Ends s after closed
+  has_failed : (fault : StoreFault) → s.broken ≡ None → closed ≡ Err fault → SomeChangeFailed (IsOfSession s.layers) s.disk after fault → Ends s after closed
 
 how_ended : (s : Session) (after : Disk) (closed : Result (Unit {0}) StoreFault) → IsEnded s after closed → Ends s after closed
 how_ended s after closed ended = go s.broken refl closed refl
@@ -38,7 +39,7 @@ how_ended s after closed ended = go s.broken refl closed refl
     go : (o : Option StoreFault) → s.broken ≡ o → (r : Result (Unit {0}) StoreFault) → closed ≡ r → Ends s after closed
     go (Some fault) is r e = let b = subst (λ o. IfSome o (λ fault. (closed ≡ Err fault) × (after ≡ s.disk))) is ended.broken in was_broken fault is b.0 b.1
     go None is (Ok done) e = has_ended is e (subst (λ r. OnOk r (after ≡ record (s.disk) { told = after.told })) e (ended.counts is))
-    go None is (Err fault) e = has_failed fault is e (subst (λ r. IfErr r (FailsToChange 0 s.disk after)) e (ended.fails is))
+    go None is (Err fault) e = has_failed fault is e (subst (λ r. IfErr r (SomeChangeFailed (IsOfSession s.layers) s.disk after)) e (ended.fails is))
 
 -- where content isn't told before the end it isn't told behind it
 pub end_untold : (s : Session) (after : Disk) (closed : Result (Unit {0}) StoreFault) → IsEnded s after closed → s.disk.told ≡ None → after.told ≡ None
@@ -52,7 +53,7 @@ end_untold s after closed ended none = go (how_ended s after closed ended)
 -- ---- the counts
 
 -- a failed read stays counted where a change fails
-counts_beside : (old new : Disk) (fault other : StoreFault) → Counts old fault → fault.count ≡ old.failed_reads fault.file → FailsToChange 0 old new other → Counts new fault
+counts_beside : (old new : Disk) (fault other : StoreFault) → Counts old fault → fault.count ≡ old.failed_reads fault.file → FailsToChange other.file old new other → Counts new fault
 counts_beside old new fault other c read fails = record {
   within = subst (λ n. fault.file < n) (sym (ap (λ (d : Disk). d.files) fails.stays)) c.within;
   some = c.some;
@@ -65,7 +66,7 @@ module _ (told : List Told) (before behind : Session) (after : Disk) (closed : R
   last_by None ends c read = tt
   last_by (Some fault) (was_broken other is e same) c read = subst (λ d. Counts d fault) (sym same) c
   last_by (Some fault) (has_ended is e quiet) c read = counts_still behind.disk after fault quiet c
-  last_by (Some fault) (has_failed other is e fails) c read = counts_beside behind.disk after fault other c (read is) fails
+  last_by (Some fault) (has_failed other is e failed) c read = counts_beside behind.disk after fault other c (read is) failed.fails
 
   pub last_counted : IfSome (last_fault told) (Counts after)
   last_counted = last_by (last_fault told) (how_ended behind after closed ended) counts.last counts.unbroken
@@ -80,7 +81,7 @@ module _ (told : List Told) (before behind : Session) (after : Disk) (closed : R
           let counted : Counts behind.disk fault = subst (λ o. IfSome o (Counts behind.disk)) last counts.last in
           subst (λ r. IfErr r (Counts after)) (sym e) (subst (λ d. Counts d fault) (sym same) counted)
       go (has_ended is e quiet) = subst (λ r. IfErr r (Counts after)) (sym e) tt
-      go (has_failed fault is e fails) = subst (λ r. IfErr r (Counts after)) (sym e) (counts_change 0 behind.disk after fault (subst (λ n. 0 < n) (sym counts.files) some) fails)
+      go (has_failed fault is e failed) = subst (λ r. IfErr r (Counts after)) (sym e) (counts_change fault.file behind.disk after fault failed.within failed.fails)
 
   -- with neither the counts stay
   pub quiet_end : last_fault told ≡ None → OnOk closed (after ≡ record (before.disk) { told = after.told })

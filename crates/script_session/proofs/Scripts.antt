@@ -140,7 +140,7 @@ module _ (mode : Mode) (leaf : LinkedFile) (others : List LinkedFile) (parts : P
     rest_of (Ok done) h =
         let disk : disk_now later ≡ disk_after drive later.history = ap₂ (λ (z : ℕ) (o : GuestDisk). replay z o later.history) tells.over.sector tells.over.opening in
         record {
-          synced = leaf_synced mode refl h.synced;
+          synced = leaf_synced mode refl (λ session. (h.synced session).0);
           opens = subst (λ d. EachOpens leaf.name (λ s. false) d now) disk (subst (λ l. EachOpens l (λ s. false) (disk_now later) now) tells.same.leaf h.all);
         }
 

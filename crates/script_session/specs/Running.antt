@@ -2,7 +2,6 @@
 use Rattle.std.specs.Prelude.{◌≡◌, ◌≢◌, ⊤, ℕ, Bool, true, false, List, [], ◌∷◌, take, Option, Some, None, Result, IfErr, IfOk, IfSome, OnOk, Ok, Err, string_bytes}
 use Rattle.store_model.specs.Disk.{Disk, WhereBothTold}
 use Rattle.store_model.specs.File.{is_synced}
-use Rattle.store_model.specs.Plans.{FailsToChange}
 use Rattle.store_model.specs.Trace.{Trace, file_of}
 use Rattle.store_model.specs.declared.fault.StoreFault.{StoreFault}
 use Rattle.guest_model.specs.Calls.{is_named}
@@ -10,6 +9,7 @@ use Rattle.guest_model.specs.History.{History}
 use Rattle.chain_model.specs.Moments.{EachOpens, EachOpensToPrefix}
 use Rattle.link_rules.specs.declared.linked.LinkedFile.{LinkedFile}
 use Rattle.chain_core.specs.Answering.{ClosesTold}
+use Rattle.chain_core.specs.Ending.{IsOfSession, SomeChangeFailed}
 use Rattle.chain_core.specs.Sessions.{Session}
 use Rattle.chain_core.specs.Starting.{JudgesIds, opening_disk}
 use Rattle.chain_core.specs.declared.starting.Mode.{Mode}
@@ -81,7 +81,7 @@ pub record IsEnded (s : Session) (after : Disk) (closed : Result (Unit {0}) Stor
   pub broken : IfSome s.broken (λ fault. (closed ≡ Err fault) × (after ≡ s.disk))
   pub only_read : s.broken ≡ None → s.layers.leaf ≡ None → (closed ≡ Ok tt) × (after ≡ s.disk)
   pub counts : s.broken ≡ None → OnOk closed (after ≡ record (s.disk) { told = after.told })
-  pub fails : s.broken ≡ None → IfErr closed (FailsToChange 0 s.disk after)
+  pub fails : s.broken ≡ None → IfErr closed (SomeChangeFailed (IsOfSession s.layers) s.disk after)
   pub told : s.broken ≡ None → ClosesTold s after closed
 
 -- Lines were answered in a session, and then it ended.
