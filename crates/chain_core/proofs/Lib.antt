@@ -11,3 +11,5 @@ pub mod Looking
 pub mod Beginning
 pub mod Fresh
 pub mod Showing
+pub mod Places
+pub mod TargetPuts
