@@ -12,3 +12,5 @@ pub mod Beginning
 pub mod Fresh
 pub mod Showing
 mod Ending
+pub mod Places
+pub mod TargetPuts

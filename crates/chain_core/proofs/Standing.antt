@@ -59,7 +59,7 @@ ready_on old new leaf next before after step parts ready others files next_ready
     }
 
 -- how many files the store has stays
-same_files : (file : ℕ) (before after : Disk) (answer : Result (Unit {0}) LayerFault) → OnOk answer (after ≡ record before { told = after.told }) → IfErr answer (Fails file before after) → after.files ≡ before.files
+pub same_files : (file : ℕ) (before after : Disk) (answer : Result (Unit {0}) LayerFault) → OnOk answer (after ≡ record before { told = after.told }) → IfErr answer (Fails file before after) → after.files ≡ before.files
 same_files file before after (Ok t) counts fails = ap (λ (d : Disk). d.files) counts
 same_files file before after (Err (Read fault)) counts fails = ap (λ (d : Disk). d.files) fails.stays
 same_files file before after (Err (Write fault)) counts fails = ap (λ (d : Disk). d.files) fails.stays

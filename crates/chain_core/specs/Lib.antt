@@ -9,3 +9,4 @@ pub mod Events
 pub mod Laws
 pub mod Merging
 pub mod Ending
+pub mod Copying

@@ -3,6 +3,7 @@
 
 mod answer;
 mod chain;
+mod copying;
 mod laws;
 mod layers;
 mod starting;

@@ -1,0 +1,110 @@
+//! Stripes are copied, of a merge that is under way.
+
+ghost use Rattle.std.specs.Prelude.{◌≡◌, ◌<◌, ◌+◌, ◌^◌, ℕ, true, is_some, length, map, IfErr, IfSome, OnOk};
+ghost use Rattle.chain_model.specs.Stripes.{stripe_count};
+ghost use Rattle.layer_session.specs.Calls.{Fails};
+ghost use Rattle.layer_session.specs.ReadOnly.{SomeReadFailed};
+ghost use Rattle.layer_session.specs.FileLayers.{AreReadyFiles, log_number};
+ghost use Rattle.merge_core.specs.Pieces.{piece_of};
+ghost use Rattle.chain_core.specs.Answering.{UnlessBroken};
+ghost use Rattle.chain_core.specs.Copying.{AreLow, FitsDisk, HasMarked, MarksIn, PutTold, PutsAt, Takes, target_number};
+ghost use Rattle.chain_core.specs.Reading.{HasOnlyRead};
+ghost use Rattle.chain_core.specs.Sessions.{AreReady, IsLow, is_session_at};
+
+use crate::layers::{Layers, Underway};
+use layer_session::{FileLayer, LayerFault};
+use merge_core::{Piece, put_piece};
+use store_model::{Store, StoreFault};
+use vx_base::Geometry;
+
+impl Layers {
+    /// Takes what the source of the merge has of a stripe. After a fault there is no piece.
+    pub(crate) fn take<S: Store>(
+        &mut self,
+        store: &mut S,
+        stripe: u32,
+        piece: &mut Piece,
+    ) -> Result<(), StoreFault>
+        requires ready { AreReady self.old (S.disk store.old) }
+        requires merge { is_some self.old.merge ≡ true }
+        requires stripe { stripe < stripe_count self.old.geometry.sector self.old.geometry.sectors }
+        ensures reads { HasOnlyRead self.old self.new (S.disk store.old) (S.disk store.new) }
+        ensures filled { OnOk result (piece.new.filled ≡ true) }
+        ensures fits { OnOk result (FitsDisk self.old.geometry piece.new) }
+        ensures stripe { OnOk result (piece.new.stripe ≡ stripe) }
+        ensures stamp { OnOk result (piece.new.stamp ≡ 0) }
+        ensures taken { OnOk result (Takes self.old (S.disk store.old) (piece_of piece.new)) }
+        ensures stays { OnOk result (S.disk store.new ≡ S.disk store.old) }
+        ensures err { IfErr result (SomeReadFailed (S.disk store.old) (S.disk store.new)) }
+    {
+        let Some(merge) = &self.merge else {
+            return Ok(());
+        };
+        let source = &mut self.below[merge.source];
+        piece.take(store, source, self.geometry, stripe, 0)
+    }
+
+    /// Puts a piece into the target of the merge, and marks its stripe.
+    pub(crate) fn put_piece<S: Store>(
+        &mut self,
+        store: &mut S,
+        piece: &Piece,
+    ) -> Result<(), LayerFault>
+        requires ready { AreReady self.old (S.disk store.old) }
+        requires low { IsLow (2 ^ 63 + 1) self.old }
+        requires merge { is_some self.old.merge ≡ true }
+        requires fits { FitsDisk self.old.geometry piece.now }
+        requires stripe { piece.now.stripe < stripe_count self.old.geometry.sector self.old.geometry.sectors }
+        requires stamp { piece.now.stamp ≡ 0 }
+        ensures told { PutTold (piece_of piece.now) self.old self.new (S.disk store.old) (S.disk store.new) result }
+        ensures ready { UnlessBroken result (AreReady self.new (S.disk store.new)) }
+        ensures low { (most : ℕ) → IsLow most self.old → IsLow (most + 1) self.new }
+        ensures session { is_some self.new.leaf ≡ is_some self.old.leaf }
+        ensures geometry { self.new.geometry ≡ self.old.geometry }
+        ensures marked { HasMarked piece.now.stripe self.old self.new result }
+        ensures counts { OnOk result (S.disk store.new ≡ record (S.disk store.old) { told = (S.disk store.new).told }) }
+        ensures err { IfErr result (Fails (target_number self.old) (S.disk store.old) (S.disk store.new)) }
+    {
+        let Some(merge) = &self.merge else {
+            return Ok(());
+        };
+        let target = merge.source + 1;
+        let below = self.below.as_mut_slice();
+        let done = put_at(below, store, target, self.geometry, piece);
+        if done.is_ok() {
+            mark(&mut self.merge, piece.stripe());
+        }
+        done
+    }
+}
+
+// Marks a stripe of the merge.
+fn mark(merge: &mut Option<Underway>, stripe: u32)
+    requires { IfSome merge.old (λ u. stripe < u.marks.stripes) }
+    ensures marks { MarksIn stripe merge.old merge.new }
+{
+    if let Some(merge) = merge {
+        merge.marks.mark(stripe);
+    }
+}
+
+// Puts a piece into the file at a place, which is in a session.
+fn put_at<S: Store>(
+    layers: &mut [FileLayer],
+    store: &mut S,
+    at: usize,
+    geometry: Geometry,
+    piece: &Piece,
+) -> Result<(), LayerFault>
+    requires session { is_session_at layers.old at ≡ true }
+    requires there { at < length layers.old }
+    requires ready { AreReadyFiles geometry (S.disk store.old) layers.old }
+    requires low { AreLow (2 ^ 63 + 1) (map log_number layers.old) }
+    requires fits { FitsDisk geometry piece.now }
+    ensures put { PutsAt at piece.now layers.old layers.new (S.disk store.old) (S.disk store.new) result }
+{
+    match &mut layers[at] {
+        FileLayer::Session(target) => put_piece(store, target, piece),
+        FileLayer::Read(_) => Ok(()),
+    }
+}
