@@ -14,3 +14,4 @@ pub mod Showing
 mod Ending
 pub mod Places
 pub mod TargetPuts
+mod Copied

@@ -155,19 +155,26 @@ ClosesTold s after result = EndsTold s.layers s.disk after result
 
 -- ---- the answer of the leaf's layer
 
+-- what a fault of a file's layer refuses a call by
+abbrev pub refusal_of : LayerFault → ChainRefusal
+refusal_of (layer.Read fault) = refusals.ReadFault fault.file fault.count
+refusal_of (layer.FileFull next) = refusals.FileFull next
+refusal_of (layer.Write fault) = refusals.Broken fault.file fault.count
+
 -- what a call answers once its layer has
 abbrev pub answer_of : ℕ → Result (Unit {0}) LayerFault → Result ℕ ChainRefusal
 answer_of place (Ok done) = Ok place
-answer_of place (Err (layer.Read fault)) = Err (refusals.ReadFault fault.file fault.count)
-answer_of place (Err (layer.FileFull next)) = Err (refusals.FileFull next)
-answer_of place (Err (layer.Write fault)) = Err (refusals.Broken fault.file fault.count)
+answer_of place (Err fault) = Err (refusal_of fault)
 
 -- the fault that breaks the session
+abbrev pub breaking : LayerFault → Option StoreFault
+breaking (layer.Read fault) = None
+breaking (layer.FileFull next) = None
+breaking (layer.Write fault) = Some fault
+
 abbrev pub breaks : Result (Unit {0}) LayerFault → Option StoreFault
 breaks (Ok done) = None
-breaks (Err (layer.Read fault)) = None
-breaks (Err (layer.FileFull next)) = None
-breaks (Err (layer.Write fault)) = Some fault
+breaks (Err fault) = breaking fault
 
 -- What the leaf's layer answers of a call, in the words of the session.
 abbrev pub LayerAnswers : Entry → State → Layers → Trace → Trace → Result (Unit {0}) LayerFault → Type 0

@@ -1,21 +1,30 @@
 -- What is copied, of a merge that is under way.
-use Rattle.std.specs.Prelude.{◌≡◌, ⊤, ℕ, ◌+◌, ◌≤◌, Bool, List, slice_index, length, ◌++◌, ◌∷◌, Option, Some, None, Result, Ok, Err, IfErr, IfSome, OnOk}
+use Rattle.std.specs.Prelude.{◌≡◌, ⊤, ℕ, is_some, true, false, nat_lt, ◌==◌, if◌then◌else◌, MatchOption, ◌+◌, ◌≤◌, Bool, List, slice_index, length, ◌++◌, ◌∷◌, Option, Some, None, Result, Ok, Err, IfErr, IfSome, OnOk}
 use Rattle.std.specs.List.{AllByRecursion}
 use Rattle.vx_base.specs.declared.parts.Geometry.{Geometry}
 use Rattle.store_model.specs.Disk.{Disk, WhereBothTold, WhereTold}
+use Rattle.store_model.specs.Trace.{Trace}
+use Rattle.guest_model.specs.declared.refusal.ChainRefusal.{ChainRefusal}
+use Rattle.guest_model.specs.declared.refusal.ChainRefusal.TheVariants as refusals
 use Rattle.table_pages.specs.declared.tables.TableParts.{TableParts}
-use Rattle.chain_model.specs.Merges.{Piece, with_mark}
+use Rattle.chain_model.specs.Merges.{AllMarked, Piece, with_mark}
+use Rattle.chain_model.specs.Stripes.{stripe_count}
 use Rattle.layer_session.specs.Calls.{Fails, HasKept, KeepsOver, OnRefused, own_file}
 use Rattle.layer_session.specs.FileLayers.{file_numbers}
 use Rattle.layer_session.specs.Keeping.{IsReady}
 use Rattle.layer_session.specs.declared.file.Layer.{Layer}
 use Rattle.layer_session.specs.declared.file_layer.FileLayer.{FileLayer}
-use Rattle.layer_session.specs.declared.file_layer.FileLayer.TheVariants.{Session}
+use Rattle.layer_session.specs.declared.file_layer.FileLayer.TheVariants as kind
+use Rattle.layer_session.specs.ReadOnly.{SomeReadFailed}
 use Rattle.layer_session.specs.declared.file.LayerFault.{LayerFault}
-use Rattle.merge_core.specs.Copied.{marks_of}
-use Rattle.merge_core.specs.Pieces.{FitsIn, HasPutPiece, PutsPiece}
+use Rattle.layer_session.specs.declared.file.LayerFault.TheVariants as layer
+use Rattle.merge_core.specs.Copied.{IsLowest, marks_of}
+use Rattle.merge_core.specs.Pieces.{FitsIn, HasPutPiece, PutsPiece, piece_of}
 use Rattle.merge_core.specs.declared.piece.Piece.{Piece as KeptPiece}
-use Rattle.chain_core.specs.Merging.{IsTruePiece, PutAnswers}
+use Rattle.chain_core.specs.Answering.{HasEnded, IsRefused, fault_of, refusal_of}
+use Rattle.chain_core.specs.Merging.{IsCopied, IsTruePiece, PutAnswers}
+use Rattle.chain_core.specs.Refusing.{or_else, unfit}
+use Rattle.chain_core.specs.Sessions.{Session}
 use Rattle.chain_core.specs.States.{IsServing, State}
 use Rattle.chain_core.specs.declared.layers.Layers.{Layers}
 use Rattle.chain_core.specs.declared.layers.Underway.{Underway}
@@ -59,7 +68,89 @@ abbrev pub HasMarked : ℕ → Layers → Layers → Result (Unit {0}) LayerFaul
 HasMarked stripe old new (Ok done) = MarksIn stripe old.merge new.merge
 HasMarked stripe old new (Err fault) = new.merge ≡ old.merge
 
+-- ---- calls of the merge
+
+-- A stripe isn't one of the merge: none is under way, or the disk has fewer stripes.
+abbrev pub past_stripes : ℕ → ℕ → Option ChainRefusal
+past_stripes stripe stripes = if nat_lt stripe stripes then None else Some (refusals.NoStripe stripe stripes)
+
+abbrev pub no_stripe : ℕ → Layers → Option ChainRefusal
+no_stripe stripe layers = if is_some layers.merge then past_stripes stripe (stripe_count layers.geometry.sector layers.geometry.sectors) else Some refusals.NoMerge
+
+-- A piece can't be put: its stripe isn't one, or it was taken under another stamp than the stripe's, which is 0 where the source isn't the
+-- leaf.
+abbrev pub no_piece : KeptPiece → Layers → Option ChainRefusal
+no_piece piece layers = or_else (no_stripe piece.stripe layers) (if piece.stamp == 0 then None else Some (refusals.Stale piece.stamp 0))
+
+-- The first cause by which each is refused before the files are reached.
+abbrev pub fetch_refused : ℕ → Session → Option ChainRefusal
+fetch_refused stripe s = or_else (unfit s.events s.broken) (no_stripe stripe s.layers)
+
+abbrev pub put_refused : KeptPiece → Session → Option ChainRefusal
+put_refused piece s = or_else (unfit s.events s.broken) (no_piece piece s.layers)
+
+-- what is refused for a cause answers that, and P
+abbrev pub IfStopped : {T : Type 0} → Option ChainRefusal → Result T ChainRefusal → Type 0 → Type 0
+IfStopped cause result P = IfSome cause (λ e. (result ≡ Err e) × P)
+
+-- what a call of the merge answers once its file's layer has
+abbrev pub refused_by : Result (Unit {0}) LayerFault → Result (Unit {0}) ChainRefusal
+refused_by (Ok done) = Ok tt
+refused_by (Err fault) = Err (refusal_of fault)
+
+-- a piece of this stripe was taken, under the stamp 0, and fits into each file of the disk
+pub record IsOfStripe (geometry : Geometry) (stripe : ℕ) (piece : KeptPiece) : Type 0 where
+  pub filled : piece.filled ≡ true
+  pub stripe_is : piece.stripe ≡ stripe
+  pub stamp : piece.stamp ≡ 0
+  pub fits : FitsDisk geometry piece
+
+-- What the answer of a fetch that reached the files says: it took a piece and answers its stamp; or a read of some file failed, and there
+-- is no piece.
+abbrev pub FetchCause : Session → Session → KeptPiece → Result ℕ ChainRefusal → Type 0
+FetchCause old new piece (Ok stamp) = (stamp ≡ piece.stamp) × (new.disk ≡ old.disk) × (new.broken ≡ None)
+FetchCause old new piece (Err (refusals.ReadFault file count)) = (piece.filled ≡ false) × SomeReadFailed old.disk new.disk (fault_of file count) × (new.broken ≡ None)
+FetchCause old new piece (Err other) = ⊥
+
+-- The session serves the history as before, and what was taken is the source's.
+abbrev pub FetchAnswers : KeptPiece → State → Layers → Trace → Trace → Result ℕ ChainRefusal → Type 0
+FetchAnswers piece v layers trace now (Ok stamp) = IsRefused v layers trace now × IsTruePiece v (piece_of piece)
+FetchAnswers piece v layers trace now (Err refusal) = IsRefused v layers trace now
+
+abbrev pub FetchTold : KeptPiece → Session → Session → Result ℕ ChainRefusal → Type 0
+FetchTold piece old new result =
+    WhereBothTold (λ trace now. (v : State) → IsServing old.layers v trace → FetchAnswers piece v new.layers trace now result) old.disk.told new.disk.told
+
+-- What the answer of a put that reached the files says of the store's counts, of marks, and of the session's fault.
+abbrev pub PutCause : KeptPiece → Session → Session → Result (Unit {0}) ChainRefusal → Type 0
+PutCause piece old new (Ok done) = MarksIn piece.stripe old.layers.merge new.layers.merge × (new.disk ≡ record (old.disk) { told = new.disk.told }) × (new.broken ≡ None)
+PutCause piece old new (Err (refusals.ReadFault file count)) =
+    (new.layers.merge ≡ old.layers.merge) × Fails (target_number old.layers) old.disk new.disk (layer.Read (fault_of file count)) × (new.broken ≡ None)
+PutCause piece old new (Err (refusals.FileFull next)) = (new.layers.merge ≡ old.layers.merge) × Fails (target_number old.layers) old.disk new.disk (layer.FileFull next) × (new.broken ≡ None)
+PutCause piece old new (Err (refusals.Broken file count)) =
+    (new.layers.merge ≡ old.layers.merge) × Fails (target_number old.layers) old.disk new.disk (layer.Write (fault_of file count)) × (new.broken ≡ Some (fault_of file count))
+PutCause piece old new (Err other) = ⊥
+
+-- A piece that is the source's is put, or refused and nothing changed, or a change of the target failed and broke the session.
+abbrev pub PieceAnswers : KeptPiece → State → Layers → Trace → Trace → Result (Unit {0}) ChainRefusal → Type 0
+PieceAnswers piece v layers trace now (Ok done) = IsCopied (piece_of piece) v layers trace now
+PieceAnswers piece v layers trace now (Err (refusals.Broken file count)) = HasEnded v trace now
+PieceAnswers piece v layers trace now (Err other) = IsRefused v layers trace now
+
+abbrev pub PieceTold : KeptPiece → Session → Session → Result (Unit {0}) ChainRefusal → Type 0
+PieceTold piece old new result =
+    WhereBothTold (λ trace now. (v : State) → IsServing old.layers v trace → IsTruePiece v (piece_of piece) → PieceAnswers piece v new.layers trace now result) old.disk.told new.disk.told
+
+-- The lowest stripe of the merge under way without a mark; none where each has one, or none is under way.
+abbrev pub IsMissing : Option Underway → Option ℕ → Type 0
+IsMissing None found = found ≡ None
+IsMissing (Some u) found = MatchOption found (AllMarked u.marks.stripes (marks_of u.marks)) (λ t. IsLowest u.marks.stripes (marks_of u.marks) t)
+
 -- ---- of the small functions
+
+-- a merge has a mark for each stripe of the disk
+abbrev pub HasEachStripe : Layers → Type 0
+HasEachStripe layers = IfSome layers.merge (λ u. u.marks.stripes ≡ stripe_count layers.geometry.sector layers.geometry.sectors)
 
 -- of these numbers, where there are any, each is at most this
 abbrev pub AreLow : ℕ → List (Option ℕ) → Type 0
@@ -72,8 +163,8 @@ pub record PutsAt (at : ℕ) (piece : KeptPiece) (old new : List FileLayer) (bef
   pub was : Layer
   pub now : Layer
   pub place : length above ≡ at
-  pub was_there : old ≡ above ++ Session was ∷ below
-  pub now_there : new ≡ above ++ Session now ∷ below
+  pub was_there : old ≡ above ++ kind.Session was ∷ below
+  pub now_there : new ≡ above ++ kind.Session now ∷ below
   pub moments : WhereBothTold (PutsPiece was piece) before.told after.told
   pub put : OnOk result (WhereBothTold (HasPutPiece was now piece) before.told after.told)
   pub ready : OnOk result (IsReady now after)

@@ -3,8 +3,9 @@
 ghost use Rattle.std.specs.Prelude.{◌≡◌, ◌+◌, ◌-◌, ◌*◌, ◌/◌, ◌%◌, ◌<◌, ◌++◌, ◌∷◌, [], Ok, Err, true, false, None, Some, length, take, is_some, option_map, IfErr, IfNone, IfOk, IfSome, IsTrue, OnErr, OnOk};
 ghost use Rattle.guest_model.specs.declared.call.Call.TheVariants as calls;
 ghost use Rattle.guest_model.specs.Calls.{call_of, entry_of};
-ghost use Rattle.chain_core.specs.Answering.{AnswersTold, ClosesTold, HasCause, HasReadCause, HasRoom, IsDurable, Notes, answer_of, as_read, breaks};
+ghost use Rattle.chain_core.specs.Answering.{AnswersTold, ClosesTold, HasCause, HasReadCause, HasRoom, IsDurable, Notes, answer_of, as_read, breaking, breaks, refusal_of};
 ghost use Rattle.chain_core.specs.Ending.{IsOfSession, SomeChangeFailed};
+ghost use Rattle.chain_core.specs.Copying.{FetchCause, FetchTold, FitsDisk, HasEachStripe, IfStopped, IsMissing, IsOfStripe, PieceTold, PutCause, fetch_refused, no_piece, no_stripe, put_refused, refused_by};
 ghost use Rattle.chain_core.specs.Events.{HasWholeSectors, IsCaused, RepliesBy, answer_by, placed};
 ghost use Rattle.chain_core.specs.Reading.{Finds};
 ghost use Rattle.chain_core.specs.Refusing.{IfRefused, counted, is_read, misplaced, range_of, fill, refused, unfit};
@@ -18,6 +19,7 @@ use crate::starting::{Mode, StartRefusal};
 use guest_model::{Call, CallRef, Caller, ChainRefusal, Recorder, Reply, check_range};
 use layer_session::LayerFault;
 use link_rules::LinkedFile;
+use merge_core::Piece;
 use std::alloc::Global;
 use store_model::{Ids, Store, StoreFault};
 use vx_base::{Bytes, Geometry, NoRoom};
@@ -159,6 +161,29 @@ impl<S: Store, R: Recorder> Chain<S, R> {
         Ok(())
     }
 
+    // What a fault refuses a call by; a failed change breaks the session.
+    fn refuse(&mut self, fault: LayerFault) -> ChainRefusal
+        ensures answer { result ≡ refusal_of fault }
+        ensures whole { IfNone (breaking fault) (self.new.broken ≡ self.old.broken) }
+        ensures broken { IfSome (breaking fault) (λ fault. self.new.broken ≡ Some fault) }
+        ensures only { self.new ≡ record self.old { broken = self.new.broken } }
+    {
+        match fault {
+            LayerFault::Read(fault) => ChainRefusal::ReadFault {
+                file: fault.file,
+                count: fault.count,
+            },
+            LayerFault::FileFull { next } => ChainRefusal::FileFull { next },
+            LayerFault::Write(fault) => {
+                self.broken = Some(fault);
+                ChainRefusal::Broken {
+                    file: fault.file,
+                    count: fault.count,
+                }
+            }
+        }
+    }
+
     // What a call answers once the layers have. Where it wasn't done its entry, the last one, is taken back.
     fn conclude(&mut self, done: Result<(), LayerFault>) -> Result<u64, ChainRefusal>
         ensures answer { result ≡ answer_of (R.noted self.old.recorder) done }
@@ -174,20 +199,7 @@ impl<S: Store, R: Recorder> Chain<S, R> {
             Err(fault) => fault,
         };
         self.recorder.drop_last();
-        Err(match fault {
-            LayerFault::Read(fault) => ChainRefusal::ReadFault {
-                file: fault.file,
-                count: fault.count,
-            },
-            LayerFault::FileFull { next } => ChainRefusal::FileFull { next },
-            LayerFault::Write(fault) => {
-                self.broken = Some(fault);
-                ChainRefusal::Broken {
-                    file: fault.file,
-                    count: fault.count,
-                }
-            }
-        })
+        Err(self.refuse(fault))
     }
 
     /// Reads whole sectors. Answers the call's place in the history.
@@ -337,6 +349,104 @@ impl<S: Store, R: Recorder> Chain<S, R> {
                 let result = self.flush(who);
                 answered(result, Reply::Done)
             }
+        }
+    }
+
+    // The merge has a stripe of this number; refused where none is under way, or it has no such stripe.
+    fn find_stripe(&self, stripe: u32) -> Result<(), ChainRefusal>
+        requires { HasEachStripe self.now.layers }
+        ensures ok { OnOk result (no_stripe stripe self.now.layers ≡ None) }
+        ensures err { IfErr result (λ e. no_stripe stripe self.now.layers ≡ Some e) }
+    {
+        let Some(merge) = &self.layers.merge else {
+            return Err(ChainRefusal::NoMerge);
+        };
+        let stripes = merge.marks.stripes();
+        if stripe >= stripes {
+            return Err(ChainRefusal::NoStripe { stripe, stripes });
+        }
+        Ok(())
+    }
+
+    // A piece is of a stripe of the merge, and no older than the stripe is. A source that isn't the leaf isn't written: of its
+    // stripes all stamps are 0.
+    fn judge_piece(&self, piece: &Piece) -> Result<(), ChainRefusal>
+        requires { HasEachStripe self.now.layers }
+        ensures ok { OnOk result (no_piece piece.now self.now.layers ≡ None) }
+        ensures err { IfErr result (λ e. no_piece piece.now self.now.layers ≡ Some e) }
+    {
+        self.find_stripe(piece.stripe())?;
+        let taken = piece.stamp();
+        if taken != 0 {
+            return Err(ChainRefusal::Stale { taken, now: 0 });
+        }
+        Ok(())
+    }
+
+    /// Takes what the source of the merge has of a stripe. Answers the stripe's stamp. A call that is refused before the files are
+    /// reached leaves the piece; after a fault there is none.
+    pub fn fetch_live(&mut self, stripe: u32, piece: &mut Piece) -> Result<u64, ChainRefusal>
+        requires sound { IsSound (seen S.disk R.noted R.told self.old) }
+        ensures sound { IsSound (seen S.disk R.noted R.told self.new) }
+        ensures events { self.new.events ≡ counted self.old.events }
+        ensures geometry { self.new.layers.geometry ≡ self.old.layers.geometry }
+        ensures session { is_some self.new.layers.leaf ≡ is_some self.old.layers.leaf }
+        ensures history { self.new.recorder ≡ self.old.recorder }
+        ensures early { IfStopped (fetch_refused stripe (seen S.disk R.noted R.told self.old)) result (IsCounted self.old self.new × (piece.new ≡ piece.old)) }
+        ensures cause { fetch_refused stripe (seen S.disk R.noted R.told self.old) ≡ None → FetchCause (seen S.disk R.noted R.told self.old) (seen S.disk R.noted R.told self.new) piece.new result }
+        ensures taken { OnOk result (IsOfStripe self.old.layers.geometry stripe piece.new) }
+        ensures told { FetchTold piece.new (seen S.disk R.noted R.told self.old) (seen S.disk R.noted R.told self.new) result }
+    {
+        self.admit()?;
+        self.find_stripe(stripe)?;
+        match self.layers.take(&mut self.store, stripe, piece) {
+            Ok(()) => Ok(0),
+            Err(fault) => Err(ChainRefusal::ReadFault {
+                file: fault.file,
+                count: fault.count,
+            }),
+        }
+    }
+
+    /// Puts a piece that was taken of the source into the target, and marks its stripe.
+    pub fn put(&mut self, piece: &Piece) -> Result<(), ChainRefusal>
+        requires sound { IsSound (seen S.disk R.noted R.told self.old) }
+        requires fits { FitsDisk self.old.layers.geometry piece.now }
+        ensures sound { IsSound (seen S.disk R.noted R.told self.new) }
+        ensures events { self.new.events ≡ counted self.old.events }
+        ensures geometry { self.new.layers.geometry ≡ self.old.layers.geometry }
+        ensures session { is_some self.new.layers.leaf ≡ is_some self.old.layers.leaf }
+        ensures history { self.new.recorder ≡ self.old.recorder }
+        ensures early { IfStopped (put_refused piece.now (seen S.disk R.noted R.told self.old)) result (IsCounted self.old self.new) }
+        ensures cause { put_refused piece.now (seen S.disk R.noted R.told self.old) ≡ None → PutCause piece.now (seen S.disk R.noted R.told self.old) (seen S.disk R.noted R.told self.new) result }
+        ensures told { PieceTold piece.now (seen S.disk R.noted R.told self.old) (seen S.disk R.noted R.told self.new) result }
+    {
+        self.admit()?;
+        self.judge_piece(piece)?;
+        let done = self.layers.put_piece(&mut self.store, piece);
+        self.settle(done)
+    }
+
+    // What a call of the merge answers once its file's layer has.
+    fn settle(&mut self, done: Result<(), LayerFault>) -> Result<(), ChainRefusal>
+        ensures answer { result ≡ refused_by done }
+        ensures fault { IfNone (breaks done) (self.new.broken ≡ self.old.broken) }
+        ensures broken { IfSome (breaks done) (λ fault. self.new.broken ≡ Some fault) }
+        ensures only { self.new ≡ record self.old { broken = self.new.broken } }
+    {
+        match done {
+            Ok(()) => Ok(()),
+            Err(fault) => Err(self.refuse(fault)),
+        }
+    }
+
+    /// The lowest stripe that isn't copied; none where all are, or no merge is under way.
+    pub fn missing(&self) -> Option<u32>
+        ensures { IsMissing self.now.layers.merge result }
+    {
+        match &self.layers.merge {
+            Some(merge) => merge.marks.missing(),
+            None => None,
         }
     }
 

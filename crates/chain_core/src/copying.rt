@@ -1,6 +1,6 @@
 //! Stripes are copied, of a merge that is under way.
 
-ghost use Rattle.std.specs.Prelude.{◌≡◌, ◌<◌, ◌+◌, ◌^◌, ℕ, true, is_some, length, map, IfErr, IfSome, OnOk};
+ghost use Rattle.std.specs.Prelude.{◌≡◌, ◌<◌, ◌+◌, ◌^◌, ℕ, true, false, is_some, length, map, IfErr, IfSome, OnErr, OnOk};
 ghost use Rattle.chain_model.specs.Stripes.{stripe_count};
 ghost use Rattle.layer_session.specs.Calls.{Fails};
 ghost use Rattle.layer_session.specs.ReadOnly.{SomeReadFailed};
@@ -30,6 +30,7 @@ impl Layers {
         requires stripe { stripe < stripe_count self.old.geometry.sector self.old.geometry.sectors }
         ensures reads { HasOnlyRead self.old self.new (S.disk store.old) (S.disk store.new) }
         ensures filled { OnOk result (piece.new.filled ≡ true) }
+        ensures empty { OnErr result (piece.new.filled ≡ false) }
         ensures fits { OnOk result (FitsDisk self.old.geometry piece.new) }
         ensures stripe { OnOk result (piece.new.stripe ≡ stripe) }
         ensures stamp { OnOk result (piece.new.stamp ≡ 0) }

@@ -69,6 +69,13 @@ impl Marks {
         })
     }
 
+    /// How many stripes there are.
+    pub fn stripes(&self) -> u32
+        ensures { result ≡ self.now.stripes }
+    {
+        self.stripes
+    }
+
     /// Marks a stripe. In a loop that marks stripe after stripe this takes the time of a few steps a stripe.
     pub fn mark(&mut self, stripe: u32)
         requires there { stripe < self.old.stripes }
