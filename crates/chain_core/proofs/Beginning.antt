@@ -1,7 +1,7 @@
 -- Where a session begins.
 use Rattle.std.proofs.lemmas.List.{length-take, take_more}
 use Rattle.std.proofs.lemmas.Grind.{common_steps}
-use Rattle.std.proofs.Common.{drop, take, ◌-◌, ◌≡◌, ◌≢◌, ℕ, zero, suc, ◌+◌, ◌<◌, ◌≤◌, ◌^◌, Bool, true, false, List, [], ◌∷◌, ◌++◌, length, map, get_or, All, refl, sym, ap, subst, ◌∙◌, arith, is_some, inl, inr, ne_eqb, ◌==◌}
+use Rattle.std.proofs.Common.{drop, take, ◌-◌, ◌≡◌, ◌≢◌, ℕ, suc, ◌+◌, ◌<◌, ◌≤◌, Bool, true, false, List, [], ◌∷◌, ◌++◌, length, map, get_or, All, refl, sym, ap, subst, ◌∙◌, arith, is_some, ne_eqb, ◌==◌}
 use Rattle.std.specs.Prelude.{Option, Some, None, option_map, ◌⊎◌, IfSome, Result, Ok, Err, IfOk, OnOk}
 use Rattle.std.specs.List.{AllByRecursion}
 use Rattle.std.specs.Option.{option_or}
@@ -48,7 +48,7 @@ use Rattle.chain_core.specs.Starting.{HasBegun as HasBegunSession, IsRead as IsR
 use Rattle.merge_plan.specs.declared.drawing.NewIds.{NewIds}
 use Rattle.chain_core.specs.declared.starting.StartRefusal.{StartRefusal}
 use Rattle.chain_core.specs.Sessions.{AreApart, AreReady, IsLow, IsMergeOf, IsReadyLeaf}
-use Rattle.chain_core.specs.States.{AreHeld, AreWritten, IsCourse, IsServing, State, plain, seen_in}
+use Rattle.chain_core.specs.States.{AreHeld, AreWritten, IsCourse, IsServing, plain, seen_in}
 use Rattle.chain_core.proofs.Steps.{phase_others, still_once, still_read}
 
 -- ---- lists

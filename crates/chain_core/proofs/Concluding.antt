@@ -1,6 +1,6 @@
 -- What a session answers of a call, from what its layers answer.
-use Rattle.std.proofs.Common.{◌≡◌, ℕ, ◌/◌, Bool, true, false, cond, ◌||◌, List, refl, sym, ap, subst, ◌∙◌, length}
-use Rattle.std.specs.Prelude.{Option, Some, None, Result, Ok, Err, IsErr, IfSome}
+use Rattle.std.proofs.Common.{◌≡◌, ℕ, Bool, true, false, ◌||◌, refl, sym, subst}
+use Rattle.std.specs.Prelude.{Option, Some, None, Result, Ok, Err, IsErr}
 use Rattle.store_model.specs.Disk.{Disk, WhereBothTold}
 use Rattle.store_model.specs.declared.fault.StoreFault.{StoreFault}
 use Rattle.store_model.specs.Trace.{Trace}
@@ -17,11 +17,10 @@ use Rattle.chain_model.proofs.Calling.{loosened_is_kept}
 use Rattle.layer_session.specs.declared.file.Layer.{Layer}
 use Rattle.layer_session.specs.declared.file.LayerFault.{LayerFault}
 use Rattle.layer_session.specs.declared.file.LayerFault.TheVariants as layer
-use Rattle.layer_session.specs.Steps.{has_room, is_full}
 use Rattle.chain_core.specs.declared.layers.Layers.{Layers}
 use Rattle.chain_core.specs.States.{State, IsServing, entry, files_of, sector_of, wide}
 use Rattle.chain_core.specs.Answering.{Answers, FailsByChange, LayerAnswers, LayerRoomIs, LayerTold, NeedsNoRoom, RoomIs, answer_of, as_change}
-use Rattle.chain_core.proofs.Steps.{HasFailed, all_right, at_rest, failed}
+use Rattle.chain_core.proofs.Steps.{all_right, at_rest, failed}
 
 -- ---- where the store tells its content
 

@@ -1,5 +1,5 @@
 -- The calls of a merge: what a session keeps behind them.
-use Rattle.std.proofs.Common.{◌≡◌, ℕ, ◌+◌, ◌^◌, ◌≤◌, ◌<◌, Bool, true, false, List, [], ◌∷◌, refl, sym, ap, subst, ◌∙◌, arith, is_some, ltb-true}
+use Rattle.std.proofs.Common.{◌≡◌, ℕ, ◌+◌, ◌^◌, ◌≤◌, ◌<◌, Bool, true, false, List, [], ◌∷◌, refl, sym, ap, subst, ◌∙◌, arith, ltb-true}
 use Rattle.std.specs.Prelude.{Option, Some, None, Result, Ok, Err, IfSome, IsErr, nat_lt, if◌then◌else◌}
 use Rattle.std.specs.List.{AllByRecursion}
 use Rattle.vx_base.specs.declared.parts.Geometry.{Geometry}
@@ -13,12 +13,11 @@ use Rattle.layer_session.specs.declared.file.LayerFault.TheVariants as layer
 use Rattle.merge_core.specs.Pieces.{piece_of}
 use Rattle.merge_core.specs.declared.piece.Piece.{Piece as KeptPiece}
 use Rattle.chain_core.specs.declared.layers.Layers.{Layers}
-use Rattle.chain_core.specs.Answering.{refusal_of}
-use Rattle.chain_core.specs.Copying.{FetchAnswers, FetchTold, HasEachStripe, PieceAnswers, PieceTold, PutTold, Takes, refused_by}
+use Rattle.chain_core.specs.Copying.{FetchAnswers, PieceAnswers, PutTold, Takes, refused_by}
 use Rattle.chain_core.specs.Merging.{IsTruePiece, PutAnswers}
 use Rattle.chain_core.specs.Reading.{HasOnlyRead}
 use Rattle.chain_core.specs.Refusing.{broken_by, unfit}
-use Rattle.chain_core.specs.Sessions.{AreReady, IsLow, IsSound, Session, log_numbers}
+use Rattle.chain_core.specs.Sessions.{IsLow, IsSound, Session, log_numbers}
 use Rattle.chain_core.specs.States.{IsServing, State}
 use Rattle.chain_core.proofs.Looking.{both_same}
 use Rattle.chain_core.proofs.Steps.{at_rest}

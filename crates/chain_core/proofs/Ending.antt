@@ -152,8 +152,7 @@ file_stays z opening h leaf among retired top rest above f below old new e once 
     let beside : AllByRecursion (IsOrIsBeside old f f) (retired ++ (above ++ f ∷ below)) = served_beside z opening h leaf retired above f f below old split in
     let opens : Opens leaf among (replay z opening h) old (retired ++ (above ++ f ∷ below)) =
     subst (λ (c : List Placed). Opens leaf among (replay z opening h) old (retired ++ c)) e (opens_by z opening h leaf among retired top rest old once served loose) in
-    let over = goes_over f f old new refl refl phase in
-    (
+    let over = goes_over f f old new refl refl phase in (
       phases_open f f old new leaf among (replay z opening h) (retired ++ (above ++ f ∷ below)) (retired ++ (above ++ f ∷ below)) over kept beside beside opens opens,
       record {
         linked = served.linked;

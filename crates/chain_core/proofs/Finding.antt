@@ -1,5 +1,5 @@
 -- What reading leaves of the layers, and what it finds.
-use Rattle.std.proofs.Common.{◌≡◌, ◌≢◌, ℕ, zero, suc, ◌+◌, ◌*◌, ◌/◌, ◌%◌, ◌==◌, ◌<◌, ◌≤◌, ◌||◌, Bool, true, false, cond, List, [], ◌∷◌, ◌++◌, length, take, drop, get_or, replicate, refl, sym, ap, subst, ◌∙◌, arith, is_some, map, mul_comm, ◌-◌}
+use Rattle.std.proofs.Common.{◌≡◌, ◌≢◌, ℕ, zero, suc, ◌+◌, ◌*◌, ◌/◌, ◌%◌, ◌==◌, ◌<◌, ◌≤◌, Bool, true, cond, List, [], ◌∷◌, ◌++◌, length, take, drop, get_or, replicate, refl, sym, ap, subst, ◌∙◌, arith, is_some, map, mul_comm, ◌-◌}
 use Rattle.std.specs.Prelude.{Option, Some, None, unwrap_or, option_map, Result, Ok, Err, OnOk, IfErr, IfSome}
 use Rattle.std.specs.List.{AllByRecursion}
 use Rattle.std.specs.Option.{option_or}
@@ -20,20 +20,20 @@ use Rattle.guest_model.specs.declared.call.Reply.TheVariants as replies
 use Rattle.guest_model.specs.Calls.{Disk as GuestDisk, bytes_of, reply}
 use Rattle.guest_model.specs.History.{sector_at}
 use Rattle.chain_model.specs.Layers.{Layer as SectorLayer, flat, through}
-use Rattle.chain_model.specs.Members.{disk_of, layers_of}
+use Rattle.chain_model.specs.Members.{layers_of}
 use Rattle.chain_model.specs.Images.{Placed, members_of}
 use Rattle.chain_model.proofs.Layering.{length-flat, sector_at-flat}
 use Rattle.layer_session.specs.declared.file.Layer.{Layer}
 use Rattle.layer_session.specs.declared.file_layer.FileLayer.{FileLayer}
 use Rattle.layer_session.specs.Calls.{AddsOwned, IsBeside, IsSame, own_bytes, own_file}
-use Rattle.layer_session.specs.Keeping.{IsHeld, IsReady, Serves}
+use Rattle.layer_session.specs.Keeping.{IsHeld, Serves}
 use Rattle.layer_session.specs.ReadOnly.{SomeReadFailed}
-use Rattle.layer_session.specs.FileLayers.{AreOthers, AreReadyFiles, AreSameFiles, HaveFiles, HaveSameNumbers, file_numbers, log_number, number_of, table_parts}
+use Rattle.layer_session.specs.FileLayers.{AreReadyFiles, AreSameFiles, HaveFiles, HaveSameNumbers, file_numbers, log_number, number_of, table_parts}
 use Rattle.layer_session.proofs.Standing.{layers_stand}
 use Rattle.chain_core.specs.declared.layers.Layers.{Layers}
 use Rattle.chain_core.specs.Reading.{AddsPart, HasOnlyRead, of_read, of_session}
 use Rattle.chain_core.specs.declared.layers.Underway.{Underway}
-use Rattle.chain_core.specs.Sessions.{AreApart, AreReady, IsMergeOf, IsReadyLeaf, log_numbers}
+use Rattle.chain_core.specs.Sessions.{AreApart, AreReady, IsMergeOf, IsReadyLeaf}
 use Rattle.chain_core.specs.States.{AreHeld, State, IsServing, disk_now, files_of, sector_of, seen_in, others_of, AreWritten, IsCourse, Rest, child_parts, merging, plain}
 use Rattle.layer_session.proofs.FileLayers.{file_layers_stand}
 use Rattle.chain_core.proofs.Steps.{LeafStep, written_on, course_on}

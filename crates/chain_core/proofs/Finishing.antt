@@ -1,43 +1,36 @@
 -- A merge is finished: its child is relinked to the target, and the source leaves the chain.
-use Rattle.std.proofs.Common.{◌⊎◌, inl, inr, ◌≡◌, ◌≢◌, ◌<◌, ◌+◌, ◌-◌, ◌==◌, ℕ, suc, Bool, true, false, List, [], ◌∷◌, ◌++◌, length, map, refl, sym, ap, subst, ◌∙◌, arith, is_some, cond, get_or}
-use Rattle.std.specs.Prelude.{Option, Some, None, IfSome, All, Ok, option_map}
+use Rattle.std.proofs.Common.{◌⊎◌, ◌≡◌, ◌<◌, ℕ, Bool, true, false, List, [], ◌∷◌, ◌++◌, length, refl, sym, ap, subst, ◌∙◌, is_some}
+use Rattle.std.specs.Prelude.{Option, Some, None, IfSome}
 use Rattle.std.specs.List.{AllByRecursion}
 use Rattle.std.specs.Option.{option_or}
-use Rattle.std.proofs.lemmas.List.{append_assoc, length-append, map-append}
+use Rattle.std.proofs.lemmas.List.{append_assoc, map-append}
 use Rattle.store_model.specs.File.{is_synced}
 use Rattle.store_model.specs.Trace.{Trace, file_of}
-use Rattle.guest_model.specs.History.{replay}
 use Rattle.vhdx_format.specs.declared.log_entry.Page.{Page}
-use Rattle.vhdx_format.specs.declared.metadata.Metadata.{Metadata}
-use Rattle.vhdx_format.specs.MetadataTables.{read_metadata}
-use Rattle.chain_model.specs.Layers.{Layer as SectorLayer, Same, through}
-use Rattle.chain_model.specs.Merges.{AllMarked, HasAllOf, IsUnderWay}
+use Rattle.chain_model.specs.Layers.{Layer as SectorLayer, through}
+use Rattle.chain_model.specs.Merges.{AllMarked, HasAllOf}
 use Rattle.chain_model.specs.Stripes.{per_stripe, stripe_count}
-use Rattle.chain_model.specs.Members.{IsChainOf, IsParentOf, LooksAlike, Member, NoneTwice, Ties, layers_of, names_of, sectors_of}
+use Rattle.chain_model.specs.Members.{IsParentOf, LooksAlike, Member, Ties, layers_of, sectors_of}
 use Rattle.chain_model.specs.Images.{NoneLoose, Placed, members_of}
-use Rattle.chain_model.specs.Moments.{IsPhase}
-use Rattle.chain_model.specs.Sessions.{GoesOver, IsKept, IsServed, LooseAtTop, LooseInMerge, ShowsFile}
+use Rattle.chain_model.specs.Sessions.{GoesOver, IsKept, IsServed, LooseAtTop, ShowsFile}
 use Rattle.chain_model.specs.PhaseLaws.{IsNamedOnce, Survives}
 use Rattle.chain_model.proofs.Merging.{marked_is_whole}
-use Rattle.chain_model.proofs.MergePhasing.{above_goes_over}
 use Rattle.chain_model.proofs.Phasing.{child_is_relinked, members_append}
 use Rattle.chain_model.proofs.Serving.{loose_moves, past_goes_on}
 use Rattle.layer_session.specs.declared.file.Layer.{Layer}
 use Rattle.layer_session.specs.declared.file_layer.FileLayer.{FileLayer}
 use Rattle.layer_session.specs.declared.file_layer.FileLayer.TheVariants.{Session}
-use Rattle.layer_session.specs.Calls.{settled}
-use Rattle.layer_session.specs.FileLayers.{HasFile, HaveFiles, number_of, table_parts}
+use Rattle.layer_session.specs.FileLayers.{HaveFiles, number_of}
 use Rattle.layer_session.specs.Keeping.{Serves}
 use Rattle.layer_session.specs.Updating.{TurnsInto, turned}
 use Rattle.layer_session.proofs.Crashes.{layers_are_kept}
 use Rattle.layer_session.proofs.Standing.{layers_stand}
-use Rattle.table_pages.specs.declared.tables.TableParts.{TableParts}
 use Rattle.chain_core.specs.declared.layers.Layers.{Layers}
 use Rattle.chain_core.specs.declared.layers.Underway.{Underway}
 use Rattle.chain_core.specs.Answering.{EachOpensNow}
-use Rattle.chain_core.specs.States.{AreHeld, AreWritten, IsCourse, IsServing, IsUnder, Merging, Relinks, Rest, State, child_of, child_parts, dirty_now, disk_now, files_of, is_session, merging, others_of, plain, sector_of, seen_in}
-use Rattle.chain_core.proofs.Putting.{all_split, apart_around, have_all, have_parts}
-use Rattle.chain_core.proofs.Steps.{all_right, goes_over, names_behind, phase_beside, phase_others, still_once, still_read}
+use Rattle.chain_core.specs.States.{AreHeld, AreWritten, IsCourse, IsServing, IsUnder, Merging, Relinks, State, dirty_now, is_session, merging, plain, seen_in}
+use Rattle.chain_core.proofs.Putting.{apart_around, have_all, have_parts}
+use Rattle.chain_core.proofs.Steps.{all_right, names_behind, phase_beside, phase_others, still_once, still_read}
 
 -- ---- the child's ties
 
@@ -91,7 +84,6 @@ all_without P (x ∷ a) child new source b h all = (all.0, all_without P a child
 none_loose_without : (s : ℕ) (a : List Placed) (child new source : Placed) (b : List Placed) → (child.is_loose s ≡ false → new.is_loose s ≡ false) → NoneLoose s (a ++ child ∷ source ∷ b) → NoneLoose s (a ++ new ∷ b)
 none_loose_without s [] child new source b h all = (h all.0, all.1.1)
 none_loose_without s (x ∷ a) child new source b h all = (all.0, none_loose_without s a child new source b h all.1)
-
 
 -- ---- the relink
 
@@ -150,7 +142,7 @@ pub leaf_relinked : (v : State) (top source target : Placed) (below : List Place
     → ((s : ℕ) → target.is_loose s ≡ false) → 0 < per_stripe top.member.ties.geometry.sector → AllMarked (stripe_count top.member.ties.geometry.sector top.member.ties.geometry.sectors) m.marks
     → (table_len : ℕ) (r : Relinks table_len u.relink top target) → GoesOver top (relinked_child table_len u.relink top target r) trace now → Serves next now (relinked_child table_len u.relink top target r)
     → EachOpensNow (record v { top = top; rest = merging [] source target below m }) trace now
-        × IsServing new (record v { top = relinked_child table_len u.relink top target r; rest = plain (target ∷ below) }) now
+    × IsServing new (record v { top = relinked_child table_len u.relink top target r; rest = plain (target ∷ below) }) now
 leaf_relinked v top source target below m layers new u leaf next x rest trace now serving is merge was geometry leaf_now no_merge items tight pos marked table_len r over serves =
     let z : ℕ = top.member.ties.geometry.sector in
     let here : State = record v { top = top; rest = merging [] source target below m } in
@@ -193,7 +185,7 @@ pub child_relinked : (v : State) (top : Placed) (pre : List Placed) (child sourc
     → (table_len : ℕ) (r : Relinks table_len u.relink child target) → v.writes child.number ≡ true → GoesOver child (relinked_child table_len u.relink child target r) trace now
     → Serves next now (relinked_child table_len u.relink child target r)
     → EachOpensNow (record v { top = top; rest = merging (pre ++ child ∷ []) source target below m }) trace now
-        × IsServing new (record v { top = top; rest = plain (pre ++ relinked_child table_len u.relink child target r ∷ target ∷ below) }) now
+    × IsServing new (record v { top = top; rest = plain (pre ++ relinked_child table_len u.relink child target r ∷ target ∷ below) }) now
 child_relinked v top pre child source target below m layers new u leaf p l next x rest trace now serving is merge was place geometry leaf_now no_merge items tight pos marked table_len r child_written over serves =
     let z : ℕ = top.member.ties.geometry.sector in
     let here : State = record v { top = top; rest = merging (pre ++ child ∷ []) source target below m } in

@@ -1,5 +1,5 @@
 -- What the leaf's layer answers of a call, in the words of the session.
-use Rattle.std.proofs.Common.{◌≡◌, ℕ, ◌+◌, ◌-◌, ◌*◌, ◌/◌, Bool, true, false, cond, List, length, take, drop, refl, sym, ap, subst, ◌∙◌, mul_comm, ◌||◌}
+use Rattle.std.proofs.Common.{◌≡◌, ℕ, ◌-◌, ◌/◌, Bool, false, cond, List, length, take, drop, sym, ap, subst, mul_comm, ◌||◌}
 use Rattle.std.specs.Prelude.{Option, Some, None, Result, Ok, Err, OnOk}
 use Rattle.std.proofs.Math.Bool.{or-false}
 use Rattle.vx_base.specs.Fields.{bytes_at}
@@ -9,8 +9,6 @@ use Rattle.store_model.specs.Trace.{Trace}
 use Rattle.guest_model.specs.declared.call.Call.{Call}
 use Rattle.guest_model.specs.declared.call.Call.TheVariants as calls
 use Rattle.guest_model.specs.declared.call.Caller.{Caller}
-use Rattle.guest_model.specs.Calls.{content, is_named}
-use Rattle.guest_model.specs.History.{either}
 use Rattle.chain_model.specs.Layers as chain
 use Rattle.chain_model.specs.Layers.{with_call}
 use Rattle.chain_model.specs.Images.{Placed}
@@ -23,9 +21,9 @@ use Rattle.layer_session.specs.Calls.{HasCommitted, HasKept, HasPut, KeepsOver, 
 use Rattle.layer_session.specs.Keeping.{Serves}
 use Rattle.layer_session.proofs.Standing.{layers_stand}
 use Rattle.chain_core.specs.declared.layers.Layers.{Layers}
-use Rattle.chain_core.specs.States.{State, IsServing, AreHeld, entry, made, sector_of, wide, others_of}
+use Rattle.chain_core.specs.States.{State, IsServing, AreHeld, entry, wide, others_of}
 use Rattle.chain_core.specs.Answering.{LayerAnswers, LayerTold, as_change}
-use Rattle.chain_core.proofs.Steps.{AnswersCall, HasFailed, IsAsBefore, IsMade, LeafStep, concluded}
+use Rattle.chain_core.proofs.Steps.{AnswersCall, LeafStep, concluded}
 
 -- ---- one file
 

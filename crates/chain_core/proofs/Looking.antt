@@ -3,24 +3,23 @@ use Rattle.std.proofs.Common.{◌≡◌, ℕ, Bool, true, false, ◌||◌, List,
 use Rattle.std.specs.Prelude.{Option, Some, None, Result, Ok, Err, OnOk}
 use Rattle.std.proofs.Math.Bool.{or-false}
 use Rattle.store_model.specs.declared.fault.StoreFault.{StoreFault}
-use Rattle.store_model.specs.Disk.{Disk, WhereTold, WhereBothTold}
-use Rattle.store_model.specs.Trace.{Trace, EachMoment}
-use Rattle.store_model.proofs.Spans.{EachMoment-now, EachMoment-weaken}
+use Rattle.store_model.specs.Disk.{Disk, WhereBothTold}
+use Rattle.store_model.specs.Trace.{Trace}
+use Rattle.store_model.proofs.Spans.{EachMoment-now}
 use Rattle.guest_model.specs.declared.refusal.ChainRefusal.{ChainRefusal}
 use Rattle.guest_model.specs.declared.call.Caller.{Caller}
 use Rattle.guest_model.specs.declared.call.Entry.{Entry}
 use Rattle.guest_model.specs.declared.call.Call.TheVariants as calls
 use Rattle.guest_model.specs.Calls.{is_named}
-use Rattle.guest_model.specs.History.{either, is_dirty, replay}
+use Rattle.guest_model.specs.History.{either}
 use Rattle.guest_model.proofs.HistoryLaws.{replay_unchanged}
 use Rattle.chain_model.specs.Images.{Placed}
 use Rattle.chain_model.specs.Moments.{EachOpens}
 use Rattle.chain_model.proofs.Serving.{past_goes_on}
-use Rattle.layer_session.specs.declared.file.LayerFault.{LayerFault}
 use Rattle.chain_core.specs.declared.layers.Layers.{Layers}
-use Rattle.chain_core.specs.States.{State, IsServing, dirty_now, disk_now, entry, files_of, made, sector_of, with_entry, others_of}
+use Rattle.chain_core.specs.States.{State, IsServing, dirty_now, disk_now, entry, made, sector_of, with_entry}
 use Rattle.chain_core.specs.Reading.{Finds, HasOnlyRead}
-use Rattle.chain_core.specs.Answering.{EachOpensBefore, IsDone, LayerAnswers, LayerTold, answer_of, as_read}
+use Rattle.chain_core.specs.Answering.{EachOpensBefore, LayerAnswers, LayerTold, answer_of, as_read}
 use Rattle.chain_core.proofs.Steps.{at_rest}
 use Rattle.chain_core.proofs.Rests.{loose_after, new_top, opens_now, top_loose}
 

@@ -1,5 +1,5 @@
 -- A file at its place among others.
-use Rattle.std.proofs.Common.{◌≡◌, ℕ, zero, suc, ◌+◌, ◌<◌, Bool, List, [], ◌∷◌, ◌++◌, length, map, get_or, set, refl, sym, ap, ap₂, subst, ◌∙◌, arith, is_some, true}
+use Rattle.std.proofs.Common.{◌≡◌, ℕ, zero, suc, ◌<◌, List, [], ◌∷◌, ◌++◌, length, map, get_or, set, refl, sym, ap, subst, ◌∙◌, arith, is_some, true}
 use Rattle.std.specs.Prelude.{Option, Some, None, Result, Ok, Err, IfErr, IfSome, OnOk}
 use Rattle.std.specs.List.{AllByRecursion}
 use Rattle.vx_base.specs.declared.parts.Geometry.{Geometry}
@@ -9,7 +9,7 @@ use Rattle.store_model.specs.declared.fault.StoreFault.{StoreFault}
 use Rattle.table_pages.specs.declared.tables.TableParts.{TableParts}
 use Rattle.chain_model.specs.Images.{Placed}
 use Rattle.chain_model.specs.Layers.{Layer as SectorLayer}
-use Rattle.chain_model.specs.Merges.{IsTrue, IsUnderWay, Piece}
+use Rattle.chain_model.specs.Merges.{Piece}
 use Rattle.chain_model.specs.Stripes.{per_stripe}
 use Rattle.chain_model.proofs.Merging.{true_pieces}
 use Rattle.chain_model.proofs.Stamping.{stamps_by_call}
@@ -17,7 +17,7 @@ use Rattle.layer_session.specs.declared.file.Layer.{Layer}
 use Rattle.layer_session.specs.declared.file_layer.FileLayer.{FileLayer}
 use Rattle.layer_session.specs.declared.file_layer.FileLayer.TheVariants.{Read, Session}
 use Rattle.layer_session.specs.ReadOnly.{SomeReadFailed}
-use Rattle.layer_session.proofs.FileLayers.{file_layers_stand, others_stand}
+use Rattle.layer_session.proofs.FileLayers.{others_stand}
 use Rattle.layer_session.specs.FileLayers.{AreReadableFiles, AreReadyFiles, AreSameFiles, FileCanBeRead, HasFile, HaveFiles, HaveSameNumbers, Hold, IsReadableFile, IsReadyFile, IsSameFile, log_number, number_of, table_parts}
 use Rattle.merge_core.specs.Pieces.{IsTaken}
 use Rattle.chain_core.specs.declared.layers.Layers.{Layers}
@@ -26,7 +26,7 @@ use Rattle.chain_core.specs.Copying.{Takes}
 use Rattle.chain_core.specs.Merging.{IsTruePiece}
 use Rattle.chain_core.specs.Reading.{HasOnlyRead}
 use Rattle.chain_core.specs.Sessions.{AreReady, IsMergeOf}
-use Rattle.chain_core.specs.States.{AreHeld, IsCourse, IsServing, IsUnder, Merging, Rest, State, merging, others_of, plain, sector_of}
+use Rattle.chain_core.specs.States.{AreHeld, IsCourse, IsServing, IsUnder, Rest, State, merging, plain, sector_of}
 use Rattle.chain_core.proofs.Finding.{below_reads}
 use Rattle.chain_core.proofs.Putting.{have_parts}
 

@@ -1,5 +1,5 @@
 -- A piece is put into the target of a merge.
-use Rattle.std.proofs.Common.{◌⊎◌, inl, inr, ◌==◌, ◌||◌, ◌≡◌, ◌≢◌, ◌<◌, ◌+◌, ℕ, suc, Bool, true, false, List, [], ◌∷◌, ◌++◌, length, map, refl, sym, ap, subst, ◌∙◌, arith, is_some}
+use Rattle.std.proofs.Common.{◌⊎◌, inl, inr, ◌==◌, ◌||◌, ◌≡◌, ◌≢◌, ◌<◌, ◌+◌, ℕ, Bool, true, false, List, [], ◌∷◌, ◌++◌, length, map, refl, sym, ap, subst, ◌∙◌, arith, is_some}
 use Rattle.std.specs.Prelude.{Option, Some, None, IfSome, Result, Ok, Err}
 use Rattle.std.specs.List.{AllByRecursion}
 use Rattle.std.specs.Option.{option_or}
@@ -8,18 +8,18 @@ use Rattle.std.proofs.lemmas.Bool.{cases_eq}
 use Rattle.std.proofs.lemmas.List.{append_assoc, length-append, map-append}
 use Rattle.store_model.specs.File.{is_synced}
 use Rattle.store_model.specs.Trace.{Trace, file_of}
-use Rattle.guest_model.specs.History.{either, replay}
-use Rattle.chain_model.specs.Layers.{Layer as SectorLayer, over, through}
+use Rattle.guest_model.specs.History.{either}
+use Rattle.chain_model.specs.Layers.{Layer as SectorLayer, through}
 use Rattle.chain_model.specs.Merges.{IsTrue, IsUnderWay, Piece, with_mark}
-use Rattle.chain_model.specs.Stripes.{per_stripe, stamp, stripe_of}
+use Rattle.chain_model.specs.Stripes.{per_stripe, stripe_of}
 use Rattle.chain_model.specs.Members.{IsChainOf, Member, Ties, NoneTwice, disk_of, layers_of, names_of}
 use Rattle.chain_model.specs.Images.{Placed, members_of}
-use Rattle.chain_model.specs.Moments.{EachOpens, HasWholeImages, IsPhase}
-use Rattle.chain_model.specs.Sessions.{GoesOver, HasGoneOver, IsKept, IsServed, LooseInMerge, ShowsFile}
+use Rattle.chain_model.specs.Moments.{IsPhase}
+use Rattle.chain_model.specs.Sessions.{IsKept, IsServed, LooseInMerge, ShowsFile}
 use Rattle.chain_model.specs.PhaseLaws.{Survives, loosened}
 use Rattle.chain_model.proofs.Calling.{loosened_is_kept}
 use Rattle.chain_model.proofs.Phasing.{members_append, target_goes_over}
-use Rattle.chain_model.proofs.Serving.{loose_is_dirty, past_goes_on}
+use Rattle.chain_model.proofs.Serving.{past_goes_on}
 use Rattle.chain_model.proofs.Merging.{kept_by_put, true_pieces}
 use Rattle.chain_model.proofs.Stamping.{stamps_by_call}
 use Rattle.layer_session.specs.declared.file.Layer.{Layer}
@@ -31,20 +31,19 @@ use Rattle.layer_session.specs.FileLayers.{HasFile, HaveFiles}
 use Rattle.layer_session.specs.Calls.{settled}
 use Rattle.layer_session.specs.Keeping.{Serves}
 use Rattle.layer_session.proofs.Crashes.{layers_are_kept}
-use Rattle.layer_session.proofs.FileLayers.{file_layers_stand}
 use Rattle.layer_session.proofs.Standing.{layers_stand}
 use Rattle.merge_core.specs.Copied.{marks_of}
 use Rattle.chain_core.specs.declared.layers.Layers.{Layers}
 use Rattle.chain_core.specs.declared.layers.Underway.{Underway}
 use Rattle.chain_core.specs.Answering.{EachOpensNow, HasEnded, IsRefused}
-use Rattle.chain_core.specs.Merging.{IsCopied, IsTruePiece, PutAnswers, is_in, put_on, with_piece, with_put}
+use Rattle.chain_core.specs.Merging.{IsCopied, is_in, with_piece}
 use Rattle.vhdx_format.specs.declared.log_entry.Page.{Page}
 use Rattle.vhdx_format.specs.Locators.{linkage, second_linkage}
 use Rattle.table_pages.specs.declared.tables.TableParts.{TableParts}
 use Rattle.layer_session.specs.FileLayers.{table_parts}
 use Rattle.std.specs.Prelude.{option_map}
 use Rattle.std.proofs.Common.{cond, get_or, ◌-◌}
-use Rattle.chain_core.specs.States.{Relinks, child_of, child_parts, AreHeld, AreWritten, IsCourse, IsServing, IsUnder, LeavesOthers, Merging, Rest, State, dirty_now, disk_now, files_of, merging, others_of, plain, sector_of, seen_in}
+use Rattle.chain_core.specs.States.{Relinks, child_of, child_parts, AreHeld, AreWritten, IsCourse, IsServing, IsUnder, Merging, State, dirty_now, merging, sector_of, seen_in}
 use Rattle.chain_core.proofs.Steps.{all_right, apart, goes_over, names_behind, phase_beside, phase_others, still_once, still_read}
 
 -- ---- one file among others
@@ -307,7 +306,7 @@ module _ (v : State) (top : Placed) (above : List Placed) (source target : Place
         served_wide : IsServed z v.opening v.history v.leaf v.retired (files_with wide) trace
         served_wide =
             let same : members_of (files_with wide) ≡ members_of (files_with target) = ap (λ (c : List Placed). members_of (top ∷ c)) (sym (parted wide)) ∙ members_append (top ∷ front) (wide ∷ below) ∙ sym (members_append (top ∷ front) (target ∷ below))
-                ∙ ap (λ (c : List Placed). members_of (top ∷ c)) (parted target) in
+            ∙ ap (λ (c : List Placed). members_of (top ∷ c)) (parted target) in
             record {
               linked = subst (λ c. IsChainOf v.leaf (members_of v.retired) c) (sym same) serving.served.linked;
               kept = kept_wide v.retired serving.served.kept;
@@ -319,6 +318,7 @@ module _ (v : State) (top : Placed) (above : List Placed) (source target : Place
                 subst (λ (c : List Placed). AllByRecursion (IsKept trace) (top ∷ c)) (parted wide)
                 (all_split (IsKept trace) (top ∷ front) target wide below (loosened_is_kept wide.is_loose target trace (λ s out. (or_parts (target.is_loose s) (is_in piece s) out).0))
                 (subst (λ (c : List Placed). AllByRecursion (IsKept trace) (top ∷ c)) (sym (parted target)) all))
+
             kept_wide : (r : List Placed) → AllByRecursion (IsKept trace) (r ++ files_with target) → AllByRecursion (IsKept trace) (r ++ files_with wide)
             kept_wide [] all = kept_in all
             kept_wide (p ∷ r) all = (all.0, kept_wide r all.1)
@@ -369,8 +369,8 @@ module _ (v : State) (top : Placed) (above : List Placed) (source target : Place
         pub put_refused : IsKeptAs target next trace now → new.merge ≡ Some u → IsRefused here new trace now
         put_refused kept_as merge_now =
             let over =
-                target_goes_over z v.opening v.history v.leaf (dirty_now here) v.retired (top ∷ above) source target target below trace now serving.once serving.served (goes_over target target trace now refl refl kept_as.moments)
-                (λ s none. refl) refl serving.loose serving.loose in
+            target_goes_over z v.opening v.history v.leaf (dirty_now here) v.retired (top ∷ above) source target target below trace now serving.once serving.served (goes_over target target trace now refl refl kept_as.moments)
+            (λ s none. refl) refl serving.loose serving.loose in
             record {
               moments = over.moments;
               serving = serving_on new u next target m.marks (ShowsFile target) now kept_as.moments geometry leaf_now merge_now items kept_as.holds refl under_old.written (λ s there. there)
@@ -387,8 +387,9 @@ module _ (v : State) (top : Placed) (above : List Placed) (source target : Place
           let tight : LooseInMerge (dirty_now here) (top ∷ above) source after below = record { others = serving.loose.others; owned = λ s none. refl } in
           let under : IsUnder (sector_of here) v.writes layers u top above source target m = subst (λ o. IsCourse (sector_of here) v.writes layers o top (merging above source target below m)) merge serving.course in
           let over =
-              target_goes_over (sector_of here) v.opening v.history v.leaf (dirty_now here) v.retired (top ∷ above) source target after below trace now serving.once serving.served (goes_over target after trace now refl refl phase)
-              (λ s none. refl) refl serving.loose tight in
-          (over.moments,
-              serving_on new u next after m.marks (ShowsFile target) now phase geometry leaf_now merge_now items serves refl under.written (λ s there. there)
-              (over.served (layers_are_kept next now after serves).shows) tight (under_by new next after u leaf_now items parts_are refl refl refl under under.under_way) all_written over.moments)
+          target_goes_over (sector_of here) v.opening v.history v.leaf (dirty_now here) v.retired (top ∷ above) source target after below trace now serving.once serving.served (goes_over target after trace now refl refl phase)
+          (λ s none. refl) refl serving.loose tight in (
+            over.moments,
+            serving_on new u next after m.marks (ShowsFile target) now phase geometry leaf_now merge_now items serves refl under.written (λ s there. there)
+                (over.served (layers_are_kept next now after serves).shows) tight (under_by new next after u leaf_now items parts_are refl refl refl under under.under_way) all_written over.moments,
+          )

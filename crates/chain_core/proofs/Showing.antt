@@ -1,5 +1,5 @@
 -- The files of a session as held.
-use Rattle.std.proofs.Common.{◌≡◌, ◌≢◌, ℕ, ◌==◌, Bool, true, false, cond, List, [], ◌∷◌, ◌++◌, map, refl, sym, ap, subst, ◌∙◌, ne_eqb, eq-eqb, is_some}
+use Rattle.std.proofs.Common.{◌≡◌, ◌≢◌, ℕ, ◌==◌, Bool, true, false, cond, List, [], ◌∷◌, ◌++◌, map, refl, sym, ap, subst, ◌∙◌, ne_eqb, eq-eqb}
 use Rattle.std.specs.Prelude.{Option, Some, None, IfSome}
 use Rattle.std.specs.List.{AllByRecursion}
 use Rattle.vhdx_format.specs.declared.log_entry.Page.{Page}
@@ -25,7 +25,7 @@ use Rattle.chain_core.specs.declared.layers.Layers.{Layers}
 use Rattle.chain_core.specs.declared.layers.Underway.{Underway}
 use Rattle.chain_core.specs.Laws.{SessionsAreHeld, changed_pages, waiting}
 use Rattle.chain_core.specs.Sessions.{AreApart}
-use Rattle.chain_core.specs.States.{AreHeld, AreWritten, IsCourse, IsLoose, IsServing, Rest, State, files_of, merging, others_of, plain, sector_of}
+use Rattle.chain_core.specs.States.{AreHeld, AreWritten, IsCourse, IsLoose, Rest, State, files_of, merging, others_of, plain, sector_of}
 use Rattle.chain_core.proofs.Steps.{all_right, apart, names_behind, numbers_apart}
 
 -- ---- one file

@@ -1,5 +1,5 @@
 -- Layers stay ready while the leaf's is called.
-use Rattle.std.proofs.Common.{◌≡◌, ◌≢◌, ℕ, ◌+◌, ◌/◌, ◌≤◌, Bool, List, [], ◌∷◌, length, refl, sym, ap, subst, ◌∙◌, arith, true, is_some, ◌<◌, ◌-◌}
+use Rattle.std.proofs.Common.{◌≡◌, ℕ, ◌+◌, Bool, length, refl, sym, ap, subst, ◌∙◌, true, is_some, ◌<◌, ◌-◌}
 use Rattle.std.specs.Prelude.{Option, Some, None, Result, Ok, Err, OnOk, IfErr, IfSome}
 use Rattle.vx_base.specs.declared.parts.Geometry.{Geometry}
 use Rattle.store_model.specs.declared.fault.StoreFault.{StoreFault}

@@ -1,21 +1,19 @@
 -- A piece is put into the target: what the session keeps of it.
-use Rattle.std.proofs.Common.{◌≡◌, ◌≢◌, ℕ, zero, suc, ◌+◌, ◌-◌, ◌<◌, ◌≤◌, Bool, true, false, List, [], ◌∷◌, ◌++◌, length, map, get_or, refl, sym, ap, subst, ◌∙◌, arith, is_some}
+use Rattle.std.proofs.Common.{◌≡◌, ◌≢◌, ℕ, zero, suc, ◌+◌, ◌-◌, ◌<◌, ◌≤◌, Bool, true, false, List, [], ◌∷◌, ◌++◌, length, map, get_or, refl, sym, ap, subst, ◌∙◌, arith}
 use Rattle.std.specs.Prelude.{Option, Some, None, option_map, Result, Ok, Err, IfErr, IfSome, OnOk}
 use Rattle.std.specs.List.{AllByRecursion}
 use Rattle.std.specs.Result.{is_ok}
-use Rattle.std.proofs.lemmas.List.{map-append}
 use Rattle.vx_base.specs.declared.parts.Geometry.{Geometry}
 use Rattle.store_model.specs.Disk.{Disk, WhereBothTold}
 use Rattle.store_model.specs.Trace.{Trace}
 use Rattle.table_pages.specs.declared.tables.TableParts.{TableParts}
 use Rattle.guest_model.specs.History.{either}
-use Rattle.chain_model.specs.Images.{Placed}
-use Rattle.chain_model.specs.Merges.{Piece, with_mark}
+use Rattle.chain_model.specs.Merges.{with_mark}
 use Rattle.chain_model.specs.PhaseLaws.{loosened}
 use Rattle.chain_model.specs.Sessions.{ShowsFile}
-use Rattle.chain_model.specs.Stripes.{per_stripe, stripe_count}
+use Rattle.chain_model.specs.Stripes.{per_stripe}
 use Rattle.layer_session.specs.Calls.{Fails, HasKept, IsBeside, KeepsOver, OnRefused, own_file}
-use Rattle.layer_session.specs.FileLayers.{AreOthers, AreReadyFiles, HasFile, IsReadyFile, LeavesOthers, file_numbers, log_number, number_of, table_parts}
+use Rattle.layer_session.specs.FileLayers.{AreOthers, AreReadyFiles, IsReadyFile, LeavesOthers, file_numbers, log_number, number_of}
 use Rattle.layer_session.specs.Keeping.{IsReady, Serves}
 use Rattle.layer_session.specs.declared.file.Layer.{Layer}
 use Rattle.layer_session.specs.declared.file.LayerFault.{LayerFault}
@@ -32,7 +30,7 @@ use Rattle.chain_core.specs.Answering.{UnlessBroken}
 use Rattle.chain_core.specs.Copying.{HasMarked, IsMarked, MarksIn, PutTold, PutsAt, number_below, target_number}
 use Rattle.chain_core.specs.Merging.{IsTruePiece, PutAnswers}
 use Rattle.chain_core.specs.Sessions.{AreApart, AreReady, IsLow, IsMergeOf, IsReadyLeaf, is_session_at}
-use Rattle.chain_core.specs.States.{AreWritten, IsCourse, IsServing, IsUnder, Merging, Rest, State, is_session, merging, plain, sector_of}
+use Rattle.chain_core.specs.States.{AreWritten, IsCourse, IsServing, IsUnder, Rest, State, merging, plain, sector_of}
 use Rattle.chain_core.proofs.Places.{merge_of, one_of, some_leaf}
 use Rattle.chain_core.proofs.Putting.{copied, put_failed, put_refused, serves_target}
 use Rattle.chain_core.proofs.Standing.{leaf_of, same_files}
@@ -186,14 +184,15 @@ module _ (old new : Layers) (u : Underway) (piece : KeptPiece) (before after : D
     leaves h =
         both_at (PutsPiece l piece) (LeavesOthers (own_file l)) before.told after.told h
         (λ t u x y puts.
-            let s = own.ready.told t x in
-            subst (λ n. LeavesOthers n t u) s.1.number (phase_leaves s.0.number (ShowsFile (loosened (either s.0.is_loose (has_sector piece)) s.0)) t u (puts.over s.0 s.1)))
+        let s = own.ready.told t x in
+        subst (λ n. LeavesOthers n t u) s.1.number (phase_leaves s.0.number (ShowsFile (loosened (either s.0.is_loose (has_sector piece)) s.0)) t u (puts.over s.0 s.1)))
 
     pub put_low : next.log.number ≤ l.log.number + 1 → (most : ℕ) → IsLow most old → IsLow (most + 1) new
-    put_low one most low =
-        (subst (λ (o : Option Layer). IfSome (option_map (λ (k : Layer). k.log.number) o) (λ n. n ≤ most + 1)) (sym leaf_is) (more_low most (option_map (λ (k : Layer). k.log.number) old.leaf) low.0),
-            subst (λ (c : List FileLayer). AllByRecursion (λ number. IfSome number (λ n. n ≤ most + 1)) (map log_number c)) (sym now_is)
-            (low_at l next parts_are most a b one (subst (λ (c : List FileLayer). AllByRecursion (λ number. IfSome number (λ n. n ≤ most)) (map log_number c)) was low.1)))
+    put_low one most low = (
+      subst (λ (o : Option Layer). IfSome (option_map (λ (k : Layer). k.log.number) o) (λ n. n ≤ most + 1)) (sym leaf_is) (more_low most (option_map (λ (k : Layer). k.log.number) old.leaf) low.0),
+      subst (λ (c : List FileLayer). AllByRecursion (λ number. IfSome number (λ n. n ≤ most + 1)) (map log_number c)) (sym now_is)
+          (low_at l next parts_are most a b one (subst (λ (c : List FileLayer). AllByRecursion (λ number. IfSome number (λ n. n ≤ most)) (map log_number c)) was low.1)),
+    )
 
     pub put_number : target_number old ≡ own_file l
     put_number =

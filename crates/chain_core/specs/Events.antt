@@ -1,5 +1,5 @@
 -- What an event of a session answers.
-use Rattle.std.specs.Prelude.{◌≡◌, ℕ, ◌%◌, ⊤, List, length, Result, Ok, Err}
+use Rattle.std.specs.Prelude.{◌≡◌, ℕ, ◌%◌, ⊤, length, Result, Ok, Err}
 use Rattle.store_model.specs.Disk.{WhereTold}
 use Rattle.guest_model.specs.declared.call.Call.{Call}
 use Rattle.guest_model.specs.declared.call.Call.TheVariants.{Read, Write, Trim, Flush}

@@ -1,5 +1,5 @@
 -- What the events of a merge do to a session, and what they say.
-use Rattle.std.specs.Prelude.{◌≡◌, ⊤, ℕ, Bool, is_some, List, [], Option, Some, None, Result, Ok, Err}
+use Rattle.std.specs.Prelude.{⊤, ℕ, Bool, is_some, [], Result, Ok, Err}
 use Rattle.store_model.specs.Trace.{Trace}
 use Rattle.guest_model.specs.History.{either}
 use Rattle.chain_model.specs.Layers.{over}

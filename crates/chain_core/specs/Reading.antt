@@ -1,7 +1,6 @@
 -- What reading leaves of the layers, and what it finds.
 use Rattle.std.specs.Prelude.{◌≡◌, ℕ, List, Option, Some, None}
 use Rattle.store_model.specs.Disk.{Disk, WhereTold}
-use Rattle.store_model.specs.Trace.{Trace}
 use Rattle.guest_model.specs.declared.call.Call.TheVariants as calls
 use Rattle.guest_model.specs.declared.call.Reply.TheVariants as replies
 use Rattle.guest_model.specs.Calls.{reply}

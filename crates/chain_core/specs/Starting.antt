@@ -1,5 +1,5 @@
 -- How a session starts.
-use Rattle.std.specs.Prelude.{◌≡◌, ◌≢◌, ◌⊎◌, ◌==◌, ⊤, ◌+◌, ◌-◌, ◌^◌, ◌≤◌, ◌<◌, ℕ, Bool, true, false, is_some, List, [], ◌∷◌, ◌++◌, length, All, Option, Some, None}
+use Rattle.std.specs.Prelude.{◌≡◌, ◌≢◌, ◌⊎◌, ◌==◌, ⊤, ◌+◌, ◌-◌, ◌^◌, ◌≤◌, ◌<◌, ℕ, true, false, is_some, List, [], ◌∷◌, Option, Some, None}
 use Rattle.vx_base.specs.declared.parts.Geometry.{Geometry}
 use Rattle.vx_base.specs.declared.parts.Parts.{Parts}
 use Rattle.store_model.specs.Disk.{Disk, WhereBothTold, WhereTold}

@@ -1,4 +1,4 @@
-use Rattle.std.proofs.Common.{refl, ap, sym, subst, ◌∙◌}
+use Rattle.std.proofs.Common.{subst}
 use Rattle.layer_session.specs.declared.file_layer.FileLayer.TheVariants.{Session}
 use Rattle.chain_core.proofs.Places.{IsAt, at_place, ready_there}
 use Rattle.chain_core.proofs.copying.put_at.Goals as goal

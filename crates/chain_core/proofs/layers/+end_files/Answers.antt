@@ -43,14 +43,25 @@ returns-in_err-end-clause-err g t c =
 
 pub end_files-requires : goal.end_files-requires
 end_files-requires g t c κs within = (
-  search rules, ((search rules), ((search rules), (
-    still_ready c.in-Some.file c.pop.new.self.items (g.S.Store.disk c.args.store.now) (g.S.Store.disk c.end.new.store)
-        (last_ready c.pop.new.self.items c.in-Some.file c.args.below.items c.in-Some.ensures.items (g.S.Store.disk c.args.store.now) c.requires.ready)
-        (rest_ready c.pop.new.self.items c.in-Some.file c.args.below.items c.in-Some.ensures.items (g.S.Store.disk c.args.store.now) c.requires.ready)
-        (others_than c.pop.new.self.items c.in-Some.file c.args.below.items c.in-Some.ensures.items c.requires.apart) c.end.ensures.moments
-        (λ none. ap (λ s. g.S.Store.disk s) (c.end.ensures.reads none).1) (ap (λ (d : Disk). d.files) c.in_ok-end.ensures.counts),
-    (all_left (IsNumbered 18446744069414584320) c.pop.new.self.items (c.in-Some.file ∷ []) (subst AreNumbered c.in-Some.ensures.items c.requires.low),
-    rest_apart c.pop.new.self.items c.in-Some.file c.args.below.items c.in-Some.ensures.items c.requires.apart)))))
+  search rules,
+  (
+    (search rules),
+    (
+      (search rules),
+      (
+        still_ready c.in-Some.file c.pop.new.self.items (g.S.Store.disk c.args.store.now) (g.S.Store.disk c.end.new.store)
+            (last_ready c.pop.new.self.items c.in-Some.file c.args.below.items c.in-Some.ensures.items (g.S.Store.disk c.args.store.now) c.requires.ready)
+            (rest_ready c.pop.new.self.items c.in-Some.file c.args.below.items c.in-Some.ensures.items (g.S.Store.disk c.args.store.now) c.requires.ready)
+            (others_than c.pop.new.self.items c.in-Some.file c.args.below.items c.in-Some.ensures.items c.requires.apart) c.end.ensures.moments
+            (λ none. ap (λ s. g.S.Store.disk s) (c.end.ensures.reads none).1) (ap (λ (d : Disk). d.files) c.in_ok-end.ensures.counts),
+        (
+          all_left (IsNumbered 18446744069414584320) c.pop.new.self.items (c.in-Some.file ∷ []) (subst AreNumbered c.in-Some.ensures.items c.requires.low),
+          rest_apart c.pop.new.self.items c.in-Some.file c.args.below.items c.in-Some.ensures.items c.requires.apart,
+        ),
+      ),
+    ),
+  ),
+)
 
 pub returns-clause-told : goal.returns-clause-told
 returns-clause-told g t c =

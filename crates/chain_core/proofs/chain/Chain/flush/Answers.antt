@@ -1,6 +1,5 @@
-use Rattle.std.proofs.Common.{◌/◌, ap, false, length, not}
+use Rattle.std.proofs.Common.{ap}
 use Rattle.guest_model.specs.declared.call.Call.TheVariants as calls
-use Rattle.layer_session.specs.declared.file.Layer.{Layer}
 use Rattle.chain_core.specs.States.{entry}
 use Rattle.chain_core.proofs.Concluding.{answered, flush_room, refused_told}
 use Rattle.chain_core.proofs.Holding.{flush_durable}

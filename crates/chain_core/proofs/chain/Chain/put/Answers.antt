@@ -1,6 +1,5 @@
-use Rattle.std.proofs.Common.{refl, ap, sym, subst, ◌∙◌, ◌≡◌, ◌≤◌, ◌+◌, ◌^◌, arith, ℕ}
+use Rattle.std.proofs.Common.{ap, sym, subst, ◌∙◌, ◌≤◌, ◌+◌, ◌^◌, arith}
 use Rattle.chain_core.specs.Sessions.{IsSound, seen}
-use Rattle.guest_model.specs.declared.refusal.ChainRefusal.{ChainRefusal}
 use Rattle.chain_core.specs.Copying.{PieceTold}
 use Rattle.chain_core.proofs.Copied.{low_on, piece_told, put_stopped, room_counted, sound_counted}
 use Rattle.chain_core.proofs.chain.Chain.put.Goals as goal

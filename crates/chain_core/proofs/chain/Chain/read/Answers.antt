@@ -1,5 +1,4 @@
-use Rattle.std.proofs.Common.{◌/◌, ap, ◌∙◌, length, ℕ, ◌≡◌, sym, subst}
-use Rattle.store_model.specs.Disk.{Disk}
+use Rattle.std.proofs.Common.{◌/◌, ap, ◌∙◌, length, ℕ}
 use Rattle.guest_model.specs.declared.call.Call.TheVariants as calls
 use Rattle.chain_core.specs.Answering.{answer_of, as_read}
 use Rattle.chain_core.specs.States.{entry}

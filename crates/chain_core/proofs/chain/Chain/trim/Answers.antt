@@ -1,4 +1,4 @@
-use Rattle.std.proofs.Common.{◌/◌, ap, refl, false, length, not}
+use Rattle.std.proofs.Common.{ap, refl, not}
 use Rattle.guest_model.specs.declared.call.Call.TheVariants as calls
 use Rattle.layer_session.specs.declared.file.Layer.{Layer}
 use Rattle.chain_core.specs.States.{entry}

@@ -1,6 +1,5 @@
-use Rattle.std.proofs.Common.{◌/◌, ap, false, length, not}
+use Rattle.std.proofs.Common.{◌/◌, ap, false, length}
 use Rattle.guest_model.specs.declared.call.Call.TheVariants as calls
-use Rattle.layer_session.specs.declared.file.Layer.{Layer}
 use Rattle.chain_core.specs.States.{entry}
 use Rattle.chain_core.proofs.Concluding.{answered, refused_told, room_told}
 use Rattle.chain_core.proofs.chain.Chain.write.Goals as goal

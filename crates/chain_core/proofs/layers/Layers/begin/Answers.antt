@@ -1,4 +1,4 @@
-use Rattle.std.proofs.Common.{◌≡◌, suc, arith, refl, subst}
+use Rattle.std.proofs.Common.{suc, arith, refl, subst}
 use Rattle.std.specs.Prelude.{None, Some}
 use Rattle.log_write.specs.declared.ids.SessionIds.{SessionIds}
 use Rattle.layer_session.specs.Begins.{in_session}

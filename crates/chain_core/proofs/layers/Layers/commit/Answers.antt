@@ -1,4 +1,4 @@
-use Rattle.std.proofs.Common.{◌≡◌, refl, sym, subst}
+use Rattle.std.proofs.Common.{refl, sym, subst}
 use Rattle.std.specs.Prelude.{Result, Some}
 use Rattle.layer_session.specs.declared.file.LayerFault.{LayerFault}
 use Rattle.chain_core.specs.declared.layers.Layers.{Layers}

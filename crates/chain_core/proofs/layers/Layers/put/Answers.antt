@@ -1,6 +1,4 @@
-use Rattle.std.proofs.Common.{◌≡◌, ◌/◌, ℕ, false, length, refl, ap, sym}
-use Rattle.layer_session.specs.declared.file.Layer.{Layer}
-use Rattle.chain_core.specs.declared.layers.Layers.{Layers}
+use Rattle.std.proofs.Common.{◌/◌, ℕ, false, length, refl, ap}
 use Rattle.chain_core.proofs.Leafs.{write_told}
 use Rattle.chain_core.proofs.Standing.{leaf_of, ready_still, room_is}
 use Rattle.layer_session.proofs.FileLayers.{others_stand}

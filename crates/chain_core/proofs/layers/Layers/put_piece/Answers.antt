@@ -1,4 +1,4 @@
-use Rattle.std.proofs.Common.{refl, rules, sym, subst, ◌∙◌, ◌+◌, ap, ℕ}
+use Rattle.std.proofs.Common.{refl, rules, sym, subst, ◌∙◌, ◌+◌, ℕ}
 use Rattle.std.proofs.lemmas.List.{places, with_items_is}
 use Rattle.std.specs.Vec.{with_items}
 use Rattle.chain_core.specs.Copying.{HasMarked, MarksIn, PutsAt}

@@ -1,4 +1,4 @@
-use Rattle.std.proofs.Common.{◌≡◌, refl, sym, subst}
+use Rattle.std.proofs.Common.{refl, sym, subst}
 use Rattle.chain_core.specs.Starting.{HasStarted}
 use Rattle.chain_core.specs.declared.starting.Mode.{Mode}
 use Rattle.chain_core.proofs.Beginning.{files_rest, low_read, none_changed, reading_ready, reading_started}

@@ -1,4 +1,4 @@
-use Rattle.std.proofs.Common.{◌≡◌, refl, not}
+use Rattle.std.proofs.Common.{refl, not}
 use Rattle.chain_core.proofs.Leafs.{zero_told}
 use Rattle.chain_core.proofs.Standing.{leaf_of, ready_still, room_is}
 use Rattle.layer_session.specs.declared.file.Layer.{Layer}
