@@ -47,7 +47,7 @@ use Rattle.chain_core.specs.Starting.{HasBegun as HasBegunSession, IsRead as IsR
 use Rattle.chain_core.specs.declared.starting.NewIds.{NewIds}
 use Rattle.chain_core.specs.declared.starting.StartRefusal.{StartRefusal}
 use Rattle.chain_core.specs.Sessions.{AreApart, AreReady, IsLow, IsMergeOf, IsReadyLeaf}
-use Rattle.chain_core.specs.States.{AreHeld, AreWritten, IsCourse, IsServing, State, plain, seen_in}
+use Rattle.chain_core.specs.States.{AreHeld, AreWritten, IsCourse, IsServing, State, WasSynced, plain, seen_in}
 use Rattle.chain_core.proofs.Steps.{phase_others, still_once, still_read}
 
 -- ---- lists
@@ -125,9 +125,9 @@ pub one_geometry : (f : LinkedFile) (files : List LinkedFile) (g : Geometry) →
 one_geometry f [] g same line = (same, tt)
 one_geometry f (parent ∷ files) g same line = (same, one_geometry parent files g (line.0.geometry ∙ same) line.1)
 
-all_synced : (t : Trace) (n : ℕ) (files : List LinkedFile) → AreAsOpened t n files → AllByRecursion (λ f. is_synced (file_of t f.number) ≡ true) (placed_from t n files)
-all_synced t n [] o = tt
-all_synced t n (f ∷ files) o = (o.0.synced, all_synced t (n + 1) files o.1)
+pub all_synced : (writes : ℕ → Bool) (t : Trace) (n : ℕ) (files : List LinkedFile) → AreAsOpened t n files → AllByRecursion (WasSynced writes t) (placed_from t n files)
+all_synced writes t n [] o = tt
+all_synced writes t n (f ∷ files) o = ((λ none. o.0.synced), all_synced writes t (n + 1) files o.1)
 
 -- ---- layers that are only read
 
@@ -270,7 +270,7 @@ module _ (trace : Trace) (leaf : LinkedFile) (others : List LinkedFile) (attache
     course = subst (λ o. IsCourse z (λ n. n == 0) layers o top (plain rest)) (sym no_merge) tt;
     held = subst (λ o. AreHeld o layers.below.items trace top rest) (sym none) ((λ s. refl), read);
     whole = whole;
-    synced = all_synced trace 0 (leaf ∷ others) attached.each;
+    synced = all_synced (λ n. n == 0) trace 0 (leaf ∷ others) attached.each;
     written = subst (λ o. IfSome o (λ l. ((0 == 0) ≡ true) × AreWritten (λ n. n == 0) layers.below.items)) (sym none) tt;
     still = λ other none. refl;
     past = EachMoment-now (OpensToPrefix z opening [] (λ s. false) leaf.name) trace (prefixes_stay.broken z opening [] (λ s. false) leaf.name trace rests);
@@ -306,7 +306,7 @@ module _ (trace : Trace) (leaf : LinkedFile) (others : List LinkedFile) (attache
       course = subst (λ o. IsCourse z (λ n. n == 0) layers o next (plain rest)) (sym no_merge) tt;
       held = subst (λ o. AreHeld o layers.below.items now next rest) (sym is) (serves, read);
       whole = whole;
-      synced = all_synced trace 0 (leaf ∷ others) attached.each;
+      synced = all_synced (λ n. n == 0) trace 0 (leaf ∷ others) attached.each;
       written = subst (λ o. IfSome o (λ l. ((0 == 0) ≡ true) × AreWritten (λ n. n == 0) layers.below.items)) (sym is) (refl, none_written 1 others layers.below.items (omega arith) of);
       still = λ other none. phase_others 0 Goes trace now over.phase other (λ same. let never : true ≡ false = ap (λ n. n == 0) (sym same) ∙ none in cc);
       past = EachMoment-weaken (EachOpens leaf.name clean opening) (OpensToPrefix z opening [] (λ s. false) leaf.name) trace now (λ t opens. prefixes_stay.broken z opening [] (λ s. false) leaf.name t opens) goes.moments;
