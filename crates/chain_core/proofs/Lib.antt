@@ -11,3 +11,5 @@ pub mod Opened
 pub mod Beginning
 pub mod Fresh
 pub mod Showing
+pub mod Phases
+pub mod Stages

@@ -8,3 +8,4 @@ pub mod Converting
 pub mod Events
 pub mod Laws
 pub mod Merging
+pub mod MergeStarting
