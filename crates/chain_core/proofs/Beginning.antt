@@ -94,7 +94,7 @@ chain_in t ids parts [] h = h
 chain_in t ids parts (x ∷ others) h =
     (record { has = h.0.has; item = h.0.item; locator = h.0.locator; pairs = h.0.pairs; read = h.0.read; named = h.0.named; linked = h.0.linked; geometry = h.0.geometry }, h.1)
 
-none_loose_in : (t : Trace) (n : ℕ) (files : List LinkedFile) (s : ℕ) → NoneLoose s (placed_from t n files)
+pub none_loose_in : (t : Trace) (n : ℕ) (files : List LinkedFile) (s : ℕ) → NoneLoose s (placed_from t n files)
 none_loose_in t n [] s = tt
 none_loose_in t n (f ∷ files) s = (refl, none_loose_in t (n + 1) files s)
 
@@ -111,7 +111,7 @@ some_rest (Some x) rest h = refl
 sizes_of : (parts : Parts) → HasNumbers parts → HasSizes (shape_of parts)
 sizes_of parts h = record { sector = h.sector; block = h.block }
 
-owned : (t : Trace) (n : ℕ) (files : List LinkedFile) (g : Geometry) → IsLine files → AreAsOpened t n files → AllByRecursion IsServed files → AllByRecursion (λ (f : LinkedFile). f.parts.geometry ≡ g) files
+pub owned : (t : Trace) (n : ℕ) (files : List LinkedFile) (g : Geometry) → IsLine files → AreAsOpened t n files → AllByRecursion IsServed files → AllByRecursion (λ (f : LinkedFile). f.parts.geometry ≡ g) files
     → (s : ℕ) → s < g.sectors → is_some (seen_in (placed_from t n files) s) ≡ true
 owned t n [] g line o served same s below = absurd line
 owned t n (f ∷ []) g line o served same s below =
@@ -138,7 +138,7 @@ all_read t n (f ∷ files) [] of o = absurd of
 all_read t n (f ∷ files) (Session l ∷ layers) of o = absurd of.0
 all_read t n (f ∷ files) (Read l ∷ layers) of o = (of.0.reads t o.0.within o.0.most o.0.reads, all_read t (n + 1) files layers of.1 o.1)
 
-placed_apart : (t : Trace) (n : ℕ) (files : List LinkedFile) → 0 < n → AllByRecursion (λ f. f.number ≢ 0) (placed_from t n files)
+pub placed_apart : (t : Trace) (n : ℕ) (files : List LinkedFile) → 0 < n → AllByRecursion (λ f. f.number ≢ 0) (placed_from t n files)
 placed_apart t n [] some = tt
 placed_apart t n (f ∷ files) some = ((λ e. let never : n ≡ 0 = e in absurd (omega arith)), placed_apart t (n + 1) files (omega arith))
 
@@ -235,7 +235,7 @@ module _ (trace : Trace) (leaf : LinkedFile) (others : List LinkedFile) (attache
   abbrev clean : ℕ → Bool
   clean = either (is_dirty z []) (λ s. false)
 
-  linked : IsChainOf leaf.name [] (members_of chain)
+  pub linked : IsChainOf leaf.name [] (members_of chain)
   linked = record {
     named = attached.each.0.name;
     leads = attached.in_use;
@@ -244,10 +244,10 @@ module _ (trace : Trace) (leaf : LinkedFile) (others : List LinkedFile) (attache
     few = let count : length (members_of chain) ≡ length (leaf ∷ others) = placed_count trace 0 (leaf ∷ others) in omega arith;
   }
 
-  served : IsServedChain z opening [] leaf.name [] chain trace
+  pub served : IsServedChain z opening [] leaf.name [] chain trace
   served = chains_begin.served z leaf.name [] chain trace linked (all_kept trace 0 (leaf ∷ others) attached.each)
 
-  whole : (s : ℕ) → s < leaf.parts.geometry.sectors → is_some (seen_in chain s) ≡ true
+  pub whole : (s : ℕ) → s < leaf.parts.geometry.sectors → is_some (seen_in chain s) ≡ true
   whole = owned trace 0 (leaf ∷ others) leaf.parts.geometry line attached.each numbered (one_geometry leaf others leaf.parts.geometry refl line)
 
   tight : (among : ℕ → Bool) → LooseAtTop among chain

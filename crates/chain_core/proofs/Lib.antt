@@ -13,3 +13,5 @@ pub mod Fresh
 pub mod Showing
 pub mod Phases
 pub mod Stages
+pub mod MergeFound
+pub mod MergePhases

@@ -37,6 +37,12 @@ chain_with leaf (p ∷ a) x y b chain name id geometry retired linked =
     (files_may_change.lower leaf [] p.member (members_of a) x.member y.member (members_of b) (members_of b) parted (record { name = sym name; id = sym id; geometry = sym geometry }) refl
     (linked (lower_part_is_chain (p.member ∷ members_of a) x.member (members_of b) parted.linked)))
 
+-- its leaf, which no file of it looks at
+pub chain_top : (leaf : List ℕ) (x y : Placed) (b : List Placed) → IsChainOf leaf [] (members_of (x ∷ b)) → y.member.name ≡ x.member.name → y.member.ties.parent ≡ x.member.ties.parent → y.member.ties.locator ≡ x.member.ties.locator
+    → y.member.ties.geometry ≡ x.member.ties.geometry → y.member.ties.retired ≡ x.member.ties.retired → IsChainOf leaf [] (members_of (y ∷ b))
+chain_top leaf x y b chain name parent locator geometry retired =
+    files_may_change.leaf leaf [] x.member y.member (members_of b) (members_of b) chain (sym name) (sym retired) refl (same_first x.member y.member (members_of b) parent locator geometry chain.linked)
+
 -- a file of it that is new to its child, which is linked to it
 pub chain_below : (leaf : List ℕ) (top : Placed) (a : List Placed) (child x y : Placed) (b : List Placed) → IsChainOf leaf [] (members_of ((top ∷ a) ++ child ∷ x ∷ b)) → y.member.name ≡ x.member.name
     → (IsChain (child.member ∷ x.member ∷ members_of b) → IsChain (child.member ∷ y.member ∷ members_of b)) → IsChainOf leaf [] (members_of ((top ∷ a) ++ child ∷ y ∷ b))
@@ -92,6 +98,11 @@ beside_join k a b c first second = record { same = second.same ∙ first.same; n
 pub fewer : (z : ℕ) (opening : Disk) (leaf : List ℕ) (chain : List Placed) (numbers : List ℕ) (pair : Pair) (pairs : List Pair) (began trace : Trace) → Reached z opening leaf chain numbers (pair ∷ pairs) began trace
     → Reached z opening leaf chain numbers pairs began trace
 fewer z opening leaf chain numbers pair pairs began trace r = record { once = r.once; served = r.served; none = r.none; moments = r.moments; left = r.left; serving = r.serving.1 }
+
+-- and with others
+pub with_pairs : (z : ℕ) (opening : Disk) (leaf : List ℕ) (chain : List Placed) (numbers : List ℕ) (pairs others : List Pair) (began trace : Trace) → AllByRecursion (λ (p : Pair). Serves p.layer trace p.file) others
+    → Reached z opening leaf chain numbers pairs began trace → Reached z opening leaf chain numbers others began trace
+with_pairs z opening leaf chain numbers pairs others began trace serving r = record { once = r.once; served = r.served; none = r.none; moments = r.moments; left = r.left; serving = serving }
 
 -- and one more
 pub one_more_pair : (z : ℕ) (opening : Disk) (leaf : List ℕ) (chain : List Placed) (numbers : List ℕ) (l : Layer) (file : Placed) (pairs : List Pair) (began trace : Trace) → Serves l trace file → Reached z opening leaf chain numbers pairs began trace

@@ -130,13 +130,13 @@ module _ (z : ℕ) (opening : Disk) (leaf : List ℕ) (t0 : Trace) where
 
   -- A session ends, of a file with nothing loose.
   module _ (a b : List Placed) (l : Layer) (x : Placed) (numbers : List ℕ) (pairs : List Served) (old new : Trace)
-      (r : Reached z opening leaf (a ++ x ∷ b) numbers (record { layer = l; file = x } ∷ pairs) t0 old) (serves : Serves l old x) (own : (s : ℕ) → x.is_loose s ≡ false) (linked : IsChainOf leaf [] (members_of (a ++ x ∷ b))) (keeps : KeepsOver l old new) where
+      (r : Reached z opening leaf (a ++ x ∷ b) numbers pairs t0 old) (serves : Serves l old x) (own : (s : ℕ) → x.is_loose s ≡ false) (linked : IsChainOf leaf [] (members_of (a ++ x ∷ b))) (keeps : KeepsOver l old new) where
     ends_over : GoesOver x x old new
     ends_over = goes_over x x old new refl refl (keeps.over x serves)
 
     pub close_opens : Opened opening leaf (x.number ∷ numbers) t0 new
-    close_opens = phase_opens z opening leaf a x x b numbers (record { layer = l; file = x } ∷ pairs) t0 old new r ends_over (λ s. refl) refl own linked
+    close_opens = phase_opens z opening leaf a x x b numbers pairs t0 old new r ends_over (λ s. refl) refl own linked
 
     pub close_reaches : AllByRecursion (λ (p : Served). p.file.number ≢ x.number) pairs → HasGoneOver x new → Reached z opening leaf (a ++ x ∷ b) (x.number ∷ numbers) pairs t0 new
     close_reaches ne gone =
-        phase_reaches z opening leaf a x x b numbers pairs t0 old new (fewer z opening leaf (a ++ x ∷ b) numbers (record { layer = l; file = x }) pairs t0 old r) ends_over (λ s. refl) refl own linked ne gone
+        phase_reaches z opening leaf a x x b numbers pairs t0 old new r ends_over (λ s. refl) refl own linked ne gone

@@ -58,7 +58,7 @@ inner_parts (Some ids) parts = in_session parts (log_session ids)
 -- the files between the leaf and the source: the last of them, where there is one, is the child in its session
 abbrev pub between_in : Trace → List LinkedFile → LinkedFile → Option LogIds → List Placed
 between_in trace [] child ids = []
-between_in trace (leaf ∷ above) child ids = placed_from trace 1 above ++ as_found trace (1 + length above) (inner_parts ids child.parts) ∷ []
+between_in trace (leaf ∷ above) child ids = placed_from trace 1 above ++ as_found trace (length (leaf ∷ above)) (inner_parts ids child.parts) ∷ []
 
 -- the source in its session, and then with the locator that links it twice, which these pages gave it
 abbrev pub source_begun : Trace → MergeFiles → MergeIds → Placed
