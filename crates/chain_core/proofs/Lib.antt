@@ -15,3 +15,4 @@ pub mod Phases
 pub mod Stages
 pub mod MergeFound
 pub mod MergePhases
+pub mod MergeServed
