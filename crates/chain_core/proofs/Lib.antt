@@ -16,3 +16,6 @@ pub mod Stages
 pub mod MergeFound
 pub mod MergePhases
 pub mod MergeServed
+pub mod MergeTold
+pub mod Spending
+pub mod MergeStages

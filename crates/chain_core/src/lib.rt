@@ -5,6 +5,7 @@ mod answer;
 mod chain;
 mod laws;
 mod layers;
+mod merge_start;
 mod starting;
 
 pub use answer::Answer;
