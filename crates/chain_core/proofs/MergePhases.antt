@@ -148,9 +148,10 @@ module _ (t0 : Trace) (m : MergeFiles) (ids : MergeIds) (pages : List Page) wher
     r' = subst (R (sp ∷ sp ∷ 0 ∷ []) (pair source (source_in t0 m ids pages) ∷ pair leaf (top_in t0 m ids) ∷ []) old) (sym (parted (target_found t0 m))) r
 
     renewed : IsChain ((source_in t0 m ids pages).member ∷ (target_found t0 m).member ∷ members_of rest) → IsChain ((source_in t0 m ids pages).member ∷ (target_in t0 m ids).member ∷ members_of rest)
-    renewed h =
-        (links.renewed (source_in t0 m ids pages).member (target_in t0 m ids).member (record { parent = h.0.has; locator = refl; geometry = refl }) (record { name = (target_opened t0 m are).name; id_is = refl; geometry = refl }),
-        same_first (target_found t0 m).member (target_in t0 m ids).member (members_of rest) refl refl refl h.1)
+    renewed h = (
+      links.renewed (source_in t0 m ids pages).member (target_in t0 m ids).member (record { parent = h.0.has; locator = refl; geometry = refl }) (record { name = (target_opened t0 m are).name; id_is = refl; geometry = refl }),
+      same_first (target_found t0 m).member (target_in t0 m ids).member (members_of rest) refl refl refl h.1,
+    )
 
     target_linked : IsChainOf name [] (members_of (front ++ target_in t0 m ids ∷ rest))
     target_linked =
@@ -158,9 +159,13 @@ module _ (t0 : Trace) (m : MergeFiles) (ids : MergeIds) (pages : List Page) wher
         (chain_below name (top_in t0 m ids) found (source_in t0 m ids pages) (target_found t0 m) (target_in t0 m ids) rest r.served.linked refl renewed)
 
     target_apart : AllByRecursion (λ k. tp ≢ k) (sp ∷ sp ∷ 0 ∷ [])
-    target_apart =
-        ((λ e. let never : length m.above + 1 + 1 ≡ length m.above + 1 = e in absurd (omega arith)), ((λ e. let never : length m.above + 1 + 1 ≡ length m.above + 1 = e in absurd (omega arith)),
-        ((λ e. let never : length m.above + 1 + 1 ≡ 0 = e in absurd (omega arith)), tt)))
+    target_apart = (
+      (λ e. let never : length m.above + 1 + 1 ≡ length m.above + 1 = e in absurd (omega arith)),
+      (
+        (λ e. let never : length m.above + 1 + 1 ≡ length m.above + 1 = e in absurd (omega arith)),
+        ((λ e. let never : length m.above + 1 + 1 ≡ 0 = e in absurd (omega arith)), tt),
+      ),
+    )
 
     pub target_opens : Opened opening name (tp ∷ sp ∷ sp ∷ 0 ∷ []) t0 now
     target_opens =
@@ -199,9 +204,10 @@ module _ (t0 : Trace) (m : MergeFiles) (ids : MergeIds) (pages : List Page) wher
 
     all_apart : (o : Option Layer) → AllByRecursion (λ (p : Pair). p.file.number ≢ sp) (child_pairs inner o ++ pair target (target_in t0 m ids) ∷ pair leaf (top_in t0 m ids) ∷ [])
     all_apart None = ((λ e. let never : length m.above + 1 + 1 ≡ length m.above + 1 = e in absurd (omega arith)), ((λ e. let never : 0 ≡ length m.above + 1 = e in absurd (omega arith)), tt))
-    all_apart (Some l) =
-        ((λ e. let never : length m.above ≡ length m.above + 1 = e in absurd (omega arith)),
-        ((λ e. let never : length m.above + 1 + 1 ≡ length m.above + 1 = e in absurd (omega arith)), ((λ e. let never : 0 ≡ length m.above + 1 = e in absurd (omega arith)), tt)))
+    all_apart (Some l) = (
+      (λ e. let never : length m.above ≡ length m.above + 1 = e in absurd (omega arith)),
+      ((λ e. let never : length m.above + 1 + 1 ≡ length m.above + 1 = e in absurd (omega arith)), ((λ e. let never : 0 ≡ length m.above + 1 = e in absurd (omega arith)), tt)),
+    )
 
     abbrev chain_end : List Placed
     chain_end = (top_in t0 m ids ∷ between_in t0 m.above m.child inner) ++ source_in t0 m ids pages ∷ target_in t0 m ids ∷ rest
@@ -272,9 +278,16 @@ module _ (t0 : Trace) (first : LinkedFile) (above : List LinkedFile) (child sour
         (same_first (as_found t0 cp child.parts).member child_begun.member (members_of back_of) refl refl refl)
 
     inner_apart : AllByRecursion (λ k. cp ≢ k) numbers_of
-    inner_apart =
-        ((λ e. let never : cp ≡ cp + 1 + 1 = e in absurd (omega arith)), ((λ e. let never : cp ≡ cp + 1 = e in absurd (omega arith)), ((λ e. let never : cp ≡ cp + 1 = e in absurd (omega arith)),
-        ((λ e. let never : suc (length above) ≡ 0 = e in absurd (omega arith)), tt))))
+    inner_apart = (
+      (λ e. let never : cp ≡ cp + 1 + 1 = e in absurd (omega arith)),
+      (
+        (λ e. let never : cp ≡ cp + 1 = e in absurd (omega arith)),
+        (
+          (λ e. let never : cp ≡ cp + 1 = e in absurd (omega arith)),
+          ((λ e. let never : suc (length above) ≡ 0 = e in absurd (omega arith)), tt),
+        ),
+      ),
+    )
 
     pub child_opens : Opened (opening_disk t0 (chain_files files)) (leaf_of files).name (cp ∷ numbers_of) t0 now
     child_opens = begin_opens (leaf_of files).parts.geometry.sector (opening_disk t0 (chain_files files)) (leaf_of files).name t0 front_of back_of cp child.parts (log_session inner) numbers_of pairs_of old now q inner_apart inner_linked over

@@ -92,9 +92,10 @@ read_on t0 now n [] [] beside of o = tt
 read_on t0 now n [] (l ∷ layers) beside of o = absurd of
 read_on t0 now n (f ∷ files) [] beside of o = absurd of
 read_on t0 now n (f ∷ files) (Session l ∷ layers) beside of o = absurd of.0
-read_on t0 now n (f ∷ files) (Read l ∷ layers) beside of o =
-    (file_layers_stand.beside (Read l) t0 now (as_found t0 n f.parts) (of.0.reads t0 o.0.within o.0.most o.0.reads) (beside n (omega arith) (omega arith)),
-    read_on t0 now (n + 1) files layers (each_later (λ k. IsBeside k t0 now) n f files beside) of.1 o.1)
+read_on t0 now n (f ∷ files) (Read l ∷ layers) beside of o = (
+  file_layers_stand.beside (Read l) t0 now (as_found t0 n f.parts) (of.0.reads t0 o.0.within o.0.most o.0.reads) (beside n (omega arith) (omega arith)),
+  read_on t0 now (n + 1) files layers (each_later (λ k. IsBeside k t0 now) n f files beside) of.1 o.1,
+)
 
 none_written : (writes : ℕ → Bool) (n : ℕ) (files : List LinkedFile) (layers : List FileLayer) → Each (λ k. writes k ≡ false) n files → AreReadOf n files layers → AreWritten writes layers
 none_written writes n [] [] none of = tt
@@ -282,9 +283,16 @@ module _ (t0 now : Trace) (m : MergeFiles) (ids : MergeIds) (pages relink : List
 
   beside_rest : Each (λ k. IsBeside k t0 now) (target_place m + 1) m.below
   beside_rest k from to =
-      e.left k
-      ((λ x. let never : k ≡ length m.above + 1 = x in absurd (omega (arith, from))), ((λ x. let never : k ≡ length m.above = x in absurd (omega (arith, from))), ((λ x. let never : k ≡ length m.above + 1 + 1 = x in absurd (omega (arith, from))),
-      ((λ x. let never : k ≡ length m.above + 1 = x in absurd (omega (arith, from))), ((λ x. let never : k ≡ length m.above + 1 = x in absurd (omega (arith, from))), ((λ x. let never : k ≡ 0 = x in absurd (omega (arith, from))), tt))))))
+      e.left k (
+        (λ x. let never : k ≡ length m.above + 1 = x in absurd (omega (arith, from))),
+        (
+          (λ x. let never : k ≡ length m.above = x in absurd (omega (arith, from))),
+          (
+            (λ x. let never : k ≡ length m.above + 1 + 1 = x in absurd (omega (arith, from))),
+            ((λ x. let never : k ≡ length m.above + 1 = x in absurd (omega (arith, from))), ((λ x. let never : k ≡ length m.above + 1 = x in absurd (omega (arith, from))), ((λ x. let never : k ≡ 0 = x in absurd (omega (arith, from))), tt))),
+          ),
+        ),
+      )
 
   unwritten_rest : Each (λ k. is_written m k ≡ false) (target_place m + 1) m.below
   unwritten_rest k from to =

@@ -160,6 +160,6 @@ module _ (m : MergeFiles) (ids : MergeIds) (twice : List Page) (d : Disk) (can :
         told_then (λ t. AtChild t m ids twice inner leaf source target child) (λ a b. KeepsOver source a b × HasClosed source l a b)
         (λ t now. AtEnd t m ids twice inner leaf target child now × (IsRead l now (source_in t m ids twice) × (is_synced (file_of now (source_place m)) ≡ true)))
         (λ a b c r x.
-            let serves = end_serves a m ids twice inner leaf source target child b c r x.0 in
-            (end_reaches a m ids twice inner leaf source target child b c r x.0 (x.1.kept (source_in a m ids twice) serves).shows, (x.1.reads (source_in a m ids twice) serves, x.1.synced (source_in a m ids twice) serves))) d.told o p at
+        let serves = end_serves a m ids twice inner leaf source target child b c r x.0 in
+        (end_reaches a m ids twice inner leaf source target child b c r x.0 (x.1.kept (source_in a m ids twice) serves).shows, (x.1.reads (source_in a m ids twice) serves, x.1.synced (source_in a m ids twice) serves))) d.told o p at
         (told_pair (KeepsOver source) (HasClosed source l) o p keeps closed)

@@ -306,7 +306,7 @@ module _ (v : State) (top : Placed) (above : List Placed) (source target : Place
         served_wide : IsServed z v.opening v.history v.leaf v.retired (files_with wide) trace
         served_wide =
             let same : members_of (files_with wide) ≡ members_of (files_with target) = ap (λ (c : List Placed). members_of (top ∷ c)) (sym (parted wide)) ∙ members_append (top ∷ front) (wide ∷ below) ∙ sym (members_append (top ∷ front) (target ∷ below))
-                ∙ ap (λ (c : List Placed). members_of (top ∷ c)) (parted target) in
+            ∙ ap (λ (c : List Placed). members_of (top ∷ c)) (parted target) in
             record {
               linked = subst (λ c. IsChainOf v.leaf (members_of v.retired) c) (sym same) serving.served.linked;
               kept = kept_wide v.retired serving.served.kept;
@@ -318,6 +318,7 @@ module _ (v : State) (top : Placed) (above : List Placed) (source target : Place
                 subst (λ (c : List Placed). AllByRecursion (IsKept trace) (top ∷ c)) (parted wide)
                 (all_split (IsKept trace) (top ∷ front) target wide below (loosened_is_kept wide.is_loose target trace (λ s out. (or_parts (target.is_loose s) (is_in piece s) out).0))
                 (subst (λ (c : List Placed). AllByRecursion (IsKept trace) (top ∷ c)) (sym (parted target)) all))
+
             kept_wide : (r : List Placed) → AllByRecursion (IsKept trace) (r ++ files_with target) → AllByRecursion (IsKept trace) (r ++ files_with wide)
             kept_wide [] all = kept_in all
             kept_wide (p ∷ r) all = (all.0, kept_wide r all.1)
@@ -368,8 +369,8 @@ module _ (v : State) (top : Placed) (above : List Placed) (source target : Place
         pub put_refused : IsKeptAs target next trace now → new.merge ≡ Some u → IsRefused here new trace now
         put_refused kept_as merge_now =
             let over =
-                target_goes_over z v.opening v.history v.leaf (dirty_now here) v.retired (top ∷ above) source target target below trace now serving.once serving.served (goes_over target target trace now refl refl kept_as.moments)
-                (λ s none. refl) refl serving.loose serving.loose in
+            target_goes_over z v.opening v.history v.leaf (dirty_now here) v.retired (top ∷ above) source target target below trace now serving.once serving.served (goes_over target target trace now refl refl kept_as.moments)
+            (λ s none. refl) refl serving.loose serving.loose in
             record {
               moments = over.moments;
               serving = serving_on new u next target m.marks (ShowsFile target) now kept_as.moments geometry leaf_now merge_now items kept_as.holds refl under_old.written (λ s there. there)

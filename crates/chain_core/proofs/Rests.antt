@@ -16,7 +16,6 @@ use Rattle.chain_model.proofs.MergePhasing.{leaf_goes_over}
 use Rattle.chain_model.proofs.Serving.{loose_is_dirty, served_chains_open}
 use Rattle.chain_core.specs.States.{IsLoose, Rest, others_of, plain, merging}
 
-
 -- ---- what is loose
 
 pub top_loose : (d : ℕ → Bool) (top : Placed) (rest : Rest) → IsLoose d top rest → (s : ℕ) → d s ≡ false → top.is_loose s ≡ false

@@ -110,7 +110,14 @@ fn begin_child<S: Store>(
     let Some(ids) = ids else {
         return Ok(None);
     };
-    let layer = Layer::begin(alloc, store, number, &child.parts, log_session(ids), OTHER_PAGES)?;
+    let layer = Layer::begin(
+        alloc,
+        store,
+        number,
+        &child.parts,
+        log_session(ids),
+        OTHER_PAGES,
+    )?;
     Ok(Some(layer))
 }
 
@@ -200,12 +207,7 @@ fn first_high(child: &LinkedFile, source: &LinkedFile, target: &LinkedFile) -> O
 }
 
 // That of a merge, if its source has this name.
-fn high_at(
-    child: &LinkedFile,
-    source: &LinkedFile,
-    target: &LinkedFile,
-    name: &Name,
-) -> Option<u64>
+fn high_at(child: &LinkedFile, source: &LinkedFile, target: &LinkedFile, name: &Name) -> Option<u64>
     ensures { result ≡ starting.high_at child.now source.now target.now name.now }
 {
     if source.name == *name {
@@ -241,11 +243,7 @@ fn high_number(files: &[LinkedFile], name: &Name) -> Option<u64>
 }
 
 // The source is linked to the target by both of its identifiers.
-fn link_twice<S: Store>(
-    store: &mut S,
-    source: &mut Layer,
-    pages: &[Page],
-) -> Result<(), SealFault>
+fn link_twice<S: Store>(store: &mut S, source: &mut Layer, pages: &[Page]) -> Result<(), SealFault>
     requires ready { IsReady source.old (S.disk store.old) }
     requires empty { source.old.tables.pending ≡ [] }
     requires numbers { source.old.log.number ≤ 2 ^ 64 - 2 ^ 32 }

@@ -229,7 +229,11 @@ fn choose_ids<S: Store, I: Ids>(
 }
 
 // Layers of files that are only read, of which the first has this number in the store.
-pub(crate) fn layers_of(alloc: Global, first: u32, files: &[LinkedFile]) -> Result<Vec<FileLayer>, NoRoom>
+pub(crate) fn layers_of(
+    alloc: Global,
+    first: u32,
+    files: &[LinkedFile],
+) -> Result<Vec<FileLayer>, NoRoom>
     requires few { first + length files.now ≤ 64 }
     requires served { All IsServed files.now }
     ensures { IfOk result (λ layers. AreReadOf first files.now layers.items) }
