@@ -19,3 +19,4 @@ pub mod MergeServed
 pub mod MergeTold
 pub mod Spending
 pub mod MergeStages
+pub mod MergeAsked
