@@ -20,3 +20,4 @@ pub mod MergeTold
 pub mod Spending
 pub mod MergeStages
 pub mod MergeAsked
+pub mod MergeChild
