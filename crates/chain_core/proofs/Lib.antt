@@ -21,3 +21,4 @@ pub mod Spending
 pub mod MergeStages
 pub mod MergeAsked
 pub mod MergeChild
+pub mod MergeReady

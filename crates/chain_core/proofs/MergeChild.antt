@@ -17,7 +17,7 @@ use Rattle.chain_core.proofs.MergeTold.{told_pair, told_then}
 use Rattle.chain_core.proofs.Phases.{Opened}
 
 -- files above the source, of which the child is the leaf
-leaf_only : (n : ℕ) → false ≡ nat_lt 0 (suc n) → ⊥
+pub leaf_only : (n : ℕ) → false ≡ nat_lt 0 (suc n) → ⊥
 leaf_only n h = let more : nat_lt 0 (suc n) ≡ true = lt-ltb 0 (suc n) (omega arith) in let never : false ≡ true = h ∙ more in cc
 
 child_after : (t0 : Trace) (above : List LinkedFile) (child source target : LinkedFile) (below : List LinkedFile) (ids : MergeIds) (pages : List Page) (inner : Option LogIds) (leaf source_layer target_layer : Layer) (l : Option Layer) (old now : Trace)
