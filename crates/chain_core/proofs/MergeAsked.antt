@@ -1,10 +1,9 @@
 -- What the phases of a merge's start ask for, and what they leave where one fails.
-use Rattle.std.proofs.Common.{◌≡◌, ◌≢◌, ◌⊎◌, inl, inr, ℕ, suc, ◌+◌, ◌<◌, ◌≤◌, Bool, true, false, All, List, [], ◌∷◌, ◌++◌, length, get_or, refl, sym, ap, subst, ◌∙◌, arith}
+use Rattle.std.proofs.Common.{◌≡◌, inl, inr, ℕ, ◌+◌, ◌<◌, true, [], ◌∷◌, ◌++◌, length, refl, sym, ap, subst, ◌∙◌, arith}
 use Rattle.std.proofs.lemmas.List.{append_assoc, length-append}
 use Rattle.std.specs.Prelude.{Option, Some, None}
 use Rattle.vhdx_format.specs.FileParts.{HasNumbers}
-use Rattle.vx_base.specs.declared.parts.Parts.{Parts}
-use Rattle.store_model.specs.Disk.{Disk, ReadFailed, WhereBothTold, WhereTold}
+use Rattle.store_model.specs.Disk.{Disk, ReadFailed, WhereTold}
 use Rattle.store_model.specs.File.{seen}
 use Rattle.store_model.specs.Plans.{FailsToChange}
 use Rattle.store_model.specs.Trace.{Trace, file_of}
@@ -12,10 +11,8 @@ use Rattle.store_model.specs.declared.fault.SealFault.{SealFault}
 use Rattle.store_model.specs.declared.fault.SealFault.TheVariants.{NoRoom, Store}
 use Rattle.log_write.specs.Writing.{BeginFails}
 use Rattle.chain_model.specs.Images.{Placed}
-use Rattle.chain_model.specs.Layers as chain
-use Rattle.link_rules.specs.declared.linked.LinkedFile.{LinkedFile}
 use Rattle.layer_session.specs.Begins.{CanServe}
-use Rattle.layer_session.specs.Keeping.{IsHeld, IsReadable, IsReady, Serves}
+use Rattle.layer_session.specs.Keeping.{IsHeld, IsReady, Serves}
 use Rattle.layer_session.specs.declared.file.Layer.{Layer}
 use Rattle.merge_plan.specs.Drawing.{JudgesDrawn, merge_ids}
 use Rattle.merge_plan.specs.Merging.{MergeFiles, child_place, source_place}

@@ -1,5 +1,5 @@
 -- The child's session, which is the leaf's where the child is the leaf, where a store may tell its content or not.
-use Rattle.std.proofs.Common.{◌≡◌, ℕ, suc, ◌<◌, ◌≤◌, Bool, true, false, List, [], ◌∷◌, length, refl, sym, subst, ◌∙◌, arith}
+use Rattle.std.proofs.Common.{◌≡◌, ℕ, suc, true, false, List, [], ◌∷◌, length, sym, subst, ◌∙◌, arith}
 use Rattle.std.proofs.lemmas.Bool.{lt-ltb}
 use Rattle.std.specs.Prelude.{Option, Some, None, nat_lt, is_some}
 use Rattle.vhdx_format.specs.declared.log_entry.Page.{Page}
@@ -14,7 +14,6 @@ use Rattle.chain_core.specs.MergeStarting.{ChildBegun, ChildOver, target_place}
 use Rattle.chain_core.proofs.MergePhases.{AtChild, AtTarget, child_is_leaf, child_opens, child_reaches}
 use Rattle.chain_core.proofs.MergeStages.{OpenedBy}
 use Rattle.chain_core.proofs.MergeTold.{told_pair, told_then}
-use Rattle.chain_core.proofs.Phases.{Opened}
 
 -- files above the source, of which the child is the leaf
 pub leaf_only : (n : ℕ) → false ≡ nat_lt 0 (suc n) → ⊥

@@ -1,11 +1,9 @@
 -- The files of a merge in the middle of a chain, as they are found and as they are once the merge is prepared.
-use Rattle.std.proofs.Common.{◌≡◌, ◌≢◌, ℕ, suc, ◌+◌, ◌<◌, ◌≤◌, Bool, true, false, List, [], ◌∷◌, ◌++◌, length, map, refl, sym, ap, subst, ◌∙◌, arith, is_some}
-use Rattle.std.proofs.lemmas.List.{append_assoc, length-append}
-use Rattle.std.specs.Prelude.{Option, Some, None}
+use Rattle.std.proofs.Common.{◌≡◌, ℕ, suc, ◌+◌, ◌<◌, ◌≤◌, true, List, [], ◌∷◌, ◌++◌, length, refl, sym, ap, subst, ◌∙◌, arith, is_some}
+use Rattle.std.proofs.lemmas.List.{append_assoc}
 use Rattle.std.specs.List.{AllByRecursion}
-use Rattle.store_model.specs.File.{seen}
-use Rattle.store_model.specs.Trace.{Trace, file_of}
-use Rattle.chain_model.specs.Images.{NoneLoose, Placed}
+use Rattle.store_model.specs.Trace.{Trace}
+use Rattle.chain_model.specs.Images.{Placed}
 use Rattle.chain_model.specs.Members.{NoneTwice}
 use Rattle.link_rules.specs.Chains.{most_files}
 use Rattle.link_rules.specs.Chains as links

@@ -1,32 +1,28 @@
 -- The six phases by which a merge in the middle of a chain is prepared.
-use Rattle.std.proofs.Common.{◌≡◌, ◌≢◌, ℕ, suc, ◌+◌, ◌<◌, ◌≤◌, Bool, true, false, All, List, [], ◌∷◌, ◌++◌, length, refl, sym, ap, subst, ◌∙◌, arith}
+use Rattle.std.proofs.Common.{◌≡◌, ◌≢◌, ℕ, suc, ◌+◌, List, [], ◌∷◌, ◌++◌, length, refl, sym, subst, arith}
 use Rattle.std.proofs.lemmas.List.{append_assoc}
-use Rattle.std.specs.Prelude.{Option, Some, None, nat_lt, is_some}
+use Rattle.std.specs.Prelude.{Option, Some, None}
 use Rattle.std.specs.List.{AllByRecursion}
-use Rattle.vhdx_format.specs.Locators.{locator_bytes}
 use Rattle.vhdx_format.specs.declared.log_entry.Page.{Page}
 use Rattle.store_model.specs.File.{seen}
 use Rattle.store_model.specs.Trace.{Trace, file_of}
 use Rattle.guest_model.specs.Calls.{Disk}
 use Rattle.chain_model.specs.Images.{Placed, members_of}
-use Rattle.chain_model.specs.Members.{IsChain, IsChainOf, Member, Ties}
+use Rattle.chain_model.specs.Members.{IsChain, IsChainOf}
 use Rattle.chain_model.specs.Sessions.{HasGoneOver}
 use Rattle.layer_session.specs.Begins.{BeginsOver, HasBegun, as_found, in_session}
-use Rattle.layer_session.specs.Calls.{KeepsOver, settled}
-use Rattle.layer_session.specs.Closes.{HasClosed}
+use Rattle.layer_session.specs.Calls.{KeepsOver}
 use Rattle.layer_session.specs.Keeping.{Serves}
-use Rattle.layer_session.specs.ReadOnly.{IsRead}
-use Rattle.layer_session.specs.Updating.{HasUpdated, TurnsInto, UpdatesOver, laid_region, own_len, turned}
+use Rattle.layer_session.specs.Updating.{HasUpdated, TurnsInto, UpdatesOver, laid_region, own_len}
 use Rattle.layer_session.specs.declared.file.Layer.{Layer}
-use Rattle.layer_session.specs.declared.read_layer.ReadLayer.{ReadLayer}
 use Rattle.link_rules.specs.declared.linked.LinkedFile.{LinkedFile}
-use Rattle.merge_plan.specs.Merging.{KeepsLinks, MergeFiles, source_place, twice_pairs}
+use Rattle.merge_plan.specs.Merging.{KeepsLinks, MergeFiles, source_place}
 use Rattle.merge_plan.specs.declared.drawing.LogIds.{LogIds}
 use Rattle.merge_plan.specs.declared.drawing.MergeIds.{MergeIds}
 use Rattle.chain_core.specs.MergeStarting.{between_in, chain_files, data_session, inner_parts, leaf_of, log_session, source_begun, source_in, target_in, target_place, top_in, twice_ties}
 use Rattle.chain_core.specs.Starting.{opening_disk, placed_from}
-use Rattle.chain_core.proofs.MergeFound.{AreFound, between_found, chain_found, reached_none, rest_found, source_found, source_opened, target_found, target_opened, top_found}
-use Rattle.chain_core.proofs.Phases.{Left, Opened, Pair, Reached, chain_below, chain_top, chain_with, opened, same_first, with_pairs}
+use Rattle.chain_core.proofs.MergeFound.{AreFound, between_found, reached_none, rest_found, source_found, target_found, target_opened, top_found}
+use Rattle.chain_core.proofs.Phases.{Opened, Pair, Reached, chain_below, chain_top, chain_with, same_first, with_pairs}
 use Rattle.chain_core.proofs.Stages.{begin_opens, begin_reaches, close_opens, close_reaches, update_opens, update_reaches}
 
 module _ (t0 : Trace) (m : MergeFiles) (ids : MergeIds) (pages : List Page) where

@@ -1,14 +1,11 @@
 -- Once its phases are done a session with a merge is served, where a store may tell its content or not.
-use Rattle.std.proofs.Common.{◌≡◌, ◌≢◌, ℕ, suc, ◌+◌, ◌<◌, ◌≤◌, Bool, true, false, List, [], ◌∷◌, ◌++◌, length, refl, sym, ap, subst, ◌∙◌, arith}
-use Rattle.std.proofs.lemmas.List.{append_assoc}
+use Rattle.std.proofs.Common.{◌≡◌, ℕ, suc, ◌+◌, true, false, List, [], ◌∷◌, ◌++◌, length, refl, sym, arith}
 use Rattle.std.specs.Prelude.{Option, Some, None, IfSome, nat_lt, is_some}
-use Rattle.std.specs.List.{AllByRecursion}
 use Rattle.vhdx_format.specs.declared.log_entry.Page.{Page}
 use Rattle.store_model.specs.Disk.{Disk, WhereBothTold, WhereTold}
 use Rattle.store_model.specs.File.{is_synced, seen}
 use Rattle.store_model.specs.Trace.{Trace, file_of}
 use Rattle.link_rules.specs.declared.linked.LinkedFile.{LinkedFile}
-use Rattle.layer_session.specs.Calls.{IsBeside}
 use Rattle.layer_session.specs.ReadOnly.{IsRead}
 use Rattle.layer_session.specs.declared.file.Layer.{Layer}
 use Rattle.layer_session.specs.declared.file_layer.FileLayer.{FileLayer}
@@ -55,9 +52,16 @@ front_is (f ∷ above) child source target below ids pages relink None leaf targ
 front_is (f ∷ above) child source target below ids pages relink (Some inner) leaf target_layer None reads t0 now is some both has links are table tables of e = absurd (let never : false ≡ true = both in cc)
 front_is (f ∷ above) child source target below ids pages relink (Some inner) leaf target_layer (Some l) reads t0 now is some both has links are table tables of e =
     front_inner t0 now f above child source target below ids pages relink inner is leaf l reads has.found of
-    (λ k from to. e.left k
-    ((λ x. let never : k ≡ suc (length above) + 1 = x in absurd (omega (arith, to))), ((λ x. let never : k ≡ suc (length above) = x in absurd (omega (arith, to))), ((λ x. let never : k ≡ suc (length above) + 1 + 1 = x in absurd (omega (arith, to))),
-    ((λ x. let never : k ≡ suc (length above) + 1 = x in absurd (omega (arith, to))), ((λ x. let never : k ≡ suc (length above) + 1 = x in absurd (omega (arith, to))), ((λ x. let never : k ≡ 0 = x in absurd (omega (arith, from))), tt)))))))
+    (λ k from to. e.left k (
+      (λ x. let never : k ≡ suc (length above) + 1 = x in absurd (omega (arith, to))),
+      (
+        (λ x. let never : k ≡ suc (length above) = x in absurd (omega (arith, to))),
+        (
+          (λ x. let never : k ≡ suc (length above) + 1 + 1 = x in absurd (omega (arith, to))),
+          ((λ x. let never : k ≡ suc (length above) + 1 = x in absurd (omega (arith, to))), ((λ x. let never : k ≡ suc (length above) + 1 = x in absurd (omega (arith, to))), ((λ x. let never : k ≡ 0 = x in absurd (omega (arith, from))), tt))),
+        ),
+      ),
+    ))
     e.serving.0 (sym e.serving.0.number)
     (child_relinks t0 now (record { above = f ∷ above; child = child; source = source; target = target; below = below }) ids relink l (log_session inner) has.found links e.serving.0 tables are has.gives)
 
@@ -76,7 +80,7 @@ module _ (m : MergeFiles) (merge : Merge) (d : Disk) (can : CanStart (chain_file
   serves_told o ended =
       told_from (HasRelink m merge.ids merge.relink) (Ended m merge.ids merge.twice leaf target l source) (λ trace now. IsServing layers (started_merge trace now m merge.ids merge.twice) now)
       (λ a b has e.
-          serves_merge a b m merge.ids merge.twice merge.relink leaf target l source has.found e.0 e.1.0 e.1.1 (above ++ session_of l) below
-          (front_is m.above m.child m.source m.target m.below merge.ids merge.twice merge.relink merge.ids.child leaf target l above a b refl some both has links pages_are table tables first e.0) rest layers u geometry leaf_is merge_is below_is
-          place relink_is marks) d.told o
+      serves_merge a b m merge.ids merge.twice merge.relink leaf target l source has.found e.0 e.1.0 e.1.1 (above ++ session_of l) below
+      (front_is m.above m.child m.source m.target m.below merge.ids merge.twice merge.relink merge.ids.child leaf target l above a b refl some both has links pages_are table tables first e.0) rest layers u geometry leaf_is merge_is below_is
+      place relink_is marks) d.told o
       (λ t told. record { found = are_found m d can t told; gives = gives t told }) ended

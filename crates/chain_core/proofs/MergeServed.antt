@@ -1,7 +1,7 @@
 -- A session whose merge is prepared is served.
-use Rattle.std.proofs.Common.{◌≡◌, ◌≢◌, ◌⊎◌, inl, inr, ◌==◌, ◌||◌, ◌-◌, ℕ, zero, suc, ◌+◌, ◌<◌, ◌≤◌, Bool, true, false, cond, All, List, [], ◌∷◌, ◌++◌, length, map, get_or, refl, sym, ap, subst, ◌∙◌, arith, is_some, ne_eqb, eq-eqb}
+use Rattle.std.proofs.Common.{◌≡◌, ◌≢◌, ◌==◌, ◌||◌, ◌-◌, ℕ, suc, ◌+◌, ◌<◌, ◌≤◌, Bool, true, false, cond, List, [], ◌∷◌, ◌++◌, length, map, refl, sym, ap, subst, ◌∙◌, arith, is_some, ne_eqb, eq-eqb}
 use Rattle.std.proofs.lemmas.List.{append_assoc, length-append}
-use Rattle.std.specs.Prelude.{Option, Some, None, option_map, IfSome, slice_index_or}
+use Rattle.std.specs.Prelude.{Option, Some, None, IfSome, slice_index_or}
 use Rattle.std.specs.List.{AllByRecursion}
 use Rattle.std.specs.Option.{option_or}
 use Rattle.vhdx_format.specs.Locators.{locator_bytes}
@@ -12,7 +12,7 @@ use Rattle.store_model.proofs.Spans.{EachMoment-weaken}
 use Rattle.guest_model.specs.Calls.{Disk}
 use Rattle.guest_model.specs.History.{is_dirty}
 use Rattle.table_pages.specs.declared.tables.TableParts.{TableParts}
-use Rattle.chain_model.specs.Images.{Placed, members_of}
+use Rattle.chain_model.specs.Images.{Placed}
 use Rattle.chain_model.specs.Moments.{EachOpens, OpensToPrefix}
 use Rattle.chain_model.proofs.Merging.{begins as merge_begins}
 use Rattle.chain_model.proofs.Serving.{loose_moves, prefixes_stay}
@@ -22,7 +22,7 @@ use Rattle.layer_session.specs.Calls.{IsBeside}
 use Rattle.layer_session.specs.FileLayers.{HaveFiles, number_of, table_parts}
 use Rattle.layer_session.specs.Keeping.{Serves}
 use Rattle.layer_session.specs.ReadOnly.{IsRead}
-use Rattle.layer_session.specs.Updating.{laid_region, own_len, turned}
+use Rattle.layer_session.specs.Updating.{laid_region, turned}
 use Rattle.layer_session.specs.declared.file.Layer.{Layer}
 use Rattle.layer_session.specs.declared.file_layer.FileLayer.{FileLayer}
 use Rattle.layer_session.specs.declared.file_layer.FileLayer.TheVariants.{Read, Session}
@@ -31,19 +31,19 @@ use Rattle.layer_session.proofs.FileLayers.{file_layers_stand}
 use Rattle.log_write.specs.declared.ids.SessionIds.{SessionIds}
 use Rattle.merge_core.specs.Copied.{marks_of}
 use Rattle.meta_edit.specs.Pages.{ArePages}
-use Rattle.merge_plan.specs.Merging.{GivesLocator, KeepsLinks, MergeFiles, child_place, relinked_pairs, source_place, twice_pairs}
+use Rattle.merge_plan.specs.Merging.{GivesLocator, KeepsLinks, MergeFiles, child_place, relinked_pairs, source_place}
 use Rattle.merge_plan.specs.declared.drawing.LogIds.{LogIds}
 use Rattle.merge_plan.specs.declared.drawing.MergeIds.{MergeIds}
 use Rattle.merge_plan.proofs.Lines.{are_followed}
-use Rattle.chain_core.specs.MergeStarting.{between_in, chain_files, data_session, inner_parts, is_written, leaf_of, log_session, source_begun, source_in, started_merge, target_in, target_place, top_in, twice_ties}
+use Rattle.chain_core.specs.MergeStarting.{between_in, chain_files, data_session, is_written, leaf_of, log_session, source_in, started_merge, target_in, target_place, top_in}
 use Rattle.chain_core.specs.Starting.{AreAsOpened, AreReadOf, opening_disk, placed_from}
 use Rattle.chain_core.specs.States.{AreHeld, AreWritten, IsCourse, IsServing, IsUnder, Relinks, WasSynced, child_of, child_parts, is_session, seen_in}
 use Rattle.chain_core.specs.declared.layers.Layers.{Layers}
 use Rattle.chain_core.specs.declared.layers.Underway.{Underway}
-use Rattle.chain_core.proofs.MergeFound.{AreFound, between_found, chain_found, child_opened, opened_above, rest_found, rest_opened, source_found, source_opened, target_found, target_opened, whole_found}
+use Rattle.chain_core.proofs.MergeFound.{AreFound, between_found, child_opened, opened_above, rest_found, rest_opened, source_found, target_found, target_opened, whole_found}
 use Rattle.chain_core.proofs.MergePhases.{AtEnd, child_pairs}
 use Rattle.chain_core.proofs.Opened.{lie_within}
-use Rattle.chain_core.proofs.Phases.{Pair, Reached, tight}
+use Rattle.chain_core.proofs.Phases.{Pair, tight}
 use Rattle.chain_core.proofs.Putting.{have_all}
 use Rattle.chain_core.proofs.Stages.{gives_turn}
 

@@ -1,7 +1,6 @@
 -- The phases that prepare a merge, each behind those before it, where a store may tell its content or not.
-use Rattle.std.proofs.Common.{◌≡◌, ◌≢◌, ℕ, zero, suc, ◌+◌, ◌<◌, ◌≤◌, ◌||◌, Bool, true, false, All, List, [], ◌∷◌, ◌++◌, length, get_or, refl, sym, ap, subst, ◌∙◌, arith, eq-eqb}
-use Rattle.std.proofs.lemmas.List.{append_assoc, length-append}
-use Rattle.std.specs.Prelude.{Option, Some, None}
+use Rattle.std.proofs.Common.{◌≡◌, ◌≢◌, ℕ, ◌+◌, true, false, List, [], ◌∷◌, length, sym, ap, subst, ◌∙◌, arith}
+use Rattle.std.specs.Prelude.{Option}
 use Rattle.std.specs.List.{AllByRecursion}
 use Rattle.vhdx_format.specs.declared.log_entry.Page.{Page}
 use Rattle.vx_base.specs.declared.parts.Parts.{Parts}
@@ -11,23 +10,23 @@ use Rattle.store_model.specs.Trace.{EachMoment, Trace, file_of}
 use Rattle.chain_model.specs.Moments.{EachOpens}
 use Rattle.link_rules.specs.declared.linked.LinkedFile.{LinkedFile}
 use Rattle.layer_session.specs.Begins.{BeginsOver, CanServe, HasBegun}
-use Rattle.layer_session.specs.Calls.{IsBeside, KeepsOver, settled}
+use Rattle.layer_session.specs.Calls.{IsBeside, KeepsOver}
 use Rattle.layer_session.specs.Closes.{HasClosed}
 use Rattle.layer_session.specs.ReadOnly.{IsRead}
 use Rattle.layer_session.specs.Updating.{HasUpdated, Turns, TurnsInto, UpdatesOver, laid_region, own_len}
 use Rattle.layer_session.specs.declared.file.Layer.{Layer}
 use Rattle.layer_session.specs.declared.read_layer.ReadLayer.{ReadLayer}
 use Rattle.meta_edit.specs.Pages.{ArePages}
-use Rattle.merge_plan.specs.Merging.{GivesLocator, KeepsLinks, MergeFiles, child_place, source_place, twice_pairs}
+use Rattle.merge_plan.specs.Merging.{GivesLocator, KeepsLinks, MergeFiles, source_place, twice_pairs}
 use Rattle.merge_plan.specs.declared.drawing.LogIds.{LogIds}
 use Rattle.merge_plan.specs.declared.drawing.MergeIds.{MergeIds}
-use Rattle.chain_core.specs.MergeStarting.{LeavesRest, chain_files, data_session, is_changed, is_written, leaf_of, log_session, source_begun, source_in, target_place, twice_ties}
+use Rattle.chain_core.specs.MergeStarting.{LeavesRest, chain_files, data_session, is_changed, leaf_of, log_session, source_begun, source_in, target_place, twice_ties}
 use Rattle.chain_core.specs.Starting.{CanStart, EachOpensAlike, opening_disk}
 use Rattle.chain_core.proofs.MergeFound.{AreFound, files_split, lower_files, source_opened}
-use Rattle.chain_core.proofs.MergePhases.{AtChild, AtEnd, AtLeaf, AtLocator, AtSource, AtTarget, child_is_leaf, child_opens, child_reaches, end_opens, end_reaches, end_serves, leaf_opens, leaf_reaches, locator_opens, locator_reaches, source_opens, source_reaches, target_opens, target_reaches}
+use Rattle.chain_core.proofs.MergePhases.{AtChild, AtEnd, AtLeaf, AtLocator, AtSource, AtTarget, end_opens, end_reaches, end_serves, leaf_opens, leaf_reaches, locator_opens, locator_reaches, source_opens, source_reaches, target_opens, target_reaches}
 use Rattle.chain_core.proofs.MergeTold.{are_found, told_as, told_from, told_last, told_pair, told_then}
 use Rattle.chain_core.proofs.Opened.{lie_within}
-use Rattle.chain_core.proofs.Phases.{Left, Opened}
+use Rattle.chain_core.proofs.Phases.{Opened}
 use Rattle.chain_core.proofs.Stages.{gives_turn, serve_beside}
 
 -- ---- what was opened

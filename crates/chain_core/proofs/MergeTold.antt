@@ -1,6 +1,6 @@
 -- The phases that prepare a merge, where a store may tell its content or not.
-use Rattle.std.proofs.Common.{◌≡◌, ◌≢◌, ℕ, zero, suc, ◌+◌, ◌<◌, ◌≤◌, ◌||◌, Bool, true, false, All, List, [], ◌∷◌, ◌++◌, length, get_or, refl, sym, ap, subst, ◌∙◌, arith}
-use Rattle.std.specs.Prelude.{Option, Some, None, nat_lt, is_some}
+use Rattle.std.proofs.Common.{◌≡◌, ℕ, zero, suc, ◌+◌, ◌<◌, ◌≤◌, false, All, List, [], ◌∷◌, ◌++◌, length, get_or, refl, ap, subst, ◌∙◌, arith}
+use Rattle.std.specs.Prelude.{Option, Some, None}
 use Rattle.std.specs.List.{AllByRecursion, list_any}
 use Rattle.std.proofs.lemmas.Bool.{or_parts}
 use Rattle.std.proofs.lemmas.List.{length-append}
@@ -8,7 +8,6 @@ use Rattle.vhdx_format.specs.Fields.{is_zero_id, same_id}
 use Rattle.store_model.specs.Disk.{Disk, WhereBothTold, WhereTold}
 use Rattle.store_model.specs.File.{seen}
 use Rattle.store_model.specs.Trace.{Trace, file_of}
-use Rattle.chain_model.specs.Members.{NoneTwice}
 use Rattle.link_rules.specs.Effects.{IsServed}
 use Rattle.link_rules.specs.declared.linked.LinkedFile.{LinkedFile}
 use Rattle.layer_session.specs.Begins.{CanServe}
@@ -16,14 +15,13 @@ use Rattle.make_file.specs.Identifiers.{first_unfit, is_unfit}
 use Rattle.shown_ids.specs.Shown.{shown}
 use Rattle.merge_plan.specs.Attached as plan
 use Rattle.merge_plan.specs.Drawing.{JudgesDrawn, merge_ids}
-use Rattle.merge_plan.specs.Merging.{MergeFiles, child_place, source_place}
-use Rattle.merge_plan.specs.declared.drawing.LogIds.{LogIds}
+use Rattle.merge_plan.specs.Merging.{MergeFiles}
 use Rattle.merge_plan.specs.declared.drawing.MergeIds.{MergeIds}
-use Rattle.chain_core.specs.MergeStarting.{chain_files, leaf_of, target_place}
-use Rattle.chain_core.specs.Starting.{AreAsOpened, AreAttached, BeginsInUse, CanStart, IsAsOpened}
+use Rattle.chain_core.specs.MergeStarting.{chain_files}
+use Rattle.chain_core.specs.Starting.{AreAsOpened, BeginsInUse, CanStart, IsAsOpened}
 use Rattle.chain_core.proofs.Beginning.{by_recursion}
 use Rattle.chain_core.proofs.Fresh.{any_left, any_right, passed, serve_fresh}
-use Rattle.chain_core.proofs.MergeFound.{AreFound, child_opened, files_split, lower_files, opened_below, source_opened, target_opened}
+use Rattle.chain_core.proofs.MergeFound.{AreFound, opened_below}
 
 -- ---- one stretch behind another
 

@@ -1,14 +1,14 @@
 -- Phases of a chain's files, one file after another, with nothing loose: from each image of each moment the leaf's name is opened to
 -- one disk.
-use Rattle.std.proofs.Common.{◌≡◌, ◌≢◌, ◌⊎◌, ℕ, ◌≤◌, Bool, true, false, List, [], ◌∷◌, ◌++◌, length, map, refl, sym, ap, subst, ◌∙◌, arith}
+use Rattle.std.proofs.Common.{◌≡◌, ◌≢◌, ◌⊎◌, ℕ, Bool, false, List, [], ◌∷◌, ◌++◌, map, refl, sym, ap, subst, ◌∙◌}
 use Rattle.std.specs.List.{AllByRecursion}
-use Rattle.store_model.specs.Trace.{EachMoment, NamedBytes, Trace, file_of}
+use Rattle.store_model.specs.Trace.{EachMoment, Trace}
 use Rattle.store_model.proofs.Spans.{EachMoment-join}
 use Rattle.guest_model.specs.Calls.{Disk}
 use Rattle.chain_model.specs.Layers.{Same}
 use Rattle.chain_model.specs.Images.{NoneLoose, Placed, members_of}
 use Rattle.chain_model.specs.Members.{IsChain, IsChainOf, Member}
-use Rattle.chain_model.specs.Moments.{EachOpens, IsPhase}
+use Rattle.chain_model.specs.Moments.{EachOpens}
 use Rattle.chain_model.specs.PhaseLaws.{IsNamedOnce, Survives}
 use Rattle.chain_model.specs.Sessions.{GoesOver, HasGoneOver, IsServed, LooseAtTop, ShowsFile}
 use Rattle.chain_model.proofs.Linking.{files_may_change, lower_part_is_chain}

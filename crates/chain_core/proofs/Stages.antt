@@ -1,7 +1,6 @@
 -- The phases by which a merge in the middle of a chain is prepared.
-use Rattle.std.proofs.Common.{◌≡◌, ◌≢◌, ◌⊎◌, ℕ, suc, ◌+◌, ◌^◌, ◌<◌, ◌≤◌, get_or, Bool, true, false, All, List, [], ◌∷◌, ◌++◌, length, map, take, drop, refl, sym, ap, subst, ◌∙◌, arith}
-use Rattle.std.proofs.lemmas.List.{append_assoc}
-use Rattle.std.specs.Prelude.{Option, Some, None, Ok, slice_index_or}
+use Rattle.std.proofs.Common.{◌≡◌, ◌≢◌, ℕ, ◌+◌, ◌^◌, ◌<◌, ◌≤◌, get_or, false, List, [], ◌∷◌, ◌++◌, length, refl, sym, ap, subst, ◌∙◌, arith}
+use Rattle.std.specs.Prelude.{Some, slice_index_or}
 use Rattle.std.specs.List.{AllByRecursion}
 use Rattle.vx_base.specs.Fields.{bytes_at}
 use Rattle.vx_base.specs.declared.parts.Parts.{Parts}
@@ -9,32 +8,28 @@ use Rattle.vhdx_format.specs.Locators.{locator_bytes}
 use Rattle.vhdx_format.specs.MetadataTables.{read_metadata}
 use Rattle.vhdx_format.specs.declared.locator.Pair.{Pair}
 use Rattle.vhdx_format.specs.declared.log_entry.Page.{Page}
-use Rattle.vhdx_format.specs.declared.metadata.Metadata.{Metadata}
 use Rattle.store_model.specs.File.{File, seen}
 use Rattle.store_model.proofs.Parts.{length-part, part-overwritten}
-use Rattle.store_model.specs.Trace.{EachMoment, NamedBytes, Trace, file_of}
+use Rattle.store_model.specs.Trace.{Trace, file_of}
 use Rattle.guest_model.specs.Calls.{Disk}
 use Rattle.log_write.specs.Writing.{CanBegin}
 use Rattle.log_write.specs.declared.ids.SessionIds.{SessionIds}
 use Rattle.chain_model.specs.Files.{HasParts, at_rest}
 use Rattle.chain_model.specs.Images.{Placed, members_of, name_of}
-use Rattle.chain_model.specs.Members.{IsChain, IsChainOf, Member, Ties}
+use Rattle.chain_model.specs.Members.{IsChainOf, Ties}
 use Rattle.chain_model.specs.Sessions.{GoesOver, HasGoneOver, as_read}
-use Rattle.link_rules.specs.declared.linked.LinkedFile.{LinkedFile}
 use Rattle.layer_session.specs.Begins.{BeginsOver, CanServe, HasBegun, as_found, in_session}
 use Rattle.layer_session.specs.Calls.{IsBeside, KeepsOver}
-use Rattle.layer_session.specs.Closes.{HasClosed}
 use Rattle.layer_session.specs.Keeping.{Serves}
 use Rattle.layer_session.specs.Updating.{HasUpdated, TurnsInto, UpdatesOver, laid_region, own_len, turned}
 use Rattle.layer_session.specs.declared.file.Layer.{Layer}
-use Rattle.layer_session.specs.declared.read_layer.ReadLayer.{ReadLayer}
 use Rattle.layer_session.proofs.Crashes.{layers_are_kept}
 use Rattle.layer_session.proofs.PagesTurned.{pages_turn}
 use Rattle.layer_session.proofs.Standing.{same_length}
 use Rattle.meta_edit.specs.Edits.{with_region}
 use Rattle.meta_edit.specs.Pages.{ArePages, IsPageIn, with_pages}
-use Rattle.merge_plan.specs.Merging.{GivesLocator, HasLocator, IsKnownBy, KeepsLinks, MergeFiles, twice_pairs}
-use Rattle.chain_core.proofs.Phases.{Left, Opened, Pair as Served, Reached, chain_below, chain_with, fewer, one_more_pair, phase_opens, phase_reaches, same_first}
+use Rattle.merge_plan.specs.Merging.{GivesLocator}
+use Rattle.chain_core.proofs.Phases.{Opened, Pair as Served, Reached, fewer, one_more_pair, phase_opens, phase_reaches}
 use Rattle.chain_core.proofs.Steps.{goes_over}
 
 -- ---- what hangs on one file and on the names alone
