@@ -48,7 +48,7 @@ use Rattle.chain_core.specs.Starting.{HasBegun as HasBegunSession, IsRead as IsR
 use Rattle.merge_plan.specs.declared.drawing.NewIds.{NewIds}
 use Rattle.chain_core.specs.declared.starting.StartRefusal.{StartRefusal}
 use Rattle.chain_core.specs.Sessions.{AreApart, AreReady, IsLow, IsMergeOf, IsReadyLeaf}
-use Rattle.chain_core.specs.States.{AreHeld, AreWritten, IsCourse, IsServing, plain, seen_in}
+use Rattle.chain_core.specs.States.{AreHeld, AreWritten, IsCourse, IsServing, plain, seen_in, State, WasSynced}
 use Rattle.chain_core.proofs.Steps.{phase_others, still_once, still_read}
 
 -- ---- lists
@@ -95,7 +95,7 @@ chain_in t ids parts [] h = h
 chain_in t ids parts (x ∷ others) h =
     (record { has = h.0.has; item = h.0.item; locator = h.0.locator; pairs = h.0.pairs; read = h.0.read; named = h.0.named; linked = h.0.linked; geometry = h.0.geometry }, h.1)
 
-none_loose_in : (t : Trace) (n : ℕ) (files : List LinkedFile) (s : ℕ) → NoneLoose s (placed_from t n files)
+pub none_loose_in : (t : Trace) (n : ℕ) (files : List LinkedFile) (s : ℕ) → NoneLoose s (placed_from t n files)
 none_loose_in t n [] s = tt
 none_loose_in t n (f ∷ files) s = (refl, none_loose_in t (n + 1) files s)
 
@@ -112,7 +112,7 @@ some_rest (Some x) rest h = refl
 sizes_of : (parts : Parts) → HasNumbers parts → HasSizes (shape_of parts)
 sizes_of parts h = record { sector = h.sector; block = h.block }
 
-owned : (t : Trace) (n : ℕ) (files : List LinkedFile) (g : Geometry) → IsLine files → AreAsOpened t n files → AllByRecursion IsServed files → AllByRecursion (λ (f : LinkedFile). f.parts.geometry ≡ g) files
+pub owned : (t : Trace) (n : ℕ) (files : List LinkedFile) (g : Geometry) → IsLine files → AreAsOpened t n files → AllByRecursion IsServed files → AllByRecursion (λ (f : LinkedFile). f.parts.geometry ≡ g) files
     → (s : ℕ) → s < g.sectors → is_some (seen_in (placed_from t n files) s) ≡ true
 owned t n [] g line o served same s below = absurd line
 owned t n (f ∷ []) g line o served same s below =
@@ -126,9 +126,9 @@ pub one_geometry : (f : LinkedFile) (files : List LinkedFile) (g : Geometry) →
 one_geometry f [] g same line = (same, tt)
 one_geometry f (parent ∷ files) g same line = (same, one_geometry parent files g (line.0.geometry ∙ same) line.1)
 
-all_synced : (t : Trace) (n : ℕ) (files : List LinkedFile) → AreAsOpened t n files → AllByRecursion (λ f. is_synced (file_of t f.number) ≡ true) (placed_from t n files)
-all_synced t n [] o = tt
-all_synced t n (f ∷ files) o = (o.0.synced, all_synced t (n + 1) files o.1)
+pub all_synced : (writes : ℕ → Bool) (t : Trace) (n : ℕ) (files : List LinkedFile) → AreAsOpened t n files → AllByRecursion (WasSynced writes t) (placed_from t n files)
+all_synced writes t n [] o = tt
+all_synced writes t n (f ∷ files) o = ((λ none. o.0.synced), all_synced writes t (n + 1) files o.1)
 
 -- ---- layers that are only read
 
@@ -139,7 +139,7 @@ all_read t n (f ∷ files) [] of o = absurd of
 all_read t n (f ∷ files) (Session l ∷ layers) of o = absurd of.0
 all_read t n (f ∷ files) (Read l ∷ layers) of o = (of.0.reads t o.0.within o.0.most o.0.reads, all_read t (n + 1) files layers of.1 o.1)
 
-placed_apart : (t : Trace) (n : ℕ) (files : List LinkedFile) → 0 < n → AllByRecursion (λ f. f.number ≢ 0) (placed_from t n files)
+pub placed_apart : (t : Trace) (n : ℕ) (files : List LinkedFile) → 0 < n → AllByRecursion (λ f. f.number ≢ 0) (placed_from t n files)
 placed_apart t n [] some = tt
 placed_apart t n (f ∷ files) some = ((λ e. let never : n ≡ 0 = e in absurd (omega arith)), placed_apart t (n + 1) files (omega arith))
 
@@ -236,7 +236,7 @@ module _ (trace : Trace) (leaf : LinkedFile) (others : List LinkedFile) (attache
   abbrev clean : ℕ → Bool
   clean = either (is_dirty z []) (λ s. false)
 
-  linked : IsChainOf leaf.name [] (members_of chain)
+  pub linked : IsChainOf leaf.name [] (members_of chain)
   linked = record {
     named = attached.each.0.name;
     leads = attached.in_use;
@@ -245,10 +245,10 @@ module _ (trace : Trace) (leaf : LinkedFile) (others : List LinkedFile) (attache
     few = let count : length (members_of chain) ≡ length (leaf ∷ others) = placed_count trace 0 (leaf ∷ others) in omega arith;
   }
 
-  served : IsServedChain z opening [] leaf.name [] chain trace
+  pub served : IsServedChain z opening [] leaf.name [] chain trace
   served = chains_begin.served z leaf.name [] chain trace linked (all_kept trace 0 (leaf ∷ others) attached.each)
 
-  whole : (s : ℕ) → s < leaf.parts.geometry.sectors → is_some (seen_in chain s) ≡ true
+  pub whole : (s : ℕ) → s < leaf.parts.geometry.sectors → is_some (seen_in chain s) ≡ true
   whole = owned trace 0 (leaf ∷ others) leaf.parts.geometry line attached.each numbered (one_geometry leaf others leaf.parts.geometry refl line)
 
   tight : (among : ℕ → Bool) → LooseAtTop among chain
@@ -271,7 +271,7 @@ module _ (trace : Trace) (leaf : LinkedFile) (others : List LinkedFile) (attache
     course = subst (λ o. IsCourse z (λ n. n == 0) layers o top (plain rest)) (sym no_merge) tt;
     held = subst (λ o. AreHeld o layers.below.items trace top rest) (sym none) ((λ s. refl), read);
     whole = whole;
-    synced = all_synced trace 0 (leaf ∷ others) attached.each;
+    synced = all_synced (λ n. n == 0) trace 0 (leaf ∷ others) attached.each;
     written = subst (λ o. IfSome o (λ l. ((0 == 0) ≡ true) × AreWritten (λ n. n == 0) layers.below.items)) (sym none) tt;
     still = λ other none. refl;
     past = EachMoment-now (OpensToPrefix z opening [] (λ s. false) leaf.name) trace (prefixes_stay.broken z opening [] (λ s. false) leaf.name trace rests);
@@ -307,7 +307,7 @@ module _ (trace : Trace) (leaf : LinkedFile) (others : List LinkedFile) (attache
       course = subst (λ o. IsCourse z (λ n. n == 0) layers o next (plain rest)) (sym no_merge) tt;
       held = subst (λ o. AreHeld o layers.below.items now next rest) (sym is) (serves, read);
       whole = whole;
-      synced = all_synced trace 0 (leaf ∷ others) attached.each;
+      synced = all_synced (λ n. n == 0) trace 0 (leaf ∷ others) attached.each;
       written = subst (λ o. IfSome o (λ l. ((0 == 0) ≡ true) × AreWritten (λ n. n == 0) layers.below.items)) (sym is) (refl, none_written 1 others layers.below.items (omega arith) of);
       still = λ other none. phase_others 0 Goes trace now over.phase other (λ same. let never : true ≡ false = ap (λ n. n == 0) (sym same) ∙ none in cc);
       past = EachMoment-weaken (EachOpens leaf.name clean opening) (OpensToPrefix z opening [] (λ s. false) leaf.name) trace now (λ t opens. prefixes_stay.broken z opening [] (λ s. false) leaf.name t opens) goes.moments;

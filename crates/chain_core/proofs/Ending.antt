@@ -32,7 +32,7 @@ use Rattle.chain_core.specs.declared.layers.Layers.{Layers}
 use Rattle.chain_core.specs.Answering.{EachOpensNow, EndsTold, HasClosed, HasEnded, HasEndedWhole}
 use Rattle.chain_core.specs.Ending.{AreAllReady, AreNumbered, EndsOn, EndsOnTold, HasEndedFile, IsEnding, IsInSession, SomeChangeFailed}
 use Rattle.chain_core.specs.Sessions.{AreApart, AreReady, IsLow}
-use Rattle.chain_core.specs.States.{AreHeld, AreWritten, IsLoose, IsServing, Rest, State, dirty_now, disk_now, files_of, is_session, merging, others_of, plain, sector_of}
+use Rattle.chain_core.specs.States.{AreHeld, AreWritten, IsLoose, IsServing, Rest, State, dirty_now, disk_now, files_of, is_session, merging, others_of, plain, sector_of, WasSynced}
 use Rattle.chain_core.proofs.Concluding.{both_told, same_told}
 use Rattle.chain_core.proofs.Putting.{apart_around}
 use Rattle.chain_core.proofs.Rests.{opens_now}
@@ -206,7 +206,7 @@ module _ (v : State) (layers : List FileLayer) (x : FileLayer) (first : List Pla
     abbrev stays : EachOpensNow v trace now × IsServed (sector_of v) v.opening v.history v.leaf v.retired (files_of v) now
     stays = file_stays (sector_of v) v.opening v.history v.leaf (dirty_now v) v.retired v.top v.rest (v.top ∷ first) f last trace now (ap (λ (c : List Placed). v.top ∷ c) parted) is.once is.served is.loose phase
 
-    one_still : (other : ℕ) → v.writes other ≡ false → file_of now other ≡ file_of v.began other
+    one_still : (other : ℕ) → v.writes other ≡ false → file_of now other ≡ file_of v.since other
     one_still other none = phase_others f.number (ShowsFile f) trace now phase other (λ same. let never : true ≡ false = sym (written_own ∙ session) ∙ ap v.writes (sym same) ∙ none in cc) ∙ is.still other none
 
     end_goes_on : HasEnded v trace now
@@ -368,15 +368,15 @@ all_ended v now once served ended =
       disk = ap disk_of same ∙ served.disk;
     }) ((λ s clean. refl), none_loose (others_of v.rest))
 
--- and nothing of any is unsynced: those that it couldn't change are as they were when it began
-all_synced : (writes : ℕ → Bool) (began now : Trace) → ((other : ℕ) → writes other ≡ false → file_of now other ≡ file_of began other) → (files : List Placed) → AllByRecursion (λ f. is_synced (file_of began f.number) ≡ true) files
+-- and nothing of any is unsynced: those that it couldn't change are as they were then
+all_synced : (writes : ℕ → Bool) (since now : Trace) → ((other : ℕ) → writes other ≡ false → file_of now other ≡ file_of since other) → (files : List Placed) → AllByRecursion (WasSynced writes since) files
     → AllByRecursion (HasEndedFile writes now) files → AllByRecursion (λ f. is_synced (file_of now f.number) ≡ true) files
-all_synced writes began now still [] synced ended = tt
-all_synced writes began now still (f ∷ files) synced ended = (by_writes (writes f.number) refl, all_synced writes began now still files synced.1 ended.1)
+all_synced writes since now still [] synced ended = tt
+all_synced writes since now still (f ∷ files) synced ended = (by_writes (writes f.number) refl, all_synced writes since now still files synced.1 ended.1)
   where
     by_writes : (b : Bool) → writes f.number ≡ b → is_synced (file_of now f.number) ≡ true
     by_writes true is = ended.0.synced is
-    by_writes false is = ap is_synced (still f.number is) ∙ synced.0
+    by_writes false is = ap is_synced (still f.number is) ∙ synced.0 is
 
 -- what the leaf's layer tells of its end
 record EndsLeaf (leaf : Layer) (result : Result (Unit {0}) StoreFault) (trace now : Trace) : Type 0 where
@@ -397,7 +397,7 @@ module _ (v : State) (leaf : Layer) (trace mid now : Trace) (moments : EachOpens
   abbrev top_stays : EachOpensNow v mid now × IsServed (sector_of v) v.opening v.history v.leaf v.retired (files_of v) now
   top_stays = file_stays (sector_of v) v.opening v.history v.leaf (dirty_now v) v.retired v.top v.rest [] v.top (others_of v.rest) mid now refl is.once is.served is.loose top_phase
 
-  top_still : (other : ℕ) → v.writes other ≡ false → file_of now other ≡ file_of v.began other
+  top_still : (other : ℕ) → v.writes other ≡ false → file_of now other ≡ file_of v.since other
   top_still other none = phase_others v.top.number (ShowsFile v.top) mid now top_phase other (λ same. let never : true ≡ false = sym own ∙ ap v.writes (sym same) ∙ none in cc) ∙ is.still other none
 
   chain_ends : HasEnded v trace now
@@ -417,14 +417,14 @@ module _ (v : State) (leaf : Layer) (trace mid now : Trace) (moments : EachOpens
     others_ended files ne.1 ended.1,
   )
 
-  chain_ended : AllByRecursion (λ f. is_synced (file_of v.began f.number) ≡ true) (files_of v) → HasEndedLeaf leaf mid now → HasEndedWhole true v trace now
+  chain_ended : AllByRecursion (WasSynced v.writes v.since) (files_of v) → HasEndedLeaf leaf mid now → HasEndedWhole true v trace now
   chain_ended synced done =
       let far = (apart_around mid [] v.top (others_of v.rest) (all_right (IsKept mid) v.retired (files_of v) is.served.kept) (names_behind v.retired (files_of v) is.served.linked.once)).1 in
       let all : AllByRecursion (HasEndedFile v.writes now) (files_of v) = (record { kept = done.kept v.top serves; synced = λ writes. done.synced v.top serves }, others_ended (others_of v.rest) far is.ended) in
       record {
         ended = chain_ends;
         all = all_ended v now (still_once v.top.number (ShowsFile v.top) mid now top_phase is.once) top_stays.1 all;
-        synced = λ session. all_synced v.writes v.began now top_still (files_of v) synced all;
+        synced = λ session. all_synced v.writes v.since now top_still (files_of v) synced all;
       }
 
 -- ---- a session's end

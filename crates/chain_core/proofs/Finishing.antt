@@ -28,7 +28,7 @@ use Rattle.layer_session.proofs.Standing.{layers_stand}
 use Rattle.chain_core.specs.declared.layers.Layers.{Layers}
 use Rattle.chain_core.specs.declared.layers.Underway.{Underway}
 use Rattle.chain_core.specs.Answering.{EachOpensNow}
-use Rattle.chain_core.specs.States.{AreHeld, AreWritten, IsCourse, IsServing, IsUnder, Merging, Relinks, State, dirty_now, is_session, merging, plain, seen_in}
+use Rattle.chain_core.specs.States.{AreHeld, AreWritten, IsCourse, IsServing, IsUnder, Merging, Relinks, State, dirty_now, is_session, merging, plain, seen_in, WasSynced}
 use Rattle.chain_core.proofs.Putting.{apart_around, have_all, have_parts}
 use Rattle.chain_core.proofs.Steps.{all_right, names_behind, phase_beside, phase_others, still_once, still_read}
 
@@ -214,7 +214,7 @@ child_relinked v top pre child source target below m layers new u leaf p l next 
     subst (λ (c : List FileLayer). (v.writes top.number ≡ true) × AreWritten v.writes c) was (subst (λ o. IfSome o (λ leaf. (v.writes top.number ≡ true) × AreWritten v.writes layers.below.items)) is serving.written) in
     let own : v.writes (number_of (Session next)) ≡ true = ap v.writes (sym serves.number) ∙ child_written in
     let written_then : AreWritten v.writes (p ++ Session next ∷ rest) = written_with v.writes p (Session next) (Session l) rest own (written_without v.writes p (Session l) x rest written.1) in
-    let synced = subst (λ (c : List Placed). AllByRecursion (λ f. is_synced (file_of v.began f.number) ≡ true) (top ∷ c)) e serving.synced in
+    let synced = subst (λ (c : List Placed). AllByRecursion (WasSynced v.writes v.since) (top ∷ c)) e serving.synced in
     let done : IsServing new then now = record {
       once = still_once child.number Goes trace now over.phase serving.once;
       geometry = geometry ∙ serving.geometry;
@@ -224,7 +224,7 @@ child_relinked v top pre child source target below m layers new u leaf p l next 
       held = subst (λ o. AreHeld o new.below.items now top (pre ++ after ∷ target ∷ below)) (sym leaf_now) (top_stands, subst (λ (c : List FileLayer). HaveFiles c now (pre ++ after ∷ target ∷ below)) (sym items) stand);
       whole = λ s inside. whole_without (top ∷ pre) child after source target below s refl (λ bytes owned. all s bytes inside owned)
           (subst (λ (c : List Placed). is_some (seen_in (top ∷ c) s) ≡ true) e (serving.whole s inside));
-      synced = all_without (λ f. is_synced (file_of v.began f.number) ≡ true) (top ∷ pre) child after source (target ∷ below) (λ h. h) synced;
+      synced = all_without (WasSynced v.writes v.since) (top ∷ pre) child after source (target ∷ below) (λ h. h) synced;
       written = subst (λ o. IfSome o (λ leaf. (v.writes top.number ≡ true) × AreWritten v.writes new.below.items)) (sym leaf_now) (written.0, subst (AreWritten v.writes) (sym items) written_then);
       still = λ n none. phase_others child.number Goes trace now over.phase n (λ same. let never : true ≡ false = sym child_written ∙ ap v.writes (sym same) ∙ none in cc) ∙ serving.still n none;
       past = past_goes_on.quiet z v.opening v.history (λ s. false) v.leaf v.began trace now serving.past on.moments;

@@ -32,7 +32,7 @@ use Rattle.merge_plan.specs.declared.drawing.NewIds.{NewIds}
 
 -- ---- the third of three identifiers
 
-passed : {A : Type 0} (b : Bool) (x : A) (rest : Option A) → cond b (Some x) rest ≡ None → (b ≡ false) × (rest ≡ None)
+pub passed : {A : Type 0} (b : Bool) (x : A) (rest : Option A) → cond b (Some x) rest ≡ None → (b ≡ false) × (rest ≡ None)
 passed true x rest h = absurd (let never : ◌≡◌ {A = Option _} (Some x) None = h in cc)
 passed false x rest h = (refl, h)
 
@@ -49,10 +49,10 @@ third_new known a b c h =
     let others = or_parts (same_id c b) _ fit.1 in
     (fit.0, (or_parts (same_id c a) _ others.1).1)
 
-any_left : (p : List ℕ → Bool) (a b : List (List ℕ)) → list_any p (a ++ b) ≡ false → list_any p a ≡ false
+pub any_left : (p : List ℕ → Bool) (a b : List (List ℕ)) → list_any p (a ++ b) ≡ false → list_any p a ≡ false
 any_left p a b h = (or_parts (list_any p a) (list_any p b) (sym (list_any-append p a b) ∙ h)).0
 
-any_right : (p : List ℕ → Bool) (a b : List (List ℕ)) → list_any p (a ++ b) ≡ false → list_any p b ≡ false
+pub any_right : (p : List ℕ → Bool) (a b : List (List ℕ)) → list_any p (a ++ b) ≡ false → list_any p b ≡ false
 any_right p a b h = (or_parts (list_any p a) (list_any p b) (sym (list_any-append p a b) ∙ h)).1
 
 -- ---- places of the log
@@ -118,18 +118,15 @@ no_pages : (bytes : List ℕ) → with_pages [] bytes ≡ bytes
 unfolding with_pages with_updates
 no_pages bytes = refl
 
-can_serve : (trace : Trace) (leaf : LinkedFile) (others : List LinkedFile) (known : List (List ℕ)) (ids : NewIds) → IsAsOpened trace 0 leaf → IsServed leaf → known ≡ shown_from trace 0 (leaf ∷ others)
-    → first_unfit known (ids.file_write ∷ ids.data_write ∷ ids.log ∷ []) ≡ None → CanServe leaf.parts ids.log 0 trace
-can_serve trace leaf others known ids o numbered is fit =
-    let bytes = seen (file_of trace 0) in
-    let h = leaf.parts.header in
-    let same = (are_numbers o.reads.header bytes leaf.parts o.reads.numbers).1 in
-    let new = third_new known ids.file_write ids.data_write ids.log fit in
-    let all : list_any (same_id ids.log) (shown leaf.parts bytes ++ shown_from trace 1 others) ≡ false = subst (λ k. list_any (same_id ids.log) k ≡ false) is new.1 in
-    let mine = any_left (same_id ids.log) (shown leaf.parts bytes) (shown_from trace 1 others) all in
+-- an identifier that the file doesn't show lets its session begin
+pub serve_fresh : (trace : Trace) (n : ℕ) (file : LinkedFile) (id : List ℕ) → IsAsOpened trace n file → IsServed file → is_zero_id id ≡ false → list_any (same_id id) (shown file.parts (seen (file_of trace n))) ≡ false → CanServe file.parts id n trace
+serve_fresh trace n file id o numbered named mine =
+    let bytes = seen (file_of trace n) in
+    let h = file.parts.header in
+    let same = (are_numbers o.reads.header bytes file.parts o.reads.numbers).1 in
     let heads = header_ids (held_header bytes 1) ++ header_ids (held_header bytes 2) in
     let places = place_ids bytes h.log_at (h.log_len / 4096) in
-    let none = any_right (same_id ids.log) heads places (any_left (same_id ids.log) (heads ++ places) (locator_ids leaf.parts.locator) mine) in
+    let none = any_right (same_id id) heads places (any_left (same_id id) (heads ++ places) (locator_ids file.parts.locator) mine) in
     let held : bytes ≡ o.reads.settled = o.reads.is ∙ no_pages o.reads.settled in
     record {
       within = o.within;
@@ -139,11 +136,18 @@ can_serve trace leaf others known ids o numbered is fit =
         unsealed = o.unsealed;
         head = subst (λ (x : Header). read_head bytes ≡ Ok x) (sym same) o.reads.head;
         settled = subst (λ (x : Header). Settles x bytes (Ok bytes)) (sym same) (subst (λ (s : List ℕ). Settles o.reads.header bytes (Ok s)) (sym held) o.reads.settles);
-        named = new.0;
-        fresh = no_head ids.log bytes h.log_at h.log_len (megabytes h.log_len numbered.numbers.log.megabytes).0 none;
+        named = named;
+        fresh = no_head id bytes h.log_at h.log_len (megabytes h.log_len numbered.numbers.log.megabytes).0 none;
       };
       reads = o.reads;
     }
+
+can_serve : (trace : Trace) (leaf : LinkedFile) (others : List LinkedFile) (known : List (List ℕ)) (ids : NewIds) → IsAsOpened trace 0 leaf → IsServed leaf → known ≡ shown_from trace 0 (leaf ∷ others)
+    → first_unfit known (ids.file_write ∷ ids.data_write ∷ ids.log ∷ []) ≡ None → CanServe leaf.parts ids.log 0 trace
+can_serve trace leaf others known ids o numbered is fit =
+    let new = third_new known ids.file_write ids.data_write ids.log fit in
+    let all : list_any (same_id ids.log) (shown leaf.parts (seen (file_of trace 0)) ++ shown_from trace 1 others) ≡ false = subst (λ k. list_any (same_id ids.log) k ≡ false) is new.1 in
+    serve_fresh trace 0 leaf ids.log o numbered new.0 (any_left (same_id ids.log) (shown leaf.parts (seen (file_of trace 0))) (shown_from trace 1 others) all)
 
 pub fresh : (files : List LinkedFile) (disk : Disk) (before now : Option (List (List ℕ))) (ids : NewIds) (leaf : LinkedFile) (others : List LinkedFile) → CanStart files disk → JudgesIds files disk before now None ids
     → files ≡ leaf ∷ others → WhereTold disk.told (CanServe leaf.parts ids.log 0)

@@ -15,3 +15,14 @@ mod Ending
 pub mod Places
 pub mod TargetPuts
 mod Copied
+pub mod Phases
+pub mod Stages
+pub mod MergeFound
+pub mod MergePhases
+pub mod MergeServed
+pub mod MergeTold
+pub mod Spending
+pub mod MergeStages
+pub mod MergeAsked
+pub mod MergeChild
+pub mod MergeReady

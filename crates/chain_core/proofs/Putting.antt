@@ -43,7 +43,7 @@ use Rattle.table_pages.specs.declared.tables.TableParts.{TableParts}
 use Rattle.layer_session.specs.FileLayers.{table_parts}
 use Rattle.std.specs.Prelude.{option_map}
 use Rattle.std.proofs.Common.{cond, get_or, ◌-◌}
-use Rattle.chain_core.specs.States.{Relinks, child_of, child_parts, AreHeld, AreWritten, IsCourse, IsServing, IsUnder, Merging, State, dirty_now, merging, sector_of, seen_in}
+use Rattle.chain_core.specs.States.{Relinks, child_of, child_parts, AreHeld, AreWritten, IsCourse, IsServing, IsUnder, Merging, State, dirty_now, merging, sector_of, seen_in, LeavesOthers, Rest, WasSynced, disk_now, files_of, others_of, plain}
 use Rattle.chain_core.proofs.Steps.{all_right, apart, goes_over, names_behind, phase_beside, phase_others, still_once, still_read}
 
 -- ---- one file among others
@@ -205,9 +205,9 @@ module _ (v : State) (top : Placed) (above : List Placed) (source target : Place
         course = subst (λ o. IsCourse (sector_of here) v.writes new o top (merging above source other below (record m { marks = marks }))) (sym merge) under;
         held = held_on new next other P now phase leaf_now items serves;
         whole = λ s inside. there_on s (serving.whole s inside);
-        synced = subst (AllByRecursion (λ f. is_synced (file_of v.began f.number) ≡ true)) (ap (λ (c : List Placed). top ∷ c) (parted other))
-            (all_split (λ f. is_synced (file_of v.began f.number) ≡ true) (top ∷ front) target other below (λ h. ap (λ (n : ℕ). is_synced (file_of v.began n)) number ∙ h)
-            (subst (AllByRecursion (λ f. is_synced (file_of v.began f.number) ≡ true)) (ap (λ (c : List Placed). top ∷ c) (sym (parted target))) serving.synced));
+        synced = subst (AllByRecursion (WasSynced v.writes v.since)) (ap (λ (c : List Placed). top ∷ c) (parted other))
+            (all_split (WasSynced v.writes v.since) (top ∷ front) target other below (λ h w. ap (λ (n : ℕ). is_synced (file_of v.since n)) number ∙ h (ap v.writes (sym number) ∙ w))
+            (subst (AllByRecursion (WasSynced v.writes v.since)) (ap (λ (c : List Placed). top ∷ c) (sym (parted target))) serving.synced));
         written = subst (λ o. IfSome o (λ leaf. (v.writes top.number ≡ true) × AreWritten v.writes new.below.items)) (sym leaf_now)
             ((subst (λ o. IfSome o (λ leaf. (v.writes top.number ≡ true) × AreWritten v.writes layers.below.items)) is serving.written).0, all_written);
         still = λ n none. phase_others target.number P trace now phase n (λ same. let never : true ≡ false = sym written ∙ ap v.writes (sym same) ∙ none in cc) ∙ serving.still n none;

@@ -25,7 +25,7 @@ use Rattle.chain_core.specs.declared.layers.Layers.{Layers}
 use Rattle.chain_core.specs.declared.layers.Underway.{Underway}
 use Rattle.chain_core.specs.Laws.{SessionsAreHeld, changed_pages, waiting}
 use Rattle.chain_core.specs.Sessions.{AreApart}
-use Rattle.chain_core.specs.States.{AreHeld, AreWritten, IsCourse, IsLoose, Rest, State, files_of, merging, others_of, plain, sector_of}
+use Rattle.chain_core.specs.States.{AreHeld, AreWritten, IsCourse, IsLoose, Rest, State, files_of, merging, others_of, plain, sector_of, IsServing, WasSynced}
 use Rattle.chain_core.proofs.Steps.{all_right, apart, names_behind, numbers_apart}
 
 -- ---- one file
@@ -147,8 +147,8 @@ tight_others z writes dirty layers (Some u) top (merging above source target bel
 
 -- ---- the files below the leaf
 
-all_held : (v : State) (trace : Trace) (pages : ℕ → List Page) (layers : List FileLayer) (files : List Placed) → IsNamedOnce trace → ReadsAreImages trace → ((other : ℕ) → v.writes other ≡ false → file_of trace other ≡ file_of v.began other)
-    → HaveFiles layers trace files → AllByRecursion (IsKept trace) files → AllByRecursion (λ f. is_synced (file_of v.began f.number) ≡ true) files → AreWritten v.writes layers → AllByRecursion (IsTight v.writes) files
+all_held : (v : State) (trace : Trace) (pages : ℕ → List Page) (layers : List FileLayer) (files : List Placed) → IsNamedOnce trace → ReadsAreImages trace → ((other : ℕ) → v.writes other ≡ false → file_of trace other ≡ file_of v.since other)
+    → HaveFiles layers trace files → AllByRecursion (IsKept trace) files → AllByRecursion (WasSynced v.writes v.since) files → AreWritten v.writes layers → AllByRecursion (IsTight v.writes) files
     → AllByRecursion (Fits pages) layers → AllByRecursion (IsIn (held_files trace pages)) (members_of files)
 all_held v trace pages [] [] once images still have kept synced written tight fits = tt
 all_held v trace pages [] (p ∷ files) once images still have kept synced written tight fits = absurd have
@@ -157,7 +157,7 @@ all_held v trace pages (Session l ∷ layers) (p ∷ files) once images still ha
     (served_is_held l trace pages p once have.0 fits.0, all_held v trace pages layers files once images still have.1 kept.1 synced.1 written.1 tight.1 fits.1)
 all_held v trace pages (Read l ∷ layers) (p ∷ files) once images still have kept synced written tight fits =
     let unwritten : v.writes p.number ≡ false = ap v.writes have.0.number ∙ written.0 in (
-      kept_is_held trace pages p once images kept.0 (ap is_synced (still p.number unwritten) ∙ synced.0) (tight.0 unwritten) (ap pages have.0.number ∙ fits.0),
+      kept_is_held trace pages p once images kept.0 (ap is_synced (still p.number unwritten) ∙ synced.0 unwritten) (tight.0 unwritten) (ap pages have.0.number ∙ fits.0),
       all_held v trace pages layers files once images still have.1 kept.1 synced.1 written.1 tight.1 fits.1,
     )
 

@@ -10,3 +10,4 @@ pub mod Laws
 pub mod Merging
 pub mod Ending
 pub mod Copying
+pub mod MergeStarting

@@ -63,6 +63,7 @@ started trace leaf others parts = record {
   history = [];
   began = trace;
   writes = λ number. number == 0;
+  since = trace;
 }
 
 -- each image of each moment opens, from the leaf's name, to the disk of the files as they were attached

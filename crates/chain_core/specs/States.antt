@@ -52,8 +52,10 @@ pub record State : Type 0 where
   pub opening : Disk
   pub history : History
   pub began : Trace
-  -- the files that it may change, by their numbers
+  -- the files that it may change, by their numbers, and the moment since which no other file was changed: when it began, or when its
+  -- merge was prepared
   pub writes : ℕ → Bool
+  pub since : Trace
 
 -- the files of the chain, from the leaf to the base
 abbrev pub files_of : State → List Placed
@@ -114,9 +116,13 @@ abbrev pub IsLoose : (ℕ → Bool) → Placed → Rest → Type 0
 IsLoose is_dirty top (plain others) = LooseAtTop is_dirty (top ∷ others)
 IsLoose is_dirty top (merging above source target below m) = LooseInMerge is_dirty (top ∷ above) source target below
 
--- no file was changed since the session began but those that it may change
+-- no file was changed since that moment but those that it may change
 abbrev pub LeavesOthers : State → Trace → Type 0
-LeavesOthers v trace = (other : ℕ) → v.writes other ≡ false → file_of trace other ≡ file_of v.began other
+LeavesOthers v trace = (other : ℕ) → v.writes other ≡ false → file_of trace other ≡ file_of v.since other
+
+-- nothing of a file was unsynced then, if it is none of them
+abbrev pub WasSynced : (ℕ → Bool) → Trace → Placed → Type 0
+WasSynced writes since file = writes file.number ≡ false → is_synced (file_of since file.number) ≡ true
 
 -- of some files those in a session are the ones that it may change
 abbrev pub AreWritten : (ℕ → Bool) → List FileLayer → Type 0
@@ -171,8 +177,8 @@ pub record IsServing (layers : Layers) (v : State) (trace : Trace) : Type 0 wher
   pub held : AreHeld layers.leaf layers.below.items trace v.top (others_of v.rest)
   -- each sector of the disk is in one of the files
   pub whole : (s : ℕ) → s < v.top.member.ties.geometry.sectors → is_some (seen_in (files_of v) s) ≡ true
-  -- nothing of any file was unsynced when it began, and none that is only read has changed since
-  pub synced : AllByRecursion (λ f. is_synced (file_of v.began f.number) ≡ true) (files_of v)
+  -- nothing of a file that is only read was unsynced, and it hasn't changed since
+  pub synced : AllByRecursion (WasSynced v.writes v.since) (files_of v)
   pub written : IfSome layers.leaf (λ leaf. (v.writes v.top.number ≡ true) × AreWritten v.writes layers.below.items)
   pub still : LeavesOthers v trace
   pub past : EachOpensToPrefix (sector_of v) v.opening v.history (λ s. false) v.leaf v.began trace

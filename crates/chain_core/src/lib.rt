@@ -6,6 +6,7 @@ mod chain;
 mod copying;
 mod laws;
 mod layers;
+mod merge_start;
 mod starting;
 
 pub use answer::Answer;

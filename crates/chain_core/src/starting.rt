@@ -19,13 +19,13 @@ use store_model::{Ids, SealFault, Store, StoreFault};
 use vx_base::{Guid, NoRoom};
 
 /// The greatest number of a header from which a session's own numbers have room.
-const MOST_NUMBER: u64 = u64::MAX - (1 << 32) + 1;
+pub(crate) const MOST_NUMBER: u64 = u64::MAX - (1 << 32) + 1;
 
 /// How many pages of the leaf's tables are kept in memory.
-const LEAF_PAGES: u32 = 256;
+pub(crate) const LEAF_PAGES: u32 = 256;
 
 /// How many of each other file's.
-const OTHER_PAGES: u32 = 64;
+pub(crate) const OTHER_PAGES: u32 = 64;
 
 /// What a session is for.
 #[derive(Clone, Copy, Debug, PartialEq, Eq)]
@@ -121,7 +121,11 @@ fn choose_ids<S: Store, I: Ids>(
 }
 
 // Layers of files that are only read, of which the first has this number in the store.
-fn layers_of(alloc: Global, first: u32, files: &[LinkedFile]) -> Result<Vec<FileLayer>, NoRoom>
+pub(crate) fn layers_of(
+    alloc: Global,
+    first: u32,
+    files: &[LinkedFile],
+) -> Result<Vec<FileLayer>, NoRoom>
     requires few { first + length files.now ≤ 64 }
     requires served { All IsServed files.now }
     ensures { IfOk result (λ layers. AreReadOf first files.now layers.items) }

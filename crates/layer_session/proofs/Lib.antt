@@ -22,13 +22,14 @@ pub mod Entries
 pub mod Failing
 pub mod Under
 pub mod Ending
+mod Closed
 pub mod Pages
 pub mod Entered
 mod Placing
 mod Turning
 mod Updated
 mod Updates
-mod PagesTurned
+pub mod PagesTurned
 pub mod Leaving
 mod Chunks
 pub mod SameTables

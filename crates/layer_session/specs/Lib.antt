@@ -4,6 +4,7 @@ pub mod Planning
 pub mod Keeping
 pub mod Calls
 pub mod Begins
+pub mod Closes
 pub mod Reading
 pub mod Steps
 pub mod Prepared

@@ -117,6 +117,7 @@ impl Layer {
         ensures served { IfOk result (λ l. WhereBothTold (HasBegun parts.now ids file l) (S.disk store.old).told (S.disk store.new).told) }
         ensures ready { IfOk result (λ l. IsReady l (S.disk store.new)) }
         ensures parts { IfOk result (λ l. IsOf parts.now file l) }
+        ensures empty { IfOk result (λ l. l.tables.pending ≡ []) }
         ensures counts { OnOk result (S.disk store.new ≡ record (S.disk store.old) { told = (S.disk store.new).told }) }
         ensures err { IfErr result (BeginFails file (S.disk store.old) (S.disk store.new)) }
     {

@@ -102,15 +102,15 @@ module _ (mode : Mode) (leaf : LinkedFile) (others : List LinkedFile) (parts : P
   moments_as b now past =
       past_as (sector_of later) sector_size later.opening (opening_disk trace (leaf ∷ others)) later.leaf leaf.name later.began trace later.history b now tells.over.sector tells.over.opening tells.same.leaf tells.same.began past
 
-  others_as : (now : Trace) → ((other : ℕ) → later.writes other ≡ false → file_of now other ≡ file_of later.began other) → (other : ℕ) → other ≢ 0 → file_of now other ≡ file_of trace other
-  others_as now still = still_as later.writes later.began trace now tells.same.writes tells.same.began still
+  others_as : (now : Trace) → ((other : ℕ) → later.writes other ≡ false → file_of now other ≡ file_of later.since other) → (other : ℕ) → other ≢ 0 → file_of now other ≡ file_of trace other
+  others_as now still = still_as later.writes later.since trace now tells.same.writes tells.same.since still
 
   -- where the files are only read
   unchanged_in : (now : Trace) → after.told ≡ Some now → (can_change mode ≡ false → after ≡ behind.disk) → can_change mode ≡ false → now ≡ trace
   unchanged_in now is same none = same_Some now trace (sym is ∙ ap (λ (d : Disk). d.told) (same none) ∙ stays none)
 
   -- a fault has broken the session
-  behind_break : (b : Break) → tells.broken ≡ Some b → behind.broken ≡ Some b.fault → ((other : ℕ) → later.writes other ≡ false → file_of tells.now other ≡ file_of later.began other)
+  behind_break : (b : Break) → tells.broken ≡ Some b → behind.broken ≡ Some b.fault → ((other : ℕ) → later.writes other ≡ false → file_of tells.now other ≡ file_of later.since other)
       → EachOpensToPrefix (sector_of later) later.opening later.history (is_named (sector_of later) b.call) later.leaf later.began tells.now → WhereBothTold (HaveHistory mode (leaf ∷ others) lines told closed) (Some trace) after.told
   behind_break b is broken still past =
       let e = subst (λ o. IfSome o (λ fault. (closed ≡ Err fault) × (after ≡ behind.disk))) broken ended.broken in

@@ -239,6 +239,7 @@ module _ (drive : Drive) (number : ℕ) (form : Form) (v : State) (old new : Ses
           opening = is.opening;
           began = is.began;
           writes = is.writes;
+          since = is.since;
           history = is.history;
         };
         over = record {
@@ -306,7 +307,7 @@ lines_told drive number [] [] v broken old new trace seen stands over few is = s
   later = v;
   now = trace;
   broken = broken;
-  same = record { leaf = refl; retired = refl; rest = refl; number = refl; opening = refl; began = refl; writes = refl; history = refl };
+  same = record { leaf = refl; retired = refl; rest = refl; number = refl; opening = refl; began = refl; writes = refl; since = refl; history = refl };
   told_so = none_left number v.history broken;
   over = over;
   seen = seen;

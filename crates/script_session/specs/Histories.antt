@@ -94,6 +94,7 @@ pub record IsLater (v : State) (h : History) (later : State) : Type 0 where
   pub opening : later.opening ≡ v.opening
   pub began : later.began ≡ v.began
   pub writes : later.writes ≡ v.writes
+  pub since : later.since ≡ v.since
   pub history : later.history ≡ h
 
 -- The session of a chain over this drive, with the state's history, which its recorder has if it tells it.
