@@ -10,7 +10,7 @@ use Rattle.vx_base.specs.declared.parts.Parts.{Parts}
 use Rattle.vhdx_format.specs.FileParts.{HasNumbers, shape_of}
 use Rattle.vhdx_format.specs.Layers.{HasSizes}
 use Rattle.store_model.specs.Disk.{Disk, WhereBothTold}
-use Rattle.store_model.specs.File.{is_synced, seen}
+use Rattle.store_model.specs.File.{seen}
 use Rattle.store_model.specs.Trace.{EachMoment, Trace, file_of}
 use Rattle.store_model.proofs.Spans.{EachMoment-now, EachMoment-weaken}
 use Rattle.guest_model.specs.Calls.{Disk as GuestDisk}
@@ -47,8 +47,8 @@ use Rattle.chain_core.specs.Starting.{AreReadOf, EachOpensAlike, IsOfDisk, Judge
 use Rattle.chain_core.specs.Starting.{HasBegun as HasBegunSession, IsRead as IsReadOnly}
 use Rattle.merge_plan.specs.declared.drawing.NewIds.{NewIds}
 use Rattle.chain_core.specs.declared.starting.StartRefusal.{StartRefusal}
-use Rattle.chain_core.specs.Sessions.{AreApart, AreReady, IsLow, IsMergeOf, IsReadyLeaf}
-use Rattle.chain_core.specs.States.{AreHeld, AreWritten, IsCourse, IsServing, plain, seen_in, State, WasSynced}
+use Rattle.chain_core.specs.Sessions.{AreApart, AreReady, CanRelink, IsLow, IsMergeOf, IsReadyLeaf}
+use Rattle.chain_core.specs.States.{AreHeld, AreWritten, IsCourse, IsServing, plain, seen_in, WasSynced}
 use Rattle.chain_core.proofs.Steps.{phase_others, still_once, still_read}
 
 -- ---- lists
@@ -381,6 +381,7 @@ begun_ready leaf others ids layers l before after can geometry is no_merge of ov
       below = all_readable layers.geometry after 1 others layers.below.items of there (one_geometry leaf others layers.geometry (sym geometry) can.line).1 (readers before.told after.told can.told over);
       apart = all_apart 1 others layers.below.items of;
       merge = subst (λ o. IfSome o (IsMergeOf layers.geometry layers.leaf layers.below.items)) (sym no_merge) tt;
+      relink = subst (λ o. IfSome o (CanRelink layers.leaf layers.below.items after)) (sym no_merge) tt;
     }
   where
     readers : (a b : Option Trace) → ((t : Trace) → a ≡ Some t → AreAttached (leaf ∷ others) t) → WhereBothTold (BeginsOver leaf.parts ids 0) a b
@@ -419,6 +420,7 @@ read_ready leaf others layers disk can geometry none no_merge of =
           (λ t e. (placed_from t 0 (leaf ∷ others), all_read t 0 (leaf ∷ others) layers.below.items of (can.told t e).each));
       apart = all_apart 0 (leaf ∷ others) layers.below.items of;
       merge = subst (λ o. IfSome o (IsMergeOf layers.geometry layers.leaf layers.below.items)) (sym no_merge) tt;
+      relink = subst (λ o. IfSome o (CanRelink layers.leaf layers.below.items disk)) (sym no_merge) tt;
     }
 
 -- ---- layers, one after the other

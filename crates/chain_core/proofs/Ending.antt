@@ -45,7 +45,7 @@ use Rattle.chain_core.proofs.Steps.{all_right, goes_over, names_behind, phase_ot
 both_map : (R Q : Trace → Trace → Type 0) (a b : Option Trace) → WhereBothTold R a b → ((t u : Trace) → R t u → Q t u) → WhereBothTold Q a b
 both_map R Q a b h weaker = both_told R Q a b weaker h
 
-both_then : (R S Q : Trace → Trace → Type 0) (a b c : Option Trace) → WhereBothTold R a b → WhereBothTold S b c → ((t u w : Trace) → R t u → S u w → Q t w) → WhereBothTold Q a c
+pub both_then : (R S Q : Trace → Trace → Type 0) (a b c : Option Trace) → WhereBothTold R a b → WhereBothTold S b c → ((t u w : Trace) → R t u → S u w → Q t w) → WhereBothTold Q a c
 both_then R S Q None None None r s weaker = tt
 both_then R S Q None None (Some w) r s weaker = s
 both_then R S Q None (Some u) c r s weaker = absurd r
@@ -535,15 +535,15 @@ failed_here layers x items fault old new split ready some fails = record {
 
 -- ---- what a session's end asks
 
-numbered : (x : Option ℕ) → IfSome x (λ n. n ≤ 2 ^ 63 + 1) → IfSome x (λ n. n ≤ 2 ^ 64 - 2 ^ 32)
+numbered : (x : Option ℕ) → IfSome x (λ n. n ≤ 2 ^ 63 + 3) → IfSome x (λ n. n ≤ 2 ^ 64 - 2 ^ 32)
 numbered None low = tt
 numbered (Some n) low = omega (arith, low)
 
-all_numbered : (layers : List FileLayer) → AllByRecursion (λ number. IfSome number (λ n. n ≤ 2 ^ 63 + 1)) (map log_number layers) → AreNumbered layers
+all_numbered : (layers : List FileLayer) → AllByRecursion (λ number. IfSome number (λ n. n ≤ 2 ^ 63 + 3)) (map log_number layers) → AreNumbered layers
 all_numbered [] low = tt
 all_numbered (l ∷ layers) low = (numbered (log_number l) low.0, all_numbered layers low.1)
 
-pub below_numbered : (layers : Layers) → IsLow (2 ^ 63 + 1) layers → AreNumbered layers.below.items
+pub below_numbered : (layers : Layers) → IsLow (2 ^ 63 + 3) layers → AreNumbered layers.below.items
 below_numbered layers low = all_numbered layers.below.items low.1
 
 module _ (layers : Layers) (leaf : Layer) (old : Disk) (leaf_is : layers.leaf ≡ Some leaf) (ready : AreReady layers old) where

@@ -33,11 +33,12 @@ use Rattle.layer_session.proofs.Standing.{layers_stand}
 use Rattle.chain_core.specs.declared.layers.Layers.{Layers}
 use Rattle.chain_core.specs.Reading.{AddsPart, HasOnlyRead, of_read, of_session}
 use Rattle.chain_core.specs.declared.layers.Underway.{Underway}
-use Rattle.chain_core.specs.Sessions.{AreApart, AreReady, IsMergeOf, IsReadyLeaf}
+use Rattle.chain_core.specs.Sessions.{AreApart, AreReady, CanRelink, IsMergeOf, IsReadyLeaf}
 use Rattle.chain_core.specs.States.{AreHeld, State, IsServing, disk_now, files_of, sector_of, seen_in, others_of, AreWritten, IsCourse, Rest, child_parts, merging, plain}
 use Rattle.layer_session.proofs.FileLayers.{file_layers_stand}
 use Rattle.chain_core.proofs.Steps.{LeafStep, written_on, course_on}
-use Rattle.chain_core.proofs.Standing.{leaf_of, merge_on}
+use Rattle.chain_core.proofs.Standing.{leaf_of, merge_on, relink_on}
+use Rattle.chain_core.proofs.Turning.{all_read, all_resting, relink_same, top_resting, turn_read}
 
 -- ---- the store stays but for its counts of failed reads
 
@@ -127,6 +128,7 @@ leaf_reads old new leaf next file before after answer step same done failed read
         below = subst (λ b. AreReadyFiles new.geometry after b.items) (sym step.below) (subst (λ (g : Geometry). AreReadyFiles g after old.below.items) (sym step.geometry) below);
         apart = subst (λ b. AreApart (file_numbers b.items)) (sym step.below) ready.apart;
         merge = merge_on old new leaf next step ready.merge;
+        relink = relink_on old new leaf next before after step (turn_read before after leaf next s.told same) (all_resting before after old.below.items s.told) ready.relink;
       };
       serves = λ trace is v serving.
           let held : Serves leaf trace v.top × HaveFiles old.below.items trace (others_of v.rest) = subst (λ o. AreHeld o old.below.items trace v.top (others_of v.rest)) step.was serving.held in
@@ -242,6 +244,11 @@ below_reads old new was now before after answer w g l m n same numbers done fail
             (subst (λ (k : Geometry). IfSome old.merge (IsMergeOf k new.leaf new.below.items)) (sym g)
             (subst (λ o. IfSome old.merge (IsMergeOf old.geometry o new.below.items)) (sym l)
             (subst (λ (b : List FileLayer). IfSome old.merge (IsMergeOf old.geometry old.leaf b)) (sym n) (merge_same old.geometry old.leaf old.below.items now old.merge numbers' ready.merge))));
+        relink = subst (λ o. IfSome o (CanRelink new.leaf new.below.items after)) (sym m)
+            (subst (λ o. IfSome old.merge (CanRelink o new.below.items after)) (sym l)
+            (subst (λ (b : List FileLayer). IfSome old.merge (CanRelink old.leaf b after)) (sym n)
+            (relink_same before after old.leaf old.leaf old.below.items now old.merge (top_resting before after old.leaf s.told)
+            (all_read old.geometry before after old.below.items now numbers'.parts s.told ready.below (λ t files is. same'.have t files is)) ready.relink)));
       };
       serves = λ trace is v serving.
           let held : AreHeld old.leaf now trace v.top (others_of v.rest) = held_beside old.leaf old.below.items now trace v (λ files. same'.have trace files is) serving.held in

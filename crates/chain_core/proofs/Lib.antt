@@ -1,8 +1,13 @@
 mod Rests
 mod Putting
-mod Finishing
+mod Relinked
 pub mod Steps
 pub mod Leafs
+mod Turning
+mod Replaced
+mod Children
+mod Exchanged
+mod Finishes
 pub mod Standing
 pub mod Concluding
 pub mod Holding
@@ -26,3 +31,8 @@ pub mod MergeStages
 pub mod MergeAsked
 pub mod MergeChild
 pub mod MergeReady
+pub mod MergeLayers
+pub mod MergeBegun
+pub mod MergeSplit
+pub mod MergePlanned
+pub mod MergeRelinks

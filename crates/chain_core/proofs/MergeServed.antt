@@ -70,10 +70,10 @@ third_true a b false h = absurd (cc)
 pub unwritten : (m : MergeFiles) (k : ℕ) → k ≢ 0 → k ≢ child_place m → k ≢ target_place m → is_written m k ≡ false
 unwritten m k a b c = three_false (k == 0) (k == child_place m) (k == target_place m) (ne_eqb k 0 a) (ne_eqb k (child_place m) b) (ne_eqb k (target_place m) c)
 
-child_written : (m : MergeFiles) → is_written m (child_place m) ≡ true
+pub child_written : (m : MergeFiles) → is_written m (child_place m) ≡ true
 child_written m = second_true (child_place m == 0) (child_place m == child_place m) (child_place m == target_place m) (eq-eqb (child_place m) (child_place m) refl)
 
-target_written : (m : MergeFiles) → is_written m (target_place m) ≡ true
+pub target_written : (m : MergeFiles) → is_written m (target_place m) ≡ true
 target_written m = third_true (target_place m == 0) (target_place m == child_place m) (target_place m == target_place m) (eq-eqb (target_place m) (target_place m) refl)
 
 leaf_written : (m : MergeFiles) → is_written m 0 ≡ true
@@ -111,7 +111,7 @@ synced_on writes t0 now n (f ∷ files) beside o = ((λ w. ap is_synced (beside 
 
 -- ---- lists
 
-all_both : {A : Type 0} (P : A → Type 0) (a b : List A) → AllByRecursion P a → AllByRecursion P b → AllByRecursion P (a ++ b)
+pub all_both : {A : Type 0} (P : A → Type 0) (a b : List A) → AllByRecursion P a → AllByRecursion P b → AllByRecursion P (a ++ b)
 all_both P [] b first second = second
 all_both P (x ∷ a) b first second = (first.0, all_both P a b first.1 second)
 

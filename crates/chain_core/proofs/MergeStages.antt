@@ -57,7 +57,7 @@ module _ (m : MergeFiles) (ids : MergeIds) (twice : List Page) (d : Disk) (can :
   found = are_found m d can
 
   -- a file that was found lets its session begin still
-  serve_on : (parts : Parts) (log : List ℕ) (n : ℕ) (R : Trace → Trace → Type 0) → ((a b : Trace) → R a b → IsBeside n a b) → (o : Option Trace) → WhereBothTold R d.told o → WhereTold d.told (CanServe parts log n) → WhereTold o (CanServe parts log n)
+  pub serve_on : (parts : Parts) (log : List ℕ) (n : ℕ) (R : Trace → Trace → Type 0) → ((a b : Trace) → R a b → IsBeside n a b) → (o : Option Trace) → WhereBothTold R d.told o → WhereTold d.told (CanServe parts log n) → WhereTold o (CanServe parts log n)
   serve_on parts log n R beside o r can' =
       told_last (λ a b. CanServe parts log n b) (CanServe parts log n) (λ a b c. c) d.told o
       (told_from (CanServe parts log n) R (λ a b. CanServe parts log n b) (λ a b c x. serve_beside parts log n a b (beside a b x) c) d.told o can' r)

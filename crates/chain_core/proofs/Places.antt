@@ -18,11 +18,11 @@ use Rattle.layer_session.specs.declared.file_layer.FileLayer.{FileLayer}
 use Rattle.layer_session.specs.declared.file_layer.FileLayer.TheVariants.{Read, Session}
 use Rattle.layer_session.specs.ReadOnly.{SomeReadFailed}
 use Rattle.layer_session.proofs.FileLayers.{others_stand}
-use Rattle.layer_session.specs.FileLayers.{AreReadableFiles, AreReadyFiles, AreSameFiles, FileCanBeRead, HasFile, HaveFiles, HaveSameNumbers, Hold, IsReadableFile, IsReadyFile, IsSameFile, log_number, number_of, table_parts}
+use Rattle.layer_session.specs.FileLayers.{AreReadableFiles, AreReadyFiles, AreSameFiles, FileCanBeRead, HasFile, HaveFiles, HaveSameNumbers, Hold, IsReadableFile, IsReadyFile, IsSameFile, file_numbers, log_number, number_of, table_parts}
 use Rattle.merge_core.specs.Pieces.{IsTaken}
 use Rattle.chain_core.specs.declared.layers.Layers.{Layers}
 use Rattle.chain_core.specs.declared.layers.Underway.{Underway}
-use Rattle.chain_core.specs.Copying.{Takes}
+use Rattle.chain_core.specs.Copying.{Takes, number_at_source, source_number}
 use Rattle.chain_core.specs.Merging.{IsTruePiece}
 use Rattle.chain_core.specs.Reading.{HasOnlyRead}
 use Rattle.chain_core.specs.Sessions.{AreReady, IsMergeOf}
@@ -125,6 +125,18 @@ source_reads old new u x next before after answer ready at g l m items same done
     let readable = subst (AreReadableFiles old.geometry before) at.parts (others_stand.can old.geometry before old.below.items ready.below) in
     below_reads old new (at.before ++ x ∷ at.behind) (at.before ++ next ∷ at.behind) before after answer (sym at.parts) g l m (items ∙ at.put next) (same_at old.geometry before x next same at.before at.behind readable)
     (same_numbers_at old.geometry before x next same at.before at.behind) done (some_failed x before after answer (readable_of old u before x ready at).can failed) ready
+
+number_in : (a : List FileLayer) (x : FileLayer) (b : List FileLayer) → number_of x ≡ get_or (file_numbers (a ++ x ∷ b)) (length a) 0
+number_in [] x b = refl
+number_in (l ∷ a) x b = number_in a x b
+
+-- a read that fails is one of its file
+pub whose : (layers : Layers) (u : Underway) (x : FileLayer) (before after : Disk) (answer : Result (Unit {0}) StoreFault) → layers.merge ≡ Some u → IsAt layers.below.items u.source x → IfErr answer (ReadFailed (number_of x) before after)
+    → IfErr answer (λ fault. fault.file ≡ source_number layers)
+whose layers u x before after (Ok done) merge_is at failed = tt
+whose layers u x before after (Err fault) merge_is at failed =
+    failed.of_file ∙ number_in at.before x at.behind ∙ ap (λ n. get_or (file_numbers (at.before ++ x ∷ at.behind)) n 0) at.long ∙ ap (λ (c : List FileLayer). get_or (file_numbers c) u.source 0) (sym at.parts)
+    ∙ ap (λ o. number_at_source (file_numbers layers.below.items) o) (sym merge_is)
 
 -- ---- what is taken of the source
 

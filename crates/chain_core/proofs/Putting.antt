@@ -43,7 +43,7 @@ use Rattle.table_pages.specs.declared.tables.TableParts.{TableParts}
 use Rattle.layer_session.specs.FileLayers.{table_parts}
 use Rattle.std.specs.Prelude.{option_map}
 use Rattle.std.proofs.Common.{cond, get_or, ◌-◌}
-use Rattle.chain_core.specs.States.{Relinks, child_of, child_parts, AreHeld, AreWritten, IsCourse, IsServing, IsUnder, Merging, State, dirty_now, merging, sector_of, seen_in, LeavesOthers, Rest, WasSynced, disk_now, files_of, others_of, plain}
+use Rattle.chain_core.specs.States.{Relinks, child_of, child_parts, AreHeld, AreWritten, IsCourse, IsServing, IsUnder, Merging, State, dirty_now, merging, sector_of, seen_in, WasSynced}
 use Rattle.chain_core.proofs.Steps.{all_right, apart, goes_over, names_behind, phase_beside, phase_others, still_once, still_read}
 
 -- ---- one file among others

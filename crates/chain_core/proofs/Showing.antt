@@ -25,7 +25,7 @@ use Rattle.chain_core.specs.declared.layers.Layers.{Layers}
 use Rattle.chain_core.specs.declared.layers.Underway.{Underway}
 use Rattle.chain_core.specs.Laws.{SessionsAreHeld, changed_pages, waiting}
 use Rattle.chain_core.specs.Sessions.{AreApart}
-use Rattle.chain_core.specs.States.{AreHeld, AreWritten, IsCourse, IsLoose, Rest, State, files_of, merging, others_of, plain, sector_of, IsServing, WasSynced}
+use Rattle.chain_core.specs.States.{AreHeld, AreWritten, IsCourse, IsLoose, Rest, State, files_of, merging, others_of, plain, sector_of, WasSynced}
 use Rattle.chain_core.proofs.Steps.{all_right, apart, names_behind, numbers_apart}
 
 -- ---- one file

@@ -8,17 +8,19 @@ use Rattle.table_pages.specs.declared.tables.TableParts.{TableParts}
 use Rattle.layer_session.specs.declared.file.Layer.{Layer}
 use Rattle.layer_session.specs.declared.file.LayerFault.{LayerFault}
 use Rattle.layer_session.specs.declared.file.LayerFault.TheVariants.{Read, Write, FileFull}
-use Rattle.layer_session.specs.Calls.{Fails, OnRefused, OnRoom, own_file}
+use Rattle.layer_session.specs.declared.file_layer.FileLayer.TheVariants.{Session}
+use Rattle.layer_session.specs.Calls.{Fails, HasCommitted, OnRefused, OnRoom, own_file}
 use Rattle.layer_session.specs.Keeping.{IsReady}
 use Rattle.layer_session.specs.FileLayers.{AreOthers, AreReadyFiles, LeavesOthers, file_numbers}
 use Rattle.layer_session.specs.Steps.{has_room, is_full}
 use Rattle.chain_core.specs.declared.layers.Layers.{Layers}
 use Rattle.chain_core.specs.declared.layers.Underway.{Underway}
 use Rattle.chain_model.specs.Stripes.{stripe_count}
-use Rattle.chain_core.specs.Sessions.{AreApart, AreReady, IsMergeOf, IsReadyLeaf, is_session_at}
+use Rattle.chain_core.specs.Sessions.{AreApart, AreReady, CanRelink, IsMergeOf, IsReadyLeaf, is_session_at}
 use Rattle.chain_core.specs.Answering.{LayerRoomIs, UnlessBroken, as_change}
 use Rattle.layer_session.proofs.FileLayers.{others_stand}
 use Rattle.chain_core.proofs.Steps.{LeafStep}
+use Rattle.chain_core.proofs.Turning.{AllTurnStill, KeepsTies, KeepsUnlessBroken, TurnStill, all_beside, commit_ties, relink_same, turn_kept}
 
 -- ---- the layers
 
@@ -41,9 +43,18 @@ merge_on old new leaf next step merge =
       stripes = is.stripes ∙ ap (λ (g : Geometry). stripe_count g.sector g.sectors) (sym step.geometry);
     }
 
-ready_on : (old new : Layers) (leaf next : Layer) (before after : Disk) → LeafStep old new leaf next → next.tables.parts ≡ leaf.tables.parts → AreReady old before → WhereBothTold (LeavesOthers (own_file leaf)) before.told after.told
-    → after.files ≡ before.files → IsReady next after → AreReady new after
-ready_on old new leaf next before after step parts ready others files next_ready =
+-- the pages that the merge keeps turn its child's metadata still
+pub relink_on : (old new : Layers) (leaf next : Layer) (before after : Disk) → LeafStep old new leaf next → TurnStill before after (Session leaf) (Session next) → AllTurnStill before after old.below.items old.below.items
+    → IfSome old.merge (CanRelink old.leaf old.below.items before) → IfSome new.merge (CanRelink new.leaf new.below.items after)
+relink_on old new leaf next before after step own all can =
+    subst (λ o. IfSome o (CanRelink new.leaf new.below.items after)) (sym step.merge)
+    (subst (λ o. IfSome old.merge (CanRelink o new.below.items after)) (sym step.now)
+    (subst (λ b. IfSome old.merge (CanRelink (Some next) b.items after)) (sym step.below)
+    (relink_same before after (Some leaf) (Some next) old.below.items old.below.items old.merge own all (subst (λ o. IfSome old.merge (CanRelink o old.below.items before)) step.was can))))
+
+pub ready_on : (old new : Layers) (leaf next : Layer) (before after : Disk) → LeafStep old new leaf next → next.tables.parts ≡ leaf.tables.parts → AreReady old before → WhereBothTold (LeavesOthers (own_file leaf)) before.told after.told
+    → after.files ≡ before.files → IsReady next after → WhereBothTold (KeepsTies leaf next) before.told after.told → AreReady new after
+ready_on old new leaf next before after step parts ready others files next_ready keeps =
     let l = leaf_of old leaf before step.was ready in
     let apart : AreOthers (own_file leaf) old.below.items = subst (λ (n : ℕ). AreOthers n old.below.items) (sym l.number) l.apart in
     let below : AreReadyFiles old.geometry after old.below.items = others_stand.ready (own_file leaf) old.geometry old.below.items before after ready.below apart files others in
@@ -56,6 +67,7 @@ ready_on old new leaf next before after step parts ready others files next_ready
       below = subst (λ b. AreReadyFiles new.geometry after b.items) (sym step.below) (subst (λ (g : Geometry). AreReadyFiles g after old.below.items) (sym step.geometry) below);
       apart = subst (λ b. AreApart (file_numbers b.items)) (sym step.below) ready.apart;
       merge = merge_on old new leaf next step ready.merge;
+      relink = relink_on old new leaf next before after step (turn_kept before after leaf next parts keeps) (all_beside (own_file leaf) before after old.below.items apart others) ready.relink;
     }
 
 -- how many files the store has stays
@@ -68,19 +80,21 @@ same_files file before after (Err (FileFull next)) counts fails = ap (λ (d : Di
 -- so they are ready after each call in which no change failed
 pub ready_still : (old new : Layers) (leaf next : Layer) (file : ℕ) (before after : Disk) (answer : Result (Unit {0}) LayerFault) → LeafStep old new leaf next → next.tables.parts ≡ leaf.tables.parts → AreReady old before
     → WhereBothTold (LeavesOthers (own_file leaf)) before.told after.told → OnOk answer (after ≡ record before { told = after.told }) → IfErr answer (Fails file before after)
-    → OnOk answer (IsReady next after) → OnRefused answer (IsReady next after) → UnlessBroken answer (AreReady new after)
-ready_still old new leaf next file before after (Ok t) step parts ready others counts fails is refused =
-    ready_on old new leaf next before after step parts ready others (same_files file before after (Ok t) counts fails) is
-ready_still old new leaf next file before after (Err (Read fault)) step parts ready others counts fails is refused =
-    ready_on old new leaf next before after step parts ready others (same_files file before after (Err (Read fault)) counts fails) refused
-ready_still old new leaf next file before after (Err (Write fault)) step parts ready others counts fails is refused = tt
-ready_still old new leaf next file before after (Err (FileFull k)) step parts ready others counts fails is refused =
-    ready_on old new leaf next before after step parts ready others (same_files file before after (Err (FileFull k)) counts fails) refused
+    → OnOk answer (IsReady next after) → OnRefused answer (IsReady next after) → KeepsUnlessBroken answer leaf next before.told after.told → UnlessBroken answer (AreReady new after)
+ready_still old new leaf next file before after (Ok t) step parts ready others counts fails is refused keeps =
+    ready_on old new leaf next before after step parts ready others (same_files file before after (Ok t) counts fails) is keeps
+ready_still old new leaf next file before after (Err (Read fault)) step parts ready others counts fails is refused keeps =
+    ready_on old new leaf next before after step parts ready others (same_files file before after (Err (Read fault)) counts fails) refused keeps
+ready_still old new leaf next file before after (Err (Write fault)) step parts ready others counts fails is refused keeps = tt
+ready_still old new leaf next file before after (Err (FileFull k)) step parts ready others counts fails is refused keeps =
+    ready_on old new leaf next before after step parts ready others (same_files file before after (Err (FileFull k)) counts fails) refused keeps
 
 pub ready_committed : (old new : Layers) (leaf next : Layer) (before after : Disk) (answer : Result (Unit {0}) StoreFault) → LeafStep old new leaf next → next.tables.parts ≡ leaf.tables.parts → AreReady old before
-    → WhereBothTold (LeavesOthers (own_file leaf)) before.told after.told → OnOk answer (after ≡ record before { told = after.told }) → OnOk answer (IsReady next after) → UnlessBroken (as_change answer) (AreReady new after)
-ready_committed old new leaf next before after (Ok t) step parts ready others counts is = ready_on old new leaf next before after step parts ready others (ap (λ (d : Disk). d.files) counts) is
-ready_committed old new leaf next before after (Err fault) step parts ready others counts is = tt
+    → WhereBothTold (LeavesOthers (own_file leaf)) before.told after.told → OnOk answer (after ≡ record before { told = after.told }) → OnOk answer (IsReady next after) → OnOk answer (WhereBothTold (HasCommitted leaf next) before.told after.told)
+    → UnlessBroken (as_change answer) (AreReady new after)
+ready_committed old new leaf next before after (Ok t) step parts ready others counts is committed =
+    ready_on old new leaf next before after step parts ready others (ap (λ (d : Disk). d.files) counts) is (commit_ties leaf next before.told after.told committed)
+ready_committed old new leaf next before after (Err fault) step parts ready others counts is committed = tt
 
 -- ---- room
 

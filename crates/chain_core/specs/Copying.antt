@@ -1,5 +1,5 @@
 -- What is copied, of a merge that is under way.
-use Rattle.std.specs.Prelude.{◌≡◌, ⊤, ℕ, is_some, true, false, nat_lt, ◌==◌, if◌then◌else◌, MatchOption, ◌+◌, ◌≤◌, Bool, List, slice_index, length, ◌++◌, ◌∷◌, Option, Some, None, Result, Ok, Err, IfErr, IfSome, OnOk}
+use Rattle.std.specs.Prelude.{◌≡◌, ⊤, ℕ, is_some, true, false, nat_lt, ◌==◌, if◌then◌else◌, MatchOption, ◌+◌, ◌<◌, ◌≤◌, Bool, List, slice_index, slice_index_or, map, length, ◌++◌, ◌∷◌, Option, Some, None, Result, Ok, Err, IfErr, IfSome, OnOk}
 use Rattle.std.specs.List.{AllByRecursion}
 use Rattle.vx_base.specs.declared.parts.Geometry.{Geometry}
 use Rattle.store_model.specs.Disk.{Disk, WhereBothTold, WhereTold}
@@ -19,7 +19,8 @@ use Rattle.layer_session.specs.ReadOnly.{SomeReadFailed}
 use Rattle.layer_session.specs.declared.file.LayerFault.{LayerFault}
 use Rattle.layer_session.specs.declared.file.LayerFault.TheVariants as layer
 use Rattle.merge_core.specs.Copied.{IsLowest, marks_of}
-use Rattle.merge_core.specs.Pieces.{FitsIn, HasPutPiece, PutsPiece, piece_of}
+use Rattle.layer_session.specs.Steps.{has_room, is_full}
+use Rattle.merge_core.specs.Pieces.{FitsIn, HasPutPiece, PutsPiece, has_sector, piece_of}
 use Rattle.merge_core.specs.declared.piece.Piece.{Piece as KeptPiece}
 use Rattle.chain_core.specs.Answering.{HasEnded, IsRefused, fault_of, refusal_of}
 use Rattle.chain_core.specs.Merging.{IsCopied, IsTruePiece, PutAnswers}
@@ -40,6 +41,39 @@ number_below numbers (Some u) = slice_index numbers (u.source + 1)
 
 abbrev pub target_number : Layers → ℕ
 target_number layers = number_below (file_numbers layers.below.items) layers.merge
+
+-- and that of the source's
+abbrev pub number_at_source : List ℕ → Option Underway → ℕ
+number_at_source numbers None = 0
+number_at_source numbers (Some u) = slice_index numbers u.source
+
+abbrev pub source_number : Layers → ℕ
+source_number layers = number_at_source (file_numbers layers.below.items) layers.merge
+
+-- a layer of a file in a session
+abbrev pub session_in : Option FileLayer → Option Layer
+session_in None = None
+session_in (Some (kind.Session l)) = Some l
+session_in (Some (kind.Read l)) = None
+
+-- the target's
+abbrev pub session_below : List FileLayer → Option Underway → Option Layer
+session_below below None = None
+session_below below (Some u) = session_in (slice_index_or (map (λ l. Some l) below) (u.source + 1) None)
+
+abbrev pub target_layer : Layers → Option Layer
+target_layer layers = session_below layers.below.items layers.merge
+
+-- the target has room for a piece, if it has a sector at all
+abbrev pub HasRoomFor : KeptPiece → Layer → Disk → Type 0
+HasRoomFor piece target disk = (s : ℕ) → has_sector piece s ≡ true → has_room false piece.first piece.count target disk
+
+-- A piece is refused for want of room exactly where the target has none; `next` is the unit at its file's end.
+abbrev pub PutRoomIs : KeptPiece → Layer → Disk → Result (Unit {0}) LayerFault → Type 0
+PutRoomIs piece target disk (Ok done) = HasRoomFor piece target disk
+PutRoomIs piece target disk (Err (layer.Read fault)) = Unit {0}
+PutRoomIs piece target disk (Err (layer.FileFull next)) = is_full false piece.first piece.count next target disk
+PutRoomIs piece target disk (Err (layer.Write fault)) = HasRoomFor piece target disk
 
 -- What is taken of the source is true of it, in each state that the session serves.
 abbrev pub Takes : Layers → Disk → Piece → Type 0
@@ -70,17 +104,28 @@ HasMarked stripe old new (Err fault) = new.merge ≡ old.merge
 
 -- ---- calls of the merge
 
--- A stripe isn't one of the merge: none is under way, or the disk has fewer stripes.
+-- no merge is under way
+abbrev pub no_merge : Layers → Option ChainRefusal
+no_merge layers = if is_some layers.merge then None else Some refusals.NoMerge
+
+-- the disk has fewer stripes
 abbrev pub past_stripes : ℕ → ℕ → Option ChainRefusal
 past_stripes stripe stripes = if nat_lt stripe stripes then None else Some (refusals.NoStripe stripe stripes)
 
+-- A stripe isn't one of the merge: none is under way, or the disk has fewer stripes.
 abbrev pub no_stripe : ℕ → Layers → Option ChainRefusal
 no_stripe stripe layers = if is_some layers.merge then past_stripes stripe (stripe_count layers.geometry.sector layers.geometry.sectors) else Some refusals.NoMerge
 
--- A piece can't be put: its stripe isn't one, or it was taken under another stamp than the stripe's, which is 0 where the source isn't the
--- leaf.
+-- A piece can't be put: no merge is under way, nothing was taken, its stripe isn't one, or it was taken under another stamp than the
+-- stripe's, which is 0 where the source isn't the leaf.
+abbrev pub stale : ℕ → Option ChainRefusal
+stale stamp = if stamp == 0 then None else Some (refusals.Stale stamp 0)
+
+abbrev pub unfilled : KeptPiece → Option ChainRefusal
+unfilled piece = if piece.filled then None else Some refusals.NoPiece
+
 abbrev pub no_piece : KeptPiece → Layers → Option ChainRefusal
-no_piece piece layers = or_else (no_stripe piece.stripe layers) (if piece.stamp == 0 then None else Some (refusals.Stale piece.stamp 0))
+no_piece piece layers = or_else (no_merge layers) (or_else (unfilled piece) (or_else (no_stripe piece.stripe layers) (stale piece.stamp)))
 
 -- The first cause by which each is refused before the files are reached.
 abbrev pub fetch_refused : ℕ → Session → Option ChainRefusal
@@ -88,6 +133,10 @@ fetch_refused stripe s = or_else (unfit s.events s.broken) (no_stripe stripe s.l
 
 abbrev pub put_refused : KeptPiece → Session → Option ChainRefusal
 put_refused piece s = or_else (unfit s.events s.broken) (no_piece piece s.layers)
+
+-- the first cause by which each call of a merge is refused
+abbrev pub merge_refused : Session → Option ChainRefusal
+merge_refused s = or_else (unfit s.events s.broken) (no_merge s.layers)
 
 -- what is refused for a cause answers that, and P
 abbrev pub IfStopped : {T : Type 0} → Option ChainRefusal → Result T ChainRefusal → Type 0 → Type 0
@@ -105,11 +154,12 @@ pub record IsOfStripe (geometry : Geometry) (stripe : ℕ) (piece : KeptPiece) :
   pub stamp : piece.stamp ≡ 0
   pub fits : FitsDisk geometry piece
 
--- What the answer of a fetch that reached the files says: it took a piece and answers its stamp; or a read of some file failed, and there
--- is no piece.
+-- What the answer of a fetch that reached the files says: it took a piece and answers its stamp; or a read of the source's file failed, and
+-- there is no piece.
 abbrev pub FetchCause : Session → Session → KeptPiece → Result ℕ ChainRefusal → Type 0
 FetchCause old new piece (Ok stamp) = (stamp ≡ piece.stamp) × (new.disk ≡ old.disk) × (new.broken ≡ None)
-FetchCause old new piece (Err (refusals.ReadFault file count)) = (piece.filled ≡ false) × SomeReadFailed old.disk new.disk (fault_of file count) × (new.broken ≡ None)
+FetchCause old new piece (Err (refusals.ReadFault file count)) =
+    (piece.filled ≡ false) × (file ≡ source_number old.layers) × SomeReadFailed old.disk new.disk (fault_of file count) × (new.broken ≡ None)
 FetchCause old new piece (Err other) = ⊥
 
 -- The session serves the history as before, and what was taken is the source's.
@@ -125,10 +175,10 @@ FetchTold piece old new result =
 abbrev pub PutCause : KeptPiece → Session → Session → Result (Unit {0}) ChainRefusal → Type 0
 PutCause piece old new (Ok done) = MarksIn piece.stripe old.layers.merge new.layers.merge × (new.disk ≡ record (old.disk) { told = new.disk.told }) × (new.broken ≡ None)
 PutCause piece old new (Err (refusals.ReadFault file count)) =
-    (new.layers.merge ≡ old.layers.merge) × Fails (target_number old.layers) old.disk new.disk (layer.Read (fault_of file count)) × (new.broken ≡ None)
+    (new.layers.merge ≡ old.layers.merge) × (target_number old.layers < old.disk.files) × Fails (target_number old.layers) old.disk new.disk (layer.Read (fault_of file count)) × (new.broken ≡ None)
 PutCause piece old new (Err (refusals.FileFull next)) = (new.layers.merge ≡ old.layers.merge) × Fails (target_number old.layers) old.disk new.disk (layer.FileFull next) × (new.broken ≡ None)
 PutCause piece old new (Err (refusals.Broken file count)) =
-    (new.layers.merge ≡ old.layers.merge) × Fails (target_number old.layers) old.disk new.disk (layer.Write (fault_of file count)) × (new.broken ≡ Some (fault_of file count))
+    (new.layers.merge ≡ old.layers.merge) × (target_number old.layers < old.disk.files) × Fails (target_number old.layers) old.disk new.disk (layer.Write (fault_of file count)) × (new.broken ≡ Some (fault_of file count))
 PutCause piece old new (Err other) = ⊥
 
 -- A piece that is the source's is put, or refused and nothing changed, or a change of the target failed and broke the session.
@@ -140,6 +190,13 @@ PieceAnswers piece v layers trace now (Err other) = IsRefused v layers trace now
 abbrev pub PieceTold : KeptPiece → Session → Session → Result (Unit {0}) ChainRefusal → Type 0
 PieceTold piece old new result =
     WhereBothTold (λ trace now. (v : State) → IsServing old.layers v trace → IsTruePiece v (piece_of piece) → PieceAnswers piece v new.layers trace now result) old.disk.told new.disk.told
+
+-- Once a put reached the files it is refused for want of room in the target exactly where there is none.
+abbrev pub TargetRoomIs : KeptPiece → Layers → Disk → Result (Unit {0}) ChainRefusal → Type 0
+TargetRoomIs piece layers disk (Ok done) = IfSome (target_layer layers) (λ l. HasRoomFor piece l disk)
+TargetRoomIs piece layers disk (Err (refusals.FileFull next)) = IfSome (target_layer layers) (λ l. is_full false piece.first piece.count next l disk)
+TargetRoomIs piece layers disk (Err (refusals.Broken file count)) = IfSome (target_layer layers) (λ l. HasRoomFor piece l disk)
+TargetRoomIs piece layers disk (Err other) = Unit {0}
 
 -- The lowest stripe of the merge under way without a mark; none where each has one, or none is under way.
 abbrev pub IsMissing : Option Underway → Option ℕ → Type 0
@@ -175,3 +232,4 @@ pub record PutsAt (at : ℕ) (piece : KeptPiece) (old new : List FileLayer) (bef
   pub number : now.log.number ≤ was.log.number + 1
   pub counts : OnOk result (after ≡ record before { told = after.told })
   pub err : IfErr result (Fails (own_file was) before after)
+  pub room : PutRoomIs piece was before result

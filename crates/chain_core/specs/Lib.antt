@@ -10,4 +10,5 @@ pub mod Laws
 pub mod Merging
 pub mod Ending
 pub mod Copying
+pub mod Finished
 pub mod MergeStarting

@@ -1,5 +1,5 @@
 -- How a session starts with the merge of a file in its middle.
-use Rattle.std.specs.Prelude.{◌≡◌, ⊤, ◌⊎◌, ◌+◌, ◌^◌, ◌-◌, ◌≤◌, ◌==◌, ◌||◌, ℕ, nat_le, Bool, true, false, if◌then◌else◌, List, [], ◌∷◌, ◌++◌, length, Option, Some, None}
+use Rattle.std.specs.Prelude.{◌≡◌, ⊤, ◌⊎◌, ◌+◌, ◌^◌, ◌-◌, ◌≤◌, ◌==◌, ◌||◌, ℕ, nat_le, Bool, true, false, if◌then◌else◌, is_some, List, [], ◌∷◌, ◌++◌, length, Option, Some, None, Result, IfErr, IfOk}
 use Rattle.std.specs.Option.{option_or}
 use Rattle.std.specs.Str.{bytes_eq}
 use Rattle.vx_base.specs.declared.parts.Parts.{Parts}
@@ -16,6 +16,8 @@ use Rattle.store_model.specs.Trace.{Trace, file_of}
 use Rattle.log_write.specs.declared.ids.SessionIds.{SessionIds}
 use Rattle.chain_model.specs.Images.{Placed}
 use Rattle.chain_model.specs.Members.{Ties}
+use Rattle.chain_model.specs.Stripes.{stripe_count}
+use Rattle.merge_core.specs.Copied.{marks_of}
 use Rattle.link_rules.specs.declared.linked.LinkedFile.{LinkedFile}
 use Rattle.layer_session.specs.Begins.{BeginsOver, HasBegun, as_found, in_session}
 use Rattle.layer_session.specs.declared.file.Layer.{Layer}
@@ -23,13 +25,18 @@ use Rattle.layer_session.specs.declared.file_layer.FileLayer.{FileLayer}
 use Rattle.layer_session.specs.declared.file_layer.FileLayer.TheVariants.{Session}
 use Rattle.layer_session.specs.Updating.{laid_region, turned}
 use Rattle.merge_plan.specs.Merging.{MergeFiles, child_place, source_place, twice_pairs}
+use Rattle.merge_plan.specs.Planning.{HasPlan, IsBegun, Refuses}
 use Rattle.merge_plan.specs.declared.drawing.LogIds.{LogIds}
 use Rattle.merge_plan.specs.declared.drawing.MergeIds.{MergeIds}
 use Rattle.merge_plan.specs.declared.drawing.NewIds.{NewIds}
 use Rattle.merge_plan.specs.declared.merge.Merge.{Merge}
 use Rattle.chain_core.specs.declared.layers.Layers.{Layers}
 use Rattle.chain_core.specs.declared.merge_start.MergeOf.{MergeOf}
-use Rattle.chain_core.specs.Starting.{opening_disk, placed_from}
+use Rattle.chain_core.specs.declared.merge_start.MergeStartRefusal.{MergeStartRefusal}
+use Rattle.chain_core.specs.declared.merge_start.MergeStartRefusal.TheVariants as start
+use Rattle.chain_core.specs.declared.merge_start.Room.{Room}
+use Rattle.chain_core.specs.Sessions.{AreReady, IsLow}
+use Rattle.chain_core.specs.Starting.{AreReadOf, EachOpensAlike, opening_disk, placed_from}
 use Rattle.chain_core.specs.States.{IsServing, State, merging}
 
 -- ---- files and identifiers
@@ -172,7 +179,68 @@ abbrev pub BeginsNoMerge : MergeFiles → Disk → Disk → SealFault → Type 0
 BeginsNoMerge m old new (seal.Store fault) = PhaseFails m old new fault
 BeginsNoMerge m old new seal.NoRoom = new ≡ record old { told = new.told }
 
+-- The sessions have begun, and the layers serve the state whose merge is prepared; of the store content alone was changed.
+pub record HasBegunMerge (m : MergeFiles) (merge : Merge) (old new : Disk) (layers : Layers) : Type 0 where
+  pub serving : StartsMerge m merge layers old.told new.told
+  pub session : is_some layers.leaf ≡ true
+  pub under_way : is_some layers.merge ≡ true
+  pub geometry : layers.geometry ≡ (leaf_of m).parts.geometry
+  pub ready : AreReady layers new
+  pub low : IsLow 1 layers
+  pub counts : new ≡ record old { told = new.told }
+
+-- What is answered of a planned merge whose sessions are to begin: whatever it is, each moment opens to the disk of the files as they
+-- were attached, and no file but the four was changed.
+pub record BeginsMerge (m : MergeFiles) (merge : Merge) (old new : Disk) (result : Result Layers SealFault) : Type 0 where
+  pub moments : EachOpensAlike (chain_files m) old.told new.told
+  pub still : LeavesRest m old.told new.told
+  pub begun : IfOk result (HasBegunMerge m merge old new)
+  pub err : IfErr result (BeginsNoMerge m old new)
+
+-- ---- a start
+
+-- The merge of the file of this name is planned over these files, whose headers' numbers leave room for those of sessions.
+pub record PlansMerge (files : List LinkedFile) (name : List ℕ) (old : Disk) (before now : Option (List (List ℕ))) (m : MergeFiles) (merge : Merge) : Type 0 where
+  pub unspent : spent files name ≡ None
+  pub begun : IsBegun files name before now m merge.ids
+  pub plan : HasPlan files old m merge
+
+-- Its sessions have begun.
+pub record HasStartedMerge (files : List LinkedFile) (name : List ℕ) (old new : Disk) (before now : Option (List (List ℕ))) (layers : Layers) : Type 0 where
+  pub m : MergeFiles
+  pub merge : Merge
+  pub planned : PlansMerge files name old before now m merge
+  pub still : LeavesRest m old.told new.told
+  pub begun : HasBegunMerge m merge old new layers
+
+-- They don't begin.
+pub record StartsNoMerge (files : List LinkedFile) (name : List ℕ) (old new : Disk) (before now : Option (List (List ℕ))) (fault : SealFault) : Type 0 where
+  pub m : MergeFiles
+  pub merge : Merge
+  pub planned : PlansMerge files name old before now m merge
+  pub still : LeavesRest m old.told new.told
+  pub fails : BeginsNoMerge m old new fault
+
+-- Why no session with a merge started.
+abbrev pub RefusesMerge : List LinkedFile → List ℕ → Disk → Disk → Option (List (List ℕ)) → Option (List (List ℕ)) → MergeStartRefusal → Type 0
+RefusesMerge files name old new before now (start.Spent number) = (spent files name ≡ Some number) × (now ≡ before) × (new ≡ old)
+RefusesMerge files name old new before now (start.Plan refusal) = (spent files name ≡ None) × Refuses files name old new before now refusal
+RefusesMerge files name old new before now (start.Begin fault) = StartsNoMerge files name old new before now fault
+
+-- Whatever is answered, each moment opens to the disk of the files as they were attached.
+pub record StartsWithMerge (files : List LinkedFile) (name : List ℕ) (old new : Disk) (before now : Option (List (List ℕ))) (result : Result Layers MergeStartRefusal) : Type 0 where
+  pub moments : EachOpensAlike files old.told new.told
+  pub started : IfOk result (HasStartedMerge files name old new before now)
+  pub err : IfErr result (RefusesMerge files name old new before now)
+
 -- ---- of the small functions
+
+-- room for the merge of these files: no stripe of the disk has a mark, and each file that is only read has its layer
+pub record IsRoomFor (m : MergeFiles) (room : Room) : Type 0 where
+  pub marks : (t : ℕ) → marks_of room.marks t ≡ false
+  pub stripes : room.marks.stripes ≡ stripe_count (leaf_of m).parts.geometry.sector (leaf_of m).parts.geometry.sectors
+  pub above : AreReadOf 1 (behind_first m.above) room.above.items
+  pub below : AreReadOf (target_place m + 1) m.below room.below.items
 
 -- the child's session begins, if it isn't the leaf
 abbrev pub ChildOver : Option LogIds → Parts → ℕ → Trace → Trace → Type 0

@@ -1,14 +1,15 @@
 -- What stands of a session for every store, whether it tells its content or not.
-use Rattle.std.specs.Prelude.{◌≡◌, ◌≢◌, ◌+◌, ◌-◌, ◌^◌, ◌<◌, ◌≤◌, ⊤, ℕ, Bool, true, is_some, List, [], ◌∷◌, length, map, slice_index_or, Option, None, option_map, IfSome}
+use Rattle.std.specs.Prelude.{◌≡◌, ◌≢◌, ◌+◌, ◌-◌, ◌^◌, ◌<◌, ◌≤◌, ◌==◌, if◌then◌else◌, ⊤, ℕ, Bool, true, is_some, List, [], ◌∷◌, length, map, slice_index_or, Option, Some, None, option_map, IfSome}
 use Rattle.vx_base.specs.declared.parts.Geometry.{Geometry}
-use Rattle.store_model.specs.Disk.{Disk}
+use Rattle.store_model.specs.Disk.{Disk, WhereTold}
 use Rattle.store_model.specs.declared.fault.StoreFault.{StoreFault}
 use Rattle.guest_model.specs.declared.call.Entry.{Entry}
 use Rattle.layer_session.specs.declared.file.Layer.{Layer}
 use Rattle.layer_session.specs.declared.file_layer.FileLayer.{FileLayer}
+use Rattle.layer_session.specs.declared.file_layer.FileLayer.TheVariants as kind
 use Rattle.layer_session.specs.Calls.{own_file}
 use Rattle.layer_session.specs.Keeping.{IsReady}
-use Rattle.layer_session.specs.FileLayers.{AreOthers, AreReadyFiles, file_numbers, log_number}
+use Rattle.layer_session.specs.FileLayers.{AreOthers, AreReadyFiles, FileTurns, file_numbers, log_number}
 use Rattle.std.specs.List.{AllByRecursion}
 use Rattle.chain_model.specs.Stripes.{stripe_count}
 use Rattle.chain_core.specs.declared.layers.Underway.{Underway}
@@ -66,6 +67,16 @@ pub record IsMergeOf (geometry : Geometry) (top : Option Layer) (below : List Fi
   pub child : 0 < merge.source → is_session_at below (merge.source - 1) ≡ true
   pub stripes : merge.marks.stripes ≡ stripe_count geometry.sector geometry.sectors
 
+-- the layer of the file directly above a source at this place: the leaf's, or that of the file before the place
+abbrev pub child_layer : Option Layer → List FileLayer → ℕ → Option FileLayer
+child_layer leaf below place = if place == 0 then option_map kind.Session leaf else slice_index_or (map (λ l. Some l) below) (place - 1) None
+
+-- The pages that a merge keeps can be written into its child: they are few, and where the store tells its content they turn the child's
+-- metadata.
+pub record CanRelink (top : Option Layer) (below : List FileLayer) (disk : Disk) (merge : Underway) : Type 0 where
+  pub few : length merge.relink ≤ 120
+  pub turns : IfSome (child_layer top below merge.source) (λ l. WhereTold disk.told (FileTurns l merge.relink))
+
 -- layers of files that can be read, and those written that are in a session
 pub record AreReady (layers : Layers) (disk : Disk) : Type 0 where
   pub sector : layers.geometry.sector ≡ 512
@@ -73,6 +84,7 @@ pub record AreReady (layers : Layers) (disk : Disk) : Type 0 where
   pub below : AreReadyFiles layers.geometry disk layers.below.items
   pub apart : AreApart (file_numbers layers.below.items)
   pub merge : IfSome layers.merge (IsMergeOf layers.geometry layers.leaf layers.below.items)
+  pub relink : IfSome layers.merge (CanRelink layers.leaf layers.below.items disk)
 
 -- the numbers of the last entries of the logs, of the files that are in a session
 abbrev pub log_numbers : Layers → List (Option ℕ)
@@ -82,10 +94,16 @@ log_numbers layers = option_map (λ (leaf : Layer). leaf.log.number) layers.leaf
 abbrev pub IsLow : ℕ → Layers → Type 0
 IsLow most layers = AllByRecursion (λ number. IfSome number (λ n. n ≤ most)) (log_numbers layers)
 
--- Each entry of the history was an event, and each event wrote at most one entry of the log; until a change fails the layers are ready.
+-- how many more entries than events a log may have; the event that finishes a merge writes up to three
+abbrev pub slack : Option Underway → ℕ
+slack None = 3
+slack (Some merge) = 1
+
+-- Each entry of the history was an event, and each event wrote at most one entry of a log, but for the one that finished a merge; until a
+-- change fails the layers are ready.
 pub record IsSound (s : Session) : Type 0 where
   pub sector : s.layers.geometry.sector ≡ 512
   pub noted : s.noted ≤ s.events
   pub few : s.events ≤ 2 ^ 63
   pub ready : s.broken ≡ None → AreReady s.layers s.disk
-  pub low : s.broken ≡ None → IsLow (s.events + 1) s.layers
+  pub low : s.broken ≡ None → IsLow (s.events + slack s.layers.merge) s.layers

@@ -5,16 +5,19 @@ ghost use Rattle.guest_model.specs.declared.call.Call.TheVariants as calls;
 ghost use Rattle.guest_model.specs.Calls.{call_of, entry_of};
 ghost use Rattle.chain_core.specs.Answering.{AnswersTold, ClosesTold, HasCause, HasReadCause, HasRoom, IsDurable, Notes, answer_of, as_read, breaking, breaks, refusal_of};
 ghost use Rattle.chain_core.specs.Ending.{IsOfSession, SomeChangeFailed};
-ghost use Rattle.chain_core.specs.Copying.{FetchCause, FetchTold, FitsDisk, HasEachStripe, IfStopped, IsMissing, IsOfStripe, PieceTold, PutCause, fetch_refused, no_piece, no_stripe, put_refused, refused_by};
+ghost use Rattle.chain_core.specs.Copying.{FetchCause, FetchTold, FitsDisk, HasEachStripe, IfStopped, IsMissing, IsOfStripe, PieceTold, PutCause, TargetRoomIs, fetch_refused, merge_refused, no_piece, no_stripe, put_refused, refused_by};
+ghost use Rattle.chain_core.specs.Finished.{FinishCause, FinishTold, IsJudged};
 ghost use Rattle.chain_core.specs.Events.{HasWholeSectors, IsCaused, RepliesBy, answer_by, placed};
 ghost use Rattle.chain_core.specs.Reading.{Finds};
 ghost use Rattle.chain_core.specs.Refusing.{IfRefused, counted, is_read, misplaced, range_of, fill, refused, unfit};
 ghost use Rattle.merge_plan.specs.Attached.{CanStart};
+ghost use Rattle.chain_core.specs.MergeStarting.{HasStartedMerge, RefusesMerge};
 ghost use Rattle.chain_core.specs.Starting.{EachOpensAlike, HasStarted, IsOfDisk, LeavesOthersFrom, RefusesStart};
 ghost use Rattle.chain_core.specs.Sessions.{IsCounted, IsSound, seen};
 
 use crate::answer::Answer;
-use crate::layers::Layers;
+use crate::layers::{Layers, changed};
+use crate::merge_start::MergeStartRefusal;
 use crate::starting::{Mode, StartRefusal};
 use guest_model::{Call, CallRef, Caller, ChainRefusal, Recorder, Reply, check_range};
 use layer_session::LayerFault;
@@ -22,7 +25,7 @@ use link_rules::LinkedFile;
 use merge_core::Piece;
 use std::alloc::Global;
 use store_model::{Ids, Store, StoreFault};
-use vx_base::{Bytes, Geometry, NoRoom};
+use vx_base::{Bytes, Geometry, Name, NoRoom};
 
 /// The greatest count of events.
 const EVENTS: u64 = 1 << 63;
@@ -79,6 +82,56 @@ impl<S: Store, R: Recorder> Chain<S, R> {
         }
     }
 
+    /// A session over these files of the store, with no call yet, in which the file of this name is merged into its parent: neither the
+    /// leaf nor the base. The sessions of the leaf, of the source's child and of its parent begin, under new identifiers, and the source
+    /// is linked to its parent by the parent's old and new identifier. A refused one gives the store back; whatever is answered, the files
+    /// open to the disk that they had, and only these four were changed.
+    pub fn start_merge<I: Ids>(
+        alloc: Global,
+        mut store: S,
+        files: &[LinkedFile],
+        source: &Name,
+        recorder: R,
+        ids: &mut I,
+    ) -> Result<Chain<S, R>, (S, MergeStartRefusal)>
+        requires files { CanStart files.now (S.disk store) }
+        requires empty { R.noted recorder ≡ 0 }
+        ensures sound { IfOk result (λ chain. IsSound (seen S.disk R.noted R.told chain)) }
+        ensures new { IfOk result (λ chain. (chain.events ≡ 0) × (chain.broken ≡ None) × (chain.recorder ≡ recorder)) }
+        ensures started { IfOk result (λ c. HasStartedMerge files.now source.now (S.disk store) (S.disk c.store) (I.drawn ids.old) (I.drawn ids.new) c.layers) }
+        ensures moments { IfOk result (λ chain. EachOpensAlike files.now (S.disk store).told (S.disk chain.store).told) }
+        ensures kept { IfErr result (λ refused. EachOpensAlike files.now (S.disk store).told (S.disk refused.0).told) }
+        ensures err { IfErr result (λ refused. RefusesMerge files.now source.now (S.disk store) (S.disk refused.0) (I.drawn ids.old) (I.drawn ids.new) refused.1) }
+    {
+        match Layers::start_merge(alloc, &mut store, files, source, ids) {
+            Ok(layers) => Ok(Chain {
+                store,
+                recorder,
+                layers,
+                events: 0,
+                broken: None,
+            }),
+            Err(refusal) => Err((store, refusal)),
+        }
+    }
+
+    // Refuses an event where no more are counted or the session is broken.
+    fn check_fit(&self) -> Result<(), ChainRefusal>
+        ensures ok { OnOk result (unfit self.now.events self.now.broken ≡ None) }
+        ensures err { IfErr result (λ e. unfit self.now.events self.now.broken ≡ Some e) }
+    {
+        if self.events >= EVENTS {
+            return Err(ChainRefusal::Spent { t: self.events });
+        }
+        match self.broken {
+            Some(fault) => Err(ChainRefusal::Broken {
+                file: fault.file,
+                count: fault.count,
+            }),
+            None => Ok(()),
+        }
+    }
+
     // Counts an event, and refuses it where no more are counted or the session is broken.
     fn admit(&mut self) -> Result<(), ChainRefusal>
         ensures events { self.new.events ≡ counted self.old.events }
@@ -88,17 +141,11 @@ impl<S: Store, R: Recorder> Chain<S, R> {
         ensures whole { OnOk result (self.old.broken ≡ None) }
         ensures err { IfErr result (λ e. unfit self.old.events self.old.broken ≡ Some e) }
     {
-        if self.events >= EVENTS {
-            return Err(ChainRefusal::Spent { t: self.events });
+        let fit = self.check_fit();
+        if self.events < EVENTS {
+            self.events += 1;
         }
-        self.events += 1;
-        match self.broken {
-            Some(fault) => Err(ChainRefusal::Broken {
-                file: fault.file,
-                count: fault.count,
-            }),
-            None => Ok(()),
-        }
+        fit
     }
 
     // Refuses a call that asks for a session of the leaf, where there is none.
@@ -368,13 +415,19 @@ impl<S: Store, R: Recorder> Chain<S, R> {
         Ok(())
     }
 
-    // A piece is of a stripe of the merge, and no older than the stripe is. A source that isn't the leaf isn't written: of its
+    // A piece was taken, is of a stripe of the merge, and no older than the stripe is. A source that isn't the leaf isn't written: of its
     // stripes all stamps are 0.
     fn judge_piece(&self, piece: &Piece) -> Result<(), ChainRefusal>
         requires { HasEachStripe self.now.layers }
         ensures ok { OnOk result (no_piece piece.now self.now.layers ≡ None) }
         ensures err { IfErr result (λ e. no_piece piece.now self.now.layers ≡ Some e) }
     {
+        if self.layers.merge.is_none() {
+            return Err(ChainRefusal::NoMerge);
+        }
+        if !piece.is_filled() {
+            return Err(ChainRefusal::NoPiece);
+        }
         self.find_stripe(piece.stripe())?;
         let taken = piece.stamp();
         if taken != 0 {
@@ -419,11 +472,44 @@ impl<S: Store, R: Recorder> Chain<S, R> {
         ensures history { self.new.recorder ≡ self.old.recorder }
         ensures early { IfStopped (put_refused piece.now (seen S.disk R.noted R.told self.old)) result (IsCounted self.old self.new) }
         ensures cause { put_refused piece.now (seen S.disk R.noted R.told self.old) ≡ None → PutCause piece.now (seen S.disk R.noted R.told self.old) (seen S.disk R.noted R.told self.new) result }
+        ensures room { put_refused piece.now (seen S.disk R.noted R.told self.old) ≡ None → TargetRoomIs piece.now self.old.layers (S.disk self.old.store) result }
         ensures told { PieceTold piece.now (seen S.disk R.noted R.told self.old) (seen S.disk R.noted R.told self.new) result }
     {
         self.admit()?;
         self.judge_piece(piece)?;
         let done = self.layers.put_piece(&mut self.store, piece);
+        self.settle(done)
+    }
+
+    // Each stripe of the merge is copied; refused where none is under way, or a stripe isn't.
+    fn judge_marks(&self) -> Result<(), ChainRefusal>
+        ensures { IsJudged self.now.layers.merge result }
+    {
+        let Some(merge) = &self.layers.merge else {
+            return Err(ChainRefusal::NoMerge);
+        };
+        match merge.marks.missing() {
+            Some(stripe) => Err(ChainRefusal::NotYet { stripe }),
+            None => Ok(()),
+        }
+    }
+
+    /// Finishes the merge, whose stripes are all copied: the target and the file directly above the source are committed, that file is
+    /// linked to the target, and the source leaves the chain. A change that fails breaks the session.
+    pub fn finish(&mut self) -> Result<(), ChainRefusal>
+        requires sound { IsSound (seen S.disk R.noted R.told self.old) }
+        ensures sound { IsSound (seen S.disk R.noted R.told self.new) }
+        ensures events { self.new.events ≡ counted self.old.events }
+        ensures geometry { self.new.layers.geometry ≡ self.old.layers.geometry }
+        ensures session { is_some self.new.layers.leaf ≡ is_some self.old.layers.leaf }
+        ensures history { self.new.recorder ≡ self.old.recorder }
+        ensures early { IfStopped (merge_refused (seen S.disk R.noted R.told self.old)) result (IsCounted self.old self.new) }
+        ensures cause { merge_refused (seen S.disk R.noted R.told self.old) ≡ None → FinishCause (seen S.disk R.noted R.told self.old) (seen S.disk R.noted R.told self.new) result (IsCounted self.old self.new) }
+        ensures told { FinishTold (seen S.disk R.noted R.told self.old) (seen S.disk R.noted R.told self.new) result }
+    {
+        self.admit()?;
+        self.judge_marks()?;
+        let done = changed(self.layers.finish(&mut self.store));
         self.settle(done)
     }
 
@@ -438,6 +524,19 @@ impl<S: Store, R: Recorder> Chain<S, R> {
             Ok(()) => Ok(()),
             Err(fault) => Err(self.refuse(fault)),
         }
+    }
+
+    /// Whether a merge is under way, in a session that takes calls: what refuses each call of a merge refuses this, and nothing is counted
+    /// or changed.
+    pub fn check_merge(&self) -> Result<(), ChainRefusal>
+        ensures ok { OnOk result (merge_refused (seen S.disk R.noted R.told self.now) ≡ None) }
+        ensures err { IfErr result (λ e. merge_refused (seen S.disk R.noted R.told self.now) ≡ Some e) }
+    {
+        self.check_fit()?;
+        if self.layers.merge.is_none() {
+            return Err(ChainRefusal::NoMerge);
+        }
+        Ok(())
     }
 
     /// The lowest stripe that isn't copied; none where all are, or no merge is under way.

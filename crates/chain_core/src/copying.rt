@@ -7,7 +7,7 @@ ghost use Rattle.layer_session.specs.ReadOnly.{SomeReadFailed};
 ghost use Rattle.layer_session.specs.FileLayers.{AreReadyFiles, log_number};
 ghost use Rattle.merge_core.specs.Pieces.{piece_of};
 ghost use Rattle.chain_core.specs.Answering.{UnlessBroken};
-ghost use Rattle.chain_core.specs.Copying.{AreLow, FitsDisk, HasMarked, MarksIn, PutTold, PutsAt, Takes, target_number};
+ghost use Rattle.chain_core.specs.Copying.{AreLow, FitsDisk, HasMarked, MarksIn, PutRoomIs, PutTold, PutsAt, Takes, source_number, target_layer, target_number};
 ghost use Rattle.chain_core.specs.Reading.{HasOnlyRead};
 ghost use Rattle.chain_core.specs.Sessions.{AreReady, IsLow, is_session_at};
 
@@ -37,6 +37,7 @@ impl Layers {
         ensures taken { OnOk result (Takes self.old (S.disk store.old) (piece_of piece.new)) }
         ensures stays { OnOk result (S.disk store.new ≡ S.disk store.old) }
         ensures err { IfErr result (SomeReadFailed (S.disk store.old) (S.disk store.new)) }
+        ensures whose { IfErr result (λ fault. fault.file ≡ source_number self.old) }
     {
         let Some(merge) = &self.merge else {
             return Ok(());
@@ -52,7 +53,7 @@ impl Layers {
         piece: &Piece,
     ) -> Result<(), LayerFault>
         requires ready { AreReady self.old (S.disk store.old) }
-        requires low { IsLow (2 ^ 63 + 1) self.old }
+        requires low { IsLow (2 ^ 63 + 3) self.old }
         requires merge { is_some self.old.merge ≡ true }
         requires fits { FitsDisk self.old.geometry piece.now }
         requires stripe { piece.now.stripe < stripe_count self.old.geometry.sector self.old.geometry.sectors }
@@ -65,6 +66,8 @@ impl Layers {
         ensures marked { HasMarked piece.now.stripe self.old self.new result }
         ensures counts { OnOk result (S.disk store.new ≡ record (S.disk store.old) { told = (S.disk store.new).told }) }
         ensures err { IfErr result (Fails (target_number self.old) (S.disk store.old) (S.disk store.new)) }
+        ensures within { target_number self.old < (S.disk store.old).files }
+        ensures room { IfSome (target_layer self.old) (λ l. PutRoomIs piece.now l (S.disk store.old) result) }
     {
         let Some(merge) = &self.merge else {
             return Ok(());
@@ -100,7 +103,7 @@ fn put_at<S: Store>(
     requires session { is_session_at layers.old at ≡ true }
     requires there { at < length layers.old }
     requires ready { AreReadyFiles geometry (S.disk store.old) layers.old }
-    requires low { AreLow (2 ^ 63 + 1) (map log_number layers.old) }
+    requires low { AreLow (2 ^ 63 + 3) (map log_number layers.old) }
     requires fits { FitsDisk geometry piece.now }
     ensures put { PutsAt at piece.now layers.old layers.new (S.disk store.old) (S.disk store.new) result }
 {

@@ -127,7 +127,7 @@ impl Layers {
     ) -> Result<(), LayerFault>
         requires session { is_some self.old.leaf ≡ true }
         requires ready { AreReady self.old (S.disk store.old) }
-        requires low { IsLow (2 ^ 63 + 1) self.old }
+        requires low { IsLow (2 ^ 63 + 3) self.old }
         requires whole { length bytes.now % self.old.geometry.sector ≡ 0 }
         requires on_disk { first + length bytes.now / self.old.geometry.sector ≤ self.old.geometry.sectors }
         requires few { length bytes.now / self.old.geometry.sector ≤ 2048 }
@@ -136,6 +136,7 @@ impl Layers {
         ensures low { (most : ℕ) → IsLow most self.old → IsLow (most + 1) self.new }
         ensures session { is_some self.new.leaf ≡ true }
         ensures geometry { self.new.geometry ≡ self.old.geometry }
+        ensures merge { self.new.merge ≡ self.old.merge }
         ensures counts { OnOk result (S.disk store.new ≡ record (S.disk store.old) { told = (S.disk store.new).told }) }
         ensures err { IfErr result (Fails 0 (S.disk store.old) (S.disk store.new)) }
         ensures room { LayerRoomIs (λ leaf. false) first (length bytes.now / self.old.geometry.sector) self.old (S.disk store.old) result }
@@ -155,7 +156,7 @@ impl Layers {
     ) -> Result<(), LayerFault>
         requires session { is_some self.old.leaf ≡ true }
         requires ready { AreReady self.old (S.disk store.old) }
-        requires low { IsLow (2 ^ 63 + 1) self.old }
+        requires low { IsLow (2 ^ 63 + 3) self.old }
         requires on_disk { first + count ≤ self.old.geometry.sectors }
         requires few { count ≤ 524288 }
         ensures told { LayerTold (calls.Trim first count) self.old self.new (S.disk store.old) (S.disk store.new) result }
@@ -163,6 +164,7 @@ impl Layers {
         ensures low { (most : ℕ) → IsLow most self.old → IsLow (most + 1) self.new }
         ensures session { is_some self.new.leaf ≡ true }
         ensures geometry { self.new.geometry ≡ self.old.geometry }
+        ensures merge { self.new.merge ≡ self.old.merge }
         ensures counts { OnOk result (S.disk store.new ≡ record (S.disk store.old) { told = (S.disk store.new).told }) }
         ensures err { IfErr result (Fails 0 (S.disk store.old) (S.disk store.new)) }
         ensures room { LayerRoomIs (λ (leaf : Layer). not leaf.leave) first count self.old (S.disk store.old) result }
@@ -177,12 +179,13 @@ impl Layers {
     pub fn commit<S: Store>(&mut self, store: &mut S) -> Result<(), LayerFault>
         requires session { is_some self.old.leaf ≡ true }
         requires ready { AreReady self.old (S.disk store.old) }
-        requires low { IsLow (2 ^ 63 + 1) self.old }
+        requires low { IsLow (2 ^ 63 + 3) self.old }
         ensures told { LayerTold calls.Flush self.old self.new (S.disk store.old) (S.disk store.new) result }
         ensures ready { UnlessBroken result (AreReady self.new (S.disk store.new)) }
         ensures low { UnlessBroken result ((most : ℕ) → IsLow most self.old → IsLow (most + 1) self.new) }
         ensures session { is_some self.new.leaf ≡ true }
         ensures geometry { self.new.geometry ≡ self.old.geometry }
+        ensures merge { self.new.merge ≡ self.old.merge }
         ensures counts { OnOk result (S.disk store.new ≡ record (S.disk store.old) { told = (S.disk store.new).told }) }
         ensures err { IfErr result (Fails 0 (S.disk store.old) (S.disk store.new)) }
         ensures change { FailsByChange result }
@@ -196,7 +199,7 @@ impl Layers {
     /// Ends the session of every file that has one, from the base upward, the leaf last; nothing where the leaf has none.
     pub fn end<S: Store>(self, store: &mut S) -> Result<(), StoreFault>
         requires ready { AreReady self (S.disk store.old) }
-        requires low { IsLow (2 ^ 63 + 1) self }
+        requires low { IsLow (2 ^ 63 + 3) self }
         ensures told { EndsTold self (S.disk store.old) (S.disk store.new) result }
         ensures read { self.leaf ≡ None → (result ≡ Ok tt) × (store.new ≡ store.old) }
         ensures counts { OnOk result (S.disk store.new ≡ record (S.disk store.old) { told = (S.disk store.new).told }) }
@@ -236,7 +239,7 @@ fn end_files<S: Store>(mut below: Vec<FileLayer>, store: &mut S) -> Result<(), S
 }
 
 // The answer of a call whose one fault is a failed change.
-fn changed(done: Result<(), StoreFault>) -> Result<(), LayerFault>
+pub(crate) fn changed(done: Result<(), StoreFault>) -> Result<(), LayerFault>
     ensures { result ≡ as_change done }
 {
     match done {

@@ -4,6 +4,7 @@
 mod answer;
 mod chain;
 mod copying;
+mod finishing;
 mod laws;
 mod layers;
 mod merge_start;
@@ -13,4 +14,5 @@ pub use answer::Answer;
 pub use chain::Chain;
 pub use laws::sessions_are_held;
 pub use layers::Layers;
+pub use merge_start::MergeStartRefusal;
 pub use starting::{Mode, StartRefusal};

@@ -12,7 +12,8 @@ ghost use Rattle.std.specs.Option.{option_or};
 ghost use Rattle.layer_session.specs.declared.file_layer.FileLayer.TheVariants as kind;
 ghost use Rattle.merge_core.specs.Copied.{marks_of};
 ghost use Rattle.merge_plan.specs.Planning.{HasPlan};
-ghost use Rattle.chain_core.specs.MergeStarting.{AreLow, BeginsNoMerge, ChildBegun, ChildOver, InnerFails, LeavesRest, StartsMerge, chain_files, files_in, high_of, session_of, target_place};
+ghost use Rattle.merge_plan.specs.Merging.{source_place};
+ghost use Rattle.chain_core.specs.MergeStarting.{AreLow, BeginsMerge, ChildBegun, ChildOver, InnerFails, IsRoomFor, StartsWithMerge, chain_files, files_in, high_of, session_of};
 ghost use Rattle.log_format.specs.PendingPages.{HasOnePageEach};
 ghost use Rattle.log_write.specs.Writing.{BeginFails};
 ghost use Rattle.layer_session.specs.Calls.{KeepsOver};
@@ -20,7 +21,7 @@ ghost use Rattle.layer_session.specs.Closes.{HasClosed};
 ghost use Rattle.layer_session.specs.ReadOnly.{CanRead};
 ghost use Rattle.layer_session.specs.Updating.{HasUpdated, Turns, UpdatesOver};
 ghost use Rattle.chain_core.specs.MergeStarting as starting;
-ghost use Rattle.chain_core.specs.Starting.{AreReadOf, EachOpensAlike};
+ghost use Rattle.chain_core.specs.Starting.{AreReadOf};
 ghost use Rattle.merge_plan.specs.Attached.{CanStart};
 
 use crate::layers::{Layers, Underway};
@@ -30,9 +31,9 @@ use link_rules::LinkedFile;
 use log_format::Page;
 use log_write::SessionIds;
 use merge_core::{Marks, stripe_count};
-use merge_plan::{LogIds, Merge, NewIds};
+use merge_plan::{LogIds, Merge, NewIds, PrepareRefusal, prepare};
 use std::alloc::Global;
-use store_model::{SealFault, Store};
+use store_model::{Ids, SealFault, Store};
 use vx_base::{Geometry, Name, NoRoom};
 
 // The identifiers of a session in which the file's data change.
@@ -279,5 +280,136 @@ fn close<S: Store>(store: &mut S, source: Layer) -> Result<ReadLayer, SealFault>
     match source.close(store) {
         Ok(layer) => Ok(layer),
         Err(fault) => Err(SealFault::Store(fault)),
+    }
+}
+
+/// Why no session with a merge started.
+#[derive(Clone, Copy, Debug, PartialEq, Eq)]
+pub enum MergeStartRefusal {
+    /// 36: the number of a header of the files to be written leaves no room for those of a session: the leaf's, or the first of child,
+    /// source and target that has such a number. Nothing was drawn or changed.
+    Spent { number: u64 },
+    /// No merge is planned. Nothing was changed.
+    Plan(PrepareRefusal),
+    /// A read or a change of one of the merge's files or of the leaf failed, or memory ran out. The files open to the same disk.
+    Begin(SealFault),
+}
+
+impl From<PrepareRefusal> for MergeStartRefusal {
+    ghost use Rattle.std.specs.Prelude.{◌≡◌};
+    ghost use Rattle.chain_core.specs.declared.merge_start.MergeStartRefusal.TheVariants as variants;
+
+    ghost from_gives = { λ refusal e. e ≡ variants.Plan refusal };
+
+    fn from(refusal: PrepareRefusal) -> Self {
+        MergeStartRefusal::Plan(refusal)
+    }
+}
+
+impl From<SealFault> for MergeStartRefusal {
+    ghost use Rattle.std.specs.Prelude.{◌≡◌};
+    ghost use Rattle.chain_core.specs.declared.merge_start.MergeStartRefusal.TheVariants as variants;
+
+    ghost from_gives = { λ fault e. e ≡ variants.Begin fault };
+
+    fn from(fault: SealFault) -> Self {
+        MergeStartRefusal::Begin(fault)
+    }
+}
+
+impl From<NoRoom> for MergeStartRefusal {
+    ghost use Rattle.std.specs.Prelude.{◌≡◌};
+    ghost use Rattle.chain_core.specs.declared.merge_start.MergeStartRefusal.TheVariants as variants;
+    ghost use Rattle.store_model.specs.declared.fault.SealFault.TheVariants as seal;
+
+    ghost from_gives = { λ _ e. e ≡ variants.Begin seal.NoRoom };
+
+    fn from(_: NoRoom) -> Self {
+        MergeStartRefusal::Begin(SealFault::NoRoom)
+    }
+}
+
+// The files of a chain as those of the merge of the file at this place, which is neither the first nor the last.
+fn split<'a>(files: &'a [LinkedFile], place: usize) -> MergeOf<'a>
+    requires first { 0 < place }
+    requires last { place + 1 < length files.now }
+    ensures files { chain_files (files_in result) ≡ files.now }
+    ensures place { source_place (files_in result) ≡ place }
+{
+    MergeOf {
+        above: &files[..place - 1],
+        child: &files[place - 1],
+        source: &files[place],
+        target: &files[place + 1],
+        below: &files[place + 2..],
+    }
+}
+
+impl Layers {
+    // The layers of a chain whose merge is planned: the sessions begin, in an order in which the chain is linked at each moment.
+    fn begin_merge<S: Store>(
+        alloc: Global,
+        store: &mut S,
+        of: MergeOf<'_>,
+        merge: Merge,
+        room: Room,
+    ) -> Result<Layers, SealFault>
+        requires files { CanStart (chain_files (files_in of)) (S.disk store.old) }
+        requires plan { HasPlan (chain_files (files_in of)) (S.disk store.old) (files_in of) merge }
+        requires child { is_some merge.ids.child ≡ nat_lt 0 (length of.above.now) }
+        requires low { AreLow (files_in of) }
+        requires room { IsRoomFor (files_in of) room }
+        ensures { BeginsMerge (files_in of.entry) merge (S.disk store.old) (S.disk store.new) result }
+    {
+        let ids = merge.ids;
+        let place = of.above.len() as u32;
+        let top = leaf_of(of.above, of.child);
+        let leaf_ids = data_session(ids.leaf);
+        let leaf = Layer::begin(alloc, store, 0, &top.parts, leaf_ids, LEAF_PAGES)?;
+        let source_ids = log_session(ids.source);
+        let number = place + 1;
+        let parts = &of.source.parts;
+        let mut source = Layer::begin(alloc, store, number, parts, source_ids, OTHER_PAGES)?;
+        link_twice(store, &mut source, merge.twice.as_slice())?;
+        let target_ids = data_session(ids.target);
+        let parts = &of.target.parts;
+        let target = Layer::begin(alloc, store, number + 1, parts, target_ids, OTHER_PAGES)?;
+        let child = begin_child(alloc, store, place, of.child, ids.child)?;
+        let source = close(store, source)?;
+        let Ok(below) = assemble(room.above, child, source, target, room.below) else {
+            return Err(SealFault::NoRoom);
+        };
+        Ok(Layers {
+            geometry: top.parts.geometry,
+            leaf: Some(leaf),
+            below,
+            merge: Some(Underway {
+                source: place as usize,
+                marks: room.marks,
+                relink: merge.relink,
+            }),
+        })
+    }
+
+    /// The layers of a chain of these files of the store, which starts with the merge of the file of this name.
+    pub(crate) fn start_merge<S: Store, I: Ids>(
+        alloc: Global,
+        store: &mut S,
+        files: &[LinkedFile],
+        source: &Name,
+        ids: &mut I,
+    ) -> Result<Layers, MergeStartRefusal>
+        requires { CanStart files.now (S.disk store.old) }
+        ensures { StartsWithMerge files.now source.now (S.disk store.old) (S.disk store.new) (I.drawn ids.old) (I.drawn ids.new) result }
+    {
+        if let Some(number) = high_number(files, source) {
+            return Err(MergeStartRefusal::Spent { number });
+        }
+        let merge = prepare(alloc, store, files, source, ids)?;
+        let of = split(files, merge.source as usize);
+        let geometry = leaf_of(of.above, of.child).parts.geometry;
+        let room = Room::new(alloc, geometry, behind_first(of.above), merge.source + 2, of.below)?;
+        let layers = Layers::begin_merge(alloc, store, of, merge, room)?;
+        Ok(layers)
     }
 }

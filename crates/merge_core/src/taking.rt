@@ -80,6 +80,13 @@ impl Piece {
         self.filled
     }
 
+    /// Lets go of what was taken.
+    pub fn clear(&mut self)
+        ensures { self.new ≡ record self.old { filled = false } }
+    {
+        self.filled = false;
+    }
+
     /// The stripe that was taken.
     pub fn stripe(&self) -> u32
         ensures { result ≡ (piece_of self.now).stripe }

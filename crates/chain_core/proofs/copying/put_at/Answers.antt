@@ -1,6 +1,7 @@
 use Rattle.std.proofs.Common.{subst}
 use Rattle.layer_session.specs.declared.file_layer.FileLayer.TheVariants.{Session}
 use Rattle.chain_core.proofs.Places.{IsAt, at_place, ready_there}
+use Rattle.chain_core.proofs.TargetPuts.{put_room}
 use Rattle.chain_core.proofs.copying.put_at.Goals as goal
 
 pub put_piece-requires-clause-fits : goal.put_piece-requires-clause-fits
@@ -31,5 +32,6 @@ returns-in-Session g c =
         number = c.put_piece.ensures.number;
         counts = c.put_piece.ensures.counts;
         err = c.put_piece.ensures.err;
+        room = put_room c.args.piece.now c.in-Session.target (g.S.Store.disk c.args.store.now) c.put_piece.result c.put_piece.ensures.full c.put_piece.ensures.room;
       };
     }

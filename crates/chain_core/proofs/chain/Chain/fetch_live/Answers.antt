@@ -1,4 +1,5 @@
 use Rattle.std.proofs.Common.{refl, ap, sym, subst, ◌∙◌}
+use Rattle.chain_core.specs.Copying.{source_number}
 use Rattle.chain_core.specs.Sessions.{IsSound, seen}
 use Rattle.layer_session.specs.ReadOnly.{SomeReadFailed}
 use Rattle.guest_model.specs.declared.refusal.ChainRefusal.TheVariants.{ReadFault}
@@ -52,7 +53,7 @@ returns-in-Err-clause-sound g c =
 
 pub returns-in-Err-clause-cause : goal.returns-in-Err-clause-cause
 returns-in-Err-clause-cause g c fit =
-    (c.in-Err.ensures.empty, subst (λ d. SomeReadFailed d (g.S.Store.disk c.take.new.store) c.in-Err.fault) (ap (λ k. g.S.Store.disk k.store) c.admit.ensures.only) c.in-Err.ensures.err, ap (λ k. k.broken) c.admit.ensures.only ∙ c.in_ok-admit.ensures.whole)
+    (c.in-Err.ensures.empty, c.in-Err.ensures.whose ∙ ap (λ k. source_number k.layers) c.admit.ensures.only, subst (λ d. SomeReadFailed d (g.S.Store.disk c.take.new.store) c.in-Err.fault) (ap (λ k. g.S.Store.disk k.store) c.admit.ensures.only) c.in-Err.ensures.err, ap (λ k. k.broken) c.admit.ensures.only ∙ c.in_ok-admit.ensures.whole)
 
 pub returns-in-Err-clause-told : goal.returns-in-Err-clause-told
 returns-in-Err-clause-told g c =

@@ -24,7 +24,7 @@ returns-in-Some-clause-ready g c =
     subst (λ (answer : Result (Unit {0}) LayerFault). UnlessBroken answer (AreReady new (g.S.Store.disk c.commit.new.store))) (sym c.changed.ensures)
     (ready_committed c.args.self.now new c.in-Some.leaf c.commit.new.self (g.S.Store.disk c.args.store.now) (g.S.Store.disk c.commit.new.store) c.commit.result
     (record { geometry = refl; below = refl; merge = refl; parts = c.commit.ensures.parts; was = c.in-Some.is; now = refl }) c.commit.ensures.parts c.requires.ready
-    (others_stand.kept c.in-Some.leaf (g.S.Store.disk c.args.store.now) (g.S.Store.disk c.commit.new.store) (leaf_of c.args.self.now c.in-Some.leaf (g.S.Store.disk c.args.store.now) c.in-Some.is c.requires.ready).ready c.commit.ensures.moments) c.commit.ensures.counts c.commit.ensures.ready)
+    (others_stand.kept c.in-Some.leaf (g.S.Store.disk c.args.store.now) (g.S.Store.disk c.commit.new.store) (leaf_of c.args.self.now c.in-Some.leaf (g.S.Store.disk c.args.store.now) c.in-Some.is c.requires.ready).ready c.commit.ensures.moments) c.commit.ensures.counts c.commit.ensures.ready c.commit.ensures.committed)
 
 pub returns-in-Some-clause-change : goal.returns-in-Some-clause-change
 returns-in-Some-clause-change g c = subst FailsByChange (sym c.changed.ensures) (fails_by_change c.commit.result)

@@ -4,8 +4,7 @@ use Rattle.std.specs.Prelude.{Option, Some, None, IfSome}
 use Rattle.std.specs.List.{AllByRecursion}
 use Rattle.std.specs.Option.{option_or}
 use Rattle.std.proofs.lemmas.List.{append_assoc, map-append}
-use Rattle.store_model.specs.File.{is_synced}
-use Rattle.store_model.specs.Trace.{Trace, file_of}
+use Rattle.store_model.specs.Trace.{Trace}
 use Rattle.vhdx_format.specs.declared.log_entry.Page.{Page}
 use Rattle.chain_model.specs.Layers.{Layer as SectorLayer, through}
 use Rattle.chain_model.specs.Merges.{AllMarked, HasAllOf}
