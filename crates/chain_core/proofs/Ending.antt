@@ -34,6 +34,7 @@ use Rattle.chain_core.specs.Ending.{AreAllReady, AreNumbered, EndsOn, EndsOnTold
 use Rattle.chain_core.specs.Sessions.{AreApart, AreReady, IsLow}
 use Rattle.chain_core.specs.States.{AreHeld, AreWritten, IsLoose, IsServing, Rest, State, dirty_now, disk_now, files_of, is_session, merging, others_of, plain, sector_of, WasSynced}
 use Rattle.chain_core.proofs.Concluding.{both_told, same_told}
+use Rattle.chain_core.proofs.Links.{served_links}
 use Rattle.chain_core.proofs.Putting.{apart_around}
 use Rattle.chain_core.proofs.Rests.{opens_now}
 use Rattle.chain_core.proofs.Showing.{tight_others}
@@ -424,6 +425,7 @@ module _ (v : State) (leaf : Layer) (trace mid now : Trace) (moments : EachOpens
       record {
         ended = chain_ends;
         all = all_ended v now (still_once v.top.number (ShowsFile v.top) mid now top_phase is.once) top_stays.1 all;
+        links = served_links (sector_of v) v.opening v.history v.leaf v.retired (files_of v) now (still_once v.top.number (ShowsFile v.top) mid now top_phase is.once) top_stays.1;
         synced = λ session. all_synced v.writes v.since now top_still (files_of v) synced all;
       }
 

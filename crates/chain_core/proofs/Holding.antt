@@ -9,7 +9,8 @@ use Rattle.guest_model.specs.declared.refusal.ChainRefusal.{ChainRefusal}
 use Rattle.guest_model.proofs.HistoryLaws.{replay_unchanged}
 use Rattle.chain_model.specs.Moments.{EachOpens}
 use Rattle.chain_core.specs.declared.layers.Layers.{Layers}
-use Rattle.chain_core.specs.States.{State, IsServing, AreHeld, dirty_now, disk_now, entry, sector_of, with_entry, others_of}
+use Rattle.chain_core.specs.States.{State, IsServing, AreHeld, dirty_now, disk_now, entry, files_of, sector_of, with_entry, others_of}
+use Rattle.chain_core.proofs.Links.{served_links}
 use Rattle.chain_core.specs.Answering.{Answers, HasClosed, HasEndedWhole}
 use Rattle.chain_core.proofs.Steps.{at_rest}
 use Rattle.chain_core.proofs.Concluding.{SessionTold, both_told, same_told}
@@ -41,6 +42,7 @@ rests_whole v layers trace is serving =
     record {
       ended = record { moments = (at_rest v layers trace serving).moments; still = serving.still; past = serving.past };
       all = all_durable v layers trace serving tight;
+      links = served_links (sector_of v) v.opening v.history v.leaf v.retired (files_of v) trace serving.once serving.served;
       synced = λ session. absurd (cc);
     }
 

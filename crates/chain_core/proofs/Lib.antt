@@ -36,3 +36,4 @@ pub mod MergeBegun
 pub mod MergeSplit
 pub mod MergePlanned
 pub mod MergeRelinks
+pub mod Links

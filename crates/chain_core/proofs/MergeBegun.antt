@@ -1,5 +1,5 @@
 -- What the start of a planned merge answers, phase by phase.
-use Rattle.std.proofs.Common.{◌≡◌, ◌==◌, ◌||◌, ℕ, suc, ◌+◌, ◌-◌, ◌*◌, ◌^◌, ◌<◌, ◌≤◌, Bool, true, false, List, [], ◌∷◌, ◌++◌, length, map, refl, sym, ap, subst, ◌∙◌, arith, eq-eqb, ltb-true}
+use Rattle.std.proofs.Common.{◌≡◌, ◌==◌, ◌||◌, ℕ, suc, ◌+◌, ◌<◌, ◌≤◌, Bool, true, false, List, [], ◌∷◌, ◌++◌, length, map, refl, sym, ap, subst, ◌∙◌, arith, eq-eqb, ltb-true}
 use Rattle.std.proofs.lemmas.List.{length-append}
 use Rattle.std.specs.Prelude.{Option, Some, None, IfSome, is_some, nat_lt, option_map, Result, Ok, Err}
 use Rattle.std.specs.List.{AllByRecursion}
@@ -14,7 +14,6 @@ use Rattle.store_model.specs.declared.fault.SealFault.TheVariants.{NoRoom}
 use Rattle.log_write.specs.Writing.{BeginFails}
 use Rattle.table_pages.specs.declared.tables.TableParts.{TableParts}
 use Rattle.chain_model.specs.Images.{Placed}
-use Rattle.chain_model.specs.Stripes.{stripe_count}
 use Rattle.link_rules.specs.Lines.{IsLine}
 use Rattle.link_rules.specs.declared.linked.LinkedFile.{LinkedFile}
 use Rattle.log_write.specs.declared.ids.SessionIds.{SessionIds}
@@ -33,7 +32,7 @@ use Rattle.layer_session.specs.declared.read_layer.ReadLayer.{ReadLayer}
 use Rattle.merge_core.specs.Copied.{marks_of}
 use Rattle.merge_core.specs.declared.marks.Marks.{Marks}
 use Rattle.merge_plan.specs.Attached.{CanStart}
-use Rattle.merge_plan.specs.Merging.{KeepsLinks, MergeFiles, child_place, source_place}
+use Rattle.merge_plan.specs.Merging.{MergeFiles, child_place, source_place}
 use Rattle.merge_plan.specs.Planning.{HasPlan}
 use Rattle.merge_plan.specs.declared.drawing.LogIds.{LogIds}
 use Rattle.merge_plan.specs.declared.drawing.MergeIds.{MergeIds}
@@ -45,15 +44,15 @@ use Rattle.chain_core.specs.States.{AreHeld, IsCourse, IsServing, IsUnder, State
 use Rattle.chain_core.specs.declared.layers.Layers.{Layers}
 use Rattle.chain_core.specs.declared.layers.Underway.{Underway}
 use Rattle.chain_core.specs.declared.merge_start.Room.{Room}
-use Rattle.chain_core.proofs.Beginning.{by_recursion, none_logged, one_geometry}
+use Rattle.chain_core.proofs.Beginning.{none_logged, one_geometry}
 use Rattle.chain_core.proofs.Ending.{all_left}
 use Rattle.chain_core.proofs.MergeAsked.{begins_not, child_fresh, child_there, leaf_fresh, leaf_numbers, only_told, ready_still, source_fresh, source_there, target_fresh, target_there}
 use Rattle.chain_core.proofs.MergeChild.{child_stage, child_told, leaf_only}
 use Rattle.chain_core.proofs.MergeFound.{files_split, lower_files, rest_found}
 use Rattle.chain_core.proofs.MergeLayers.{CountFrom, IsMade, Low, all_behind, count_both, count_read, counted_apart, counted_others, front_len, is_merge, low_two, made_read, made_ready, read_len}
-use Rattle.chain_core.proofs.MergePhases.{AtChild, AtEnd, AtLeaf, AtLocator, AtSource, AtTarget}
+use Rattle.chain_core.proofs.MergePhases.{AtChild, AtLeaf, AtLocator, AtSource, AtTarget}
 use Rattle.chain_core.proofs.MergeRelinks.{child_turns_by, some_told}
-use Rattle.chain_core.proofs.MergeReady.{Ended, serves_told}
+use Rattle.chain_core.proofs.MergeReady.{serves_told}
 use Rattle.chain_core.proofs.MergeServed.{all_both, child_written, target_written}
 use Rattle.chain_core.proofs.MergeStages.{OpenedBy, end_stage, end_told, leaf_stage, leaf_told, locator_stage, locator_told, moments_of, serve_on, source_serves, source_stage, source_told, source_turns, still_of, target_serves, target_stage, target_told}
 use Rattle.chain_core.proofs.MergeTold.{served_at, told_last}
@@ -350,8 +349,7 @@ module _ (m : MergeFiles) (merge : Merge) (d : Disk) (can : CanStart (chain_file
       counted =
           count_both 1 (room.above.items ++ session_of child) (Read source ∷ Session target ∷ room.below.items)
           (front_counts m.above room.above.items child for.above child_some child_made)
-          (subst (λ (n : ℕ). CountFrom (1 + n) (Read source ∷ Session target ∷ room.below.items)) (sym front_many)
-          (
+          (subst (λ (n : ℕ). CountFrom (1 + n) (Read source ∷ Session target ∷ room.below.items)) (sym front_many) (
             (ap (λ (p : TableParts). p.file) source_parts ∙ source_of.number ∙ (let e : length m.above + 1 ≡ 1 + length m.above = omega arith in e)),
             (
               (target_made.of.number ∙ (let e : length m.above + 1 + 1 ≡ 1 + length m.above + 1 = omega arith in e)),
@@ -372,8 +370,7 @@ module _ (m : MergeFiles) (merge : Merge) (d : Disk) (can : CanStart (chain_file
       made_all =
           all_both (IsMade g b) (room.above.items ++ session_of child) (Read source ∷ Session target ∷ room.below.items)
           (all_both (IsMade g b) room.above.items (session_of child)
-          (made_read g b 1 (behind_first m.above) room.above.items for.above (above_there m.above (omega (arith, many_files, b_files))) (all_behind (λ (f : LinkedFile). f.parts.geometry ≡ g) m.above above_geometry)) (child_in child child_made))
-          (
+          (made_read g b 1 (behind_first m.above) room.above.items for.above (above_there m.above (omega (arith, many_files, b_files))) (all_behind (λ (f : LinkedFile). f.parts.geometry ≡ g) m.above above_geometry)) (child_in child child_made)) (
             (
               (can_read.there, can_read.sizes),
               (

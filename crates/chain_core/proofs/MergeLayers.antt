@@ -4,7 +4,7 @@ use Rattle.std.proofs.lemmas.List.{length-append}
 use Rattle.std.specs.Prelude.{⊤, Option, Some, None, IfSome, is_some, nat_lt}
 use Rattle.std.specs.List.{AllByRecursion}
 use Rattle.vx_base.specs.declared.parts.Geometry.{Geometry}
-use Rattle.store_model.specs.Disk.{Disk, WhereTold}
+use Rattle.store_model.specs.Disk.{Disk}
 use Rattle.store_model.specs.Trace.{Trace}
 use Rattle.table_pages.specs.Held.{HasTables}
 use Rattle.chain_model.specs.Images.{Placed}

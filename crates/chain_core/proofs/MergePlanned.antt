@@ -1,11 +1,10 @@
 -- A merge that was planned over a chain's files, as the merge of those files parted round its source.
-use Rattle.std.proofs.Common.{◌≡◌, ℕ, zero, suc, ◌+◌, ◌*◌, ◌^◌, ◌<◌, ◌≤◌, false, List, [], ◌∷◌, ◌++◌, length, get_or, refl, sym, ap, subst, ◌∙◌, arith}
-use Rattle.std.specs.Prelude.{Option, Some, None, All, Result, Ok, Err, IfErr, IfOk}
+use Rattle.std.proofs.Common.{◌≡◌, ℕ, zero, suc, ◌<◌, false, List, [], ◌∷◌, length, get_or, refl, sym, ap, subst, ◌∙◌, arith}
+use Rattle.std.specs.Prelude.{Option, Some, None, All, Result, Ok, Err}
 use Rattle.std.specs.List.{AllByRecursion}
 use Rattle.std.specs.Result.{IsErr, IsErrAnd}
-use Rattle.vhdx_format.specs.AllocationTables.{IsSectorSize}
 use Rattle.vhdx_format.specs.FileParts.{HasNumbers}
-use Rattle.store_model.specs.Disk.{Disk, WhereBothTold, WhereTold}
+use Rattle.store_model.specs.Disk.{Disk}
 use Rattle.store_model.specs.Trace.{Trace, file_of}
 use Rattle.store_model.specs.declared.fault.SealFault.{SealFault}
 use Rattle.store_model.specs.declared.fault.SealFault.TheVariants.{NoRoom}
@@ -13,11 +12,11 @@ use Rattle.link_rules.specs.Effects.{IsServed}
 use Rattle.link_rules.specs.declared.linked.LinkedFile.{LinkedFile}
 use Rattle.merge_plan.specs.Attached.{CanStart}
 use Rattle.merge_plan.specs.Merging.{MergeFiles, source_place}
-use Rattle.merge_plan.specs.Planning.{HasPlan, IsBegun, IsPlanned, IsStopped, Refuses, Stops}
+use Rattle.merge_plan.specs.Planning.{HasPlan, IsBegun, IsPlanned, Refuses}
 use Rattle.merge_plan.specs.declared.merge.Merge.{Merge}
 use Rattle.merge_plan.specs.declared.refusal.PrepareRefusal.{PrepareRefusal}
 use Rattle.merge_plan.specs.declared.refusal.PrepareRefusal.TheVariants as plan
-use Rattle.chain_core.specs.MergeStarting.{AreLow, BeginsMerge, HasStartedMerge, LeavesRest, PlansMerge, RefusesMerge, StartsWithMerge, behind_first, chain_files, is_changed, leaf_of, spent}
+use Rattle.chain_core.specs.MergeStarting.{AreLow, BeginsMerge, LeavesRest, PlansMerge, StartsWithMerge, behind_first, chain_files, is_changed, leaf_of, spent}
 use Rattle.chain_core.specs.Starting.{EachOpensAlike}
 use Rattle.chain_core.specs.declared.layers.Layers.{Layers}
 use Rattle.chain_core.specs.declared.merge_start.MergeStartRefusal.{MergeStartRefusal}

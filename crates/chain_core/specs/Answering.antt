@@ -1,9 +1,9 @@
 -- What the answer of a guest call says: for every store, and where it tells its content.
-use Rattle.std.specs.Prelude.{◌≡◌, ◌+◌, ◌/◌, ℕ, Bool, true, false, is_some, length, ◌++◌, ◌∷◌, [], Option, Some, None, option_map, not, Result, Ok, Err, IfSome}
+use Rattle.std.specs.Prelude.{◌≡◌, ◌+◌, ◌/◌, ℕ, List, Bool, true, false, is_some, length, ◌++◌, ◌∷◌, [], Option, Some, None, option_map, not, Result, Ok, Err, IfSome}
 use Rattle.std.specs.List.{AllByRecursion}
 use Rattle.store_model.specs.declared.fault.StoreFault.{StoreFault}
 use Rattle.store_model.specs.Disk.{Disk, WhereBothTold}
-use Rattle.store_model.specs.Trace.{Trace, EachMoment, file_of}
+use Rattle.store_model.specs.Trace.{NamedBytes, Trace, EachMoment, file_of}
 use Rattle.store_model.specs.File.{is_synced}
 use Rattle.guest_model.specs.declared.refusal.ChainRefusal.{ChainRefusal}
 use Rattle.guest_model.specs.declared.refusal.ChainRefusal.TheVariants as refusals
@@ -14,6 +14,9 @@ use Rattle.guest_model.specs.declared.call.Caller.{Caller}
 use Rattle.guest_model.specs.declared.call.Entry.{Entry}
 use Rattle.guest_model.specs.Calls.{is_named}
 use Rattle.guest_model.specs.History.{either}
+use Rattle.chain_model.specs.Files.{IsLinked, files_in}
+use Rattle.chain_model.specs.Images.{IsCleanImage, members_of}
+use Rattle.chain_model.specs.Members.{Member, names_of}
 use Rattle.chain_model.specs.Moments.{EachOpens, EachOpensToPrefix}
 use Rattle.layer_session.specs.declared.file.Layer.{Layer}
 use Rattle.layer_session.specs.declared.file.LayerFault.{LayerFault}
@@ -135,10 +138,17 @@ pub record HasEnded (v : State) (trace now : Trace) : Type 0 where
   pub still : LeavesOthers v now
   pub past : EachOpensToPrefix (sector_of v) v.opening v.history (λ s. false) v.leaf v.began now
 
--- The session has ended: each image opens to the history's disk, on all sectors, and if there was a session nothing of any file is unsynced.
+-- each image of the moment is linked, from the leaf's name, by files of these names and no others
+abbrev pub EachLinks : List ℕ → List (List ℕ) → Trace → Type 0
+EachLinks leaf names trace =
+    (image : List NamedBytes) → IsCleanImage trace image → (retired chain : List Member) → IsLinked (files_in image) leaf retired chain → names_of chain ≡ names
+
+-- The session has ended: each image opens to the history's disk, on all sectors, by the files of the chain, and if there was a session
+-- nothing of any file is unsynced.
 pub record HasEndedWhole (session : Bool) (v : State) (trace now : Trace) : Type 0 where
   pub ended : HasEnded v trace now
   pub all : EachOpens v.leaf (λ s. false) (disk_now v) now
+  pub links : EachLinks v.leaf (names_of (members_of (files_of v))) now
   pub synced : session ≡ true → AllByRecursion (λ f. is_synced (file_of now f.number) ≡ true) (files_of v)
 
 abbrev pub HasClosed : Bool → State → Trace → Trace → Result (Unit {0}) StoreFault → Type 0

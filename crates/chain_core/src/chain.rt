@@ -444,6 +444,7 @@ impl<S: Store, R: Recorder> Chain<S, R> {
         ensures events { self.new.events ≡ counted self.old.events }
         ensures geometry { self.new.layers.geometry ≡ self.old.layers.geometry }
         ensures session { is_some self.new.layers.leaf ≡ is_some self.old.layers.leaf }
+        ensures merge { self.new.layers.merge ≡ self.old.layers.merge }
         ensures history { self.new.recorder ≡ self.old.recorder }
         ensures early { IfStopped (fetch_refused stripe (seen S.disk R.noted R.told self.old)) result (IsCounted self.old self.new × (piece.new ≡ piece.old)) }
         ensures cause { fetch_refused stripe (seen S.disk R.noted R.told self.old) ≡ None → FetchCause (seen S.disk R.noted R.told self.old) (seen S.disk R.noted R.told self.new) piece.new result }

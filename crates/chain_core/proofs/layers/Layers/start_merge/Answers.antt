@@ -1,4 +1,4 @@
-use Rattle.std.proofs.Common.{◌≡◌, ℕ, ◌+◌, List, refl, sym, ap, subst, ◌∙◌, arith}
+use Rattle.std.proofs.Common.{◌≡◌, ℕ, ◌+◌, List, sym, ap, subst, ◌∙◌, arith}
 use Rattle.std.specs.Prelude.{None}
 use Rattle.store_model.specs.declared.fault.SealFault.TheVariants.{NoRoom}
 use Rattle.chain_model.specs.Stripes.{stripe_count}
@@ -7,7 +7,7 @@ use Rattle.merge_plan.specs.Merging.{source_place}
 use Rattle.chain_core.specs.MergeStarting.{StartsWithMerge, files_in, spent}
 use Rattle.chain_core.specs.Starting.{AreReadOf}
 use Rattle.chain_core.specs.declared.merge_start.MergeStartRefusal.TheVariants.{Begin, Plan}
-use Rattle.chain_core.proofs.MergePlanned.{above_served, below_served, handed, has_begun, leaf_numbers, low, no_room, none_of, not_begun, plan_at, plans, spent_start, unplanned}
+use Rattle.chain_core.proofs.MergePlanned.{above_served, below_served, handed, has_begun, leaf_numbers, low, no_room, none_of, not_begun, plan_at, spent_start, unplanned}
 use Rattle.chain_core.proofs.layers.Layers.start_merge.Goals as goal
 
 pub returns-in-Some : goal.returns-in-Some
