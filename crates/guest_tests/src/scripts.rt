@@ -42,6 +42,17 @@ fn lines_are_read(rt: HostRuntime) -> Result<(), Fail> {
     };
     let steps = [(1, read), (1, write), (1, trim), (1, Form::Flush)];
     assert!(rt; are_lines(rt.alloc(), STEPS, forms, &steps)?);
+    let merging = b"fetch 0\nput\nfetch 4294967295\ncopy\nfinish\n";
+    let lowest = Form::Fetch { stripe: 0 };
+    let highest = Form::Fetch { stripe: u32::MAX };
+    let steps = [
+        (1, lowest),
+        (1, Form::Put),
+        (1, highest),
+        (1, Form::Copy),
+        (1, Form::Finish),
+    ];
+    assert!(rt; are_lines(rt.alloc(), STEPS, merging, &steps)?);
     let served = [(1, write), (64, Form::Flush)];
     assert!(rt; are_lines(rt.alloc(), SERVE, b"1 write 0 1 ab\n64 flush\n", &served)?);
     assert!(rt; are_lines(rt.alloc(), SERVE, b"\n\n#", &[])?);
@@ -61,7 +72,7 @@ fn broken_line(alloc: Global, kind: ScriptKind, text: &[u8]) -> Result<Option<u6
     }
 }
 
-static BROKEN_STEPS: [(&[u8], u64); 14] = [
+static BROKEN_STEPS: [(&[u8], u64); 21] = [
     (b"flush\nwrite 0 1 g1\nread\n", 2),
     (b"read 0 01", 1),
     (b"read 0  1", 1),
@@ -74,14 +85,30 @@ static BROKEN_STEPS: [(&[u8], u64); 14] = [
     (b"write 0 1 0aa", 1),
     (b"read -1 1", 1),
     (b"1 flush", 1),
-    (b"\nfinish", 2),
+    (b"\nfinished", 2),
+    (b"finish\nfinish 0", 2),
+    (b"copy\nput 1", 2),
+    (b"fetch", 1),
+    (b"fetch 0\nfetch 4294967296", 2),
+    (b"fetch 01", 1),
+    (b"fetch 0 1", 1),
+    (b"1 put", 1),
     (
         b"\n#23456789012345678901234567890123456789012345678901234567890123456789012345678901",
         2,
     ),
 ];
 
-static BROKEN_SERVE: [&[u8]; 5] = [b"flush", b"0 flush", b"65 flush", b"1  flush", b"1 put"];
+static BROKEN_SERVE: [&[u8]; 8] = [
+    b"flush",
+    b"0 flush",
+    b"65 flush",
+    b"1  flush",
+    b"1 fetch 0",
+    b"1 put",
+    b"1 copy",
+    b"1 finish",
+];
 
 #[test]
 fn the_first_broken_line_is_named(rt: HostRuntime) -> Result<(), Fail> {

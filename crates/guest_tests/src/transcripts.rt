@@ -73,6 +73,37 @@ fn a_transcript_of_steps(rt: HostRuntime) -> Result<(), Fail> {
     Ok(())
 }
 
+#[test]
+fn a_transcript_of_a_merge(rt: HostRuntime) -> Result<(), Fail> {
+    let alloc = rt.alloc();
+    let fetch = Form::Fetch { stripe: 1023 };
+    let stale = ChainRefusal::Stale { taken: 0, now: 1 };
+    let missing = ChainRefusal::NotYet { stripe: 7 };
+    let ended = ChainRefusal::NoMerge;
+    let told = [
+        told(alloc, None, fetch, Answer::Stamp(0))?,
+        told(alloc, Some(1), write(0, 1, 1), Answer::Done)?,
+        told(alloc, None, Form::Put, Answer::Refused(stale))?,
+        told(alloc, None, fetch, Answer::Stamp(u64::MAX))?,
+        told(alloc, None, Form::Put, Answer::Copied)?,
+        told(alloc, None, Form::Finish, Answer::Refused(missing))?,
+        told(alloc, None, Form::Copy, Answer::Done)?,
+        told(alloc, None, Form::Finish, Answer::Done)?,
+        told(alloc, None, Form::Copy, Answer::Refused(ended))?,
+    ];
+    let wanted = "- fetch 1023 = stamp 0\n\
+        1 write 0 1 01 = done\n\
+        - put = refused 46 Stale taken 0 now 1\n\
+        - fetch 1023 = stamp 18446744073709551615\n\
+        - put = copied\n\
+        - finish = refused 47 NotYet stripe 7\n\
+        - copy = done\n\
+        - finish = done\n\
+        - copy = refused 45 NoMerge\n";
+    assert_eq!(rt; steps_text(alloc, &told)?.as_str(), wanted);
+    Ok(())
+}
+
 // The calls of one guest.
 fn calls(first: ToldCall, second: ToldCall, alloc: Global) -> Result<ToldCalls, Fail>
     ensures { IfOk result (λ calls. length calls ≡ 2) }

@@ -6,7 +6,7 @@ ghost use Rattle.mem_store.specs.HostTold.{hosted_by};
 ghost use Rattle.store_model.specs.Disk.{WhereTold};
 
 use crate::common::{
-    Patch, bytes_of, empty_host, host_with, ids_of, line_of, prepare, run_done, run_line,
+    Patch, add, bytes_of, empty_host, host_with, ids_of, line_of, prepare, run_done, run_line,
 };
 use crate::files::{FIXED, file_of, place, zeroed};
 use mem_store::{MemHost, MemIds, Room};
@@ -16,17 +16,7 @@ use std::sync::Wait;
 use std::test::Fail;
 use std::thread::Threads;
 use vhdx_app::Status;
-use vx_base::{Name, Units};
-
-// Puts one more file, of a new name, into the host.
-fn add(alloc: Global, host: &mut MemHost, name: &str, bytes: &[u8]) -> Result<(), Fail>
-    requires { WhereTold (hosted_by host.old).folder AllIdle }
-    ensures { OnOk result (WhereTold (hosted_by host.new).folder AllIdle) }
-{
-    let name = Name::new(alloc, name)?;
-    host.put(&name, bytes)?;
-    Ok(())
-}
+use vx_base::Units;
 
 // The bytes of the host's file of a name, with these bytes over its own.
 fn patched_file(

@@ -1,5 +1,5 @@
 -- What lines leave of the store's content where it isn't told, or is only read.
-use Rattle.std.proofs.Common.{◌≡◌, ◌+◌, ◌^◌, ◌||◌, ℕ, Bool, true, false, List, [], ◌∷◌, Option, Some, None, Result, Ok, Err, refl, sym, ap, subst, ◌∙◌}
+use Rattle.std.proofs.Common.{◌≡◌, ◌^◌, ℕ, Bool, true, false, List, [], ◌∷◌, Option, Some, None, Result, Ok, Err, refl, sym, ap, subst, ◌∙◌}
 use Rattle.std.specs.Prelude.{IfSome, if◌then◌else◌, is_some, nat_lt}
 use Rattle.store_model.specs.Disk.{Disk, WhereBothTold}
 use Rattle.store_model.specs.Trace.{Trace}
@@ -8,14 +8,19 @@ use Rattle.guest_model.specs.declared.call.Call.{Call}
 use Rattle.guest_model.specs.declared.call.Call.TheVariants as calls
 use Rattle.guest_model.specs.declared.call.Reply.{Reply}
 use Rattle.guest_model.specs.declared.refusal.ChainRefusal.{ChainRefusal}
-use Rattle.guest_model.specs.declared.refusal.ChainRefusal.TheVariants.{NoRoom, ReadFault, ReadOnly, Spent}
+use Rattle.guest_model.specs.declared.refusal.ChainRefusal.TheVariants.{NoMerge, NoRoom, ReadFault, Spent}
 use Rattle.chain_core.specs.Answering.{IsCausedByRead}
-use Rattle.chain_core.specs.Refusing.{barred, broken_by, counted, is_read, misplaced, or_else, out_of, range_of, refused, unfit}
+use Rattle.chain_core.specs.Refusing.{broken_by, counted, misplaced, or_else, refused, unfit}
 use Rattle.chain_core.specs.Sessions.{Session}
-use Rattle.script.specs.declared.form.Form.{Form}
+use Rattle.merge_core.specs.declared.piece.Piece.{Piece}
+use Rattle.chain_core.specs.Copying.{IfStopped, fetch_refused, merge_refused, no_merge, put_refused}
+use Rattle.chain_core.specs.Sessions.{IsMergeOf, IsSound}
+use Rattle.chain_core.specs.declared.layers.Underway.{Underway}
 use Rattle.script.specs.declared.form.Line.{Line}
 use Rattle.script_session.specs.Answers.{Answers, AnswersLine, AnswersLines, HasCauseOf}
-use Rattle.script_session.specs.Told.{Told, call_of, caller}
+use Rattle.script_session.specs.MergeSteps.{AnswersCopy, AnswersFetch, AnswersFinish, AnswersPut, AnswersTurn, AnswersTurns, EndsCopy, IsUnchanged, all_moved, fetched_and, no_turn, not_fetched, one_more, one_refused}
+use Rattle.script_session.specs.Told.{Asked, Told, asked, asks_call, asks_copy, asks_fetch, asks_finish, asks_put, caller, next_number}
+use Rattle.script_session.proofs.Moving.{first_of}
 use Rattle.script_session.proofs.Room.{changes_none}
 
 pub both_untold : (R : Trace → Trace → Type 0) (before after : Option Trace) → before ≡ None → WhereBothTold R before after → after ≡ None
@@ -45,10 +50,7 @@ module _ (old new : Session) (read_only : is_some old.layers.leaf ≡ false) whe
   call_stays (calls.Trim first count) answer c fit = absurd (changes_none old (calls.Trim first count) read_only refl fit)
   call_stays calls.Flush answer c fit = absurd (changes_none old calls.Flush read_only refl fit)
 
-module _ (number : ℕ) (form : Form) (old new : Session) where
-  abbrev call : Call
-  call = call_of form
-
+module _ (number : ℕ) (call : Call) (old new : Session) where
   -- refused before the files are reached, or not
   by_cause : (P : Option Trace → Type 0) (answer : Result ℕ ChainRefusal) (r : Reply) → P old.disk.told → (refused call old ≡ None → P new.disk.told) → Answers (caller number) call answer r old new → P new.disk.told
   by_cause P answer r early reached h = go (refused call old) refl
@@ -63,31 +65,116 @@ module _ (number : ℕ) (form : Form) (old new : Session) where
   answer_untold answer r none h =
       by_cause (λ o. o ≡ None) answer r none (λ fit. both_untold _ old.disk.told new.disk.told none (h.told (unbroken old.events old.broken (misplaced call old.layers) fit))) h
 
-  line_untold : (t : Told) → old.disk.told ≡ None → AnswersLine number form t old new → new.disk.told ≡ None
-  line_untold (Ok d) none h = answer_untold (Ok d.0) d.1 none h
-  line_untold (Err x) none h = answer_untold (Err x) _ none h
-
   answer_stays : (answer : Result ℕ ChainRefusal) (r : Reply) → is_some old.layers.leaf ≡ false → Answers (caller number) call answer r old new → new.disk.told ≡ old.disk.told
   answer_stays answer r read_only h = by_cause (λ o. o ≡ old.disk.told) answer r refl (call_stays old new read_only call answer h.cause) h
 
-  line_stays : (t : Told) → is_some old.layers.leaf ≡ false → AnswersLine number form t old new → (new.disk.told ≡ old.disk.told) × (is_some new.layers.leaf ≡ false)
-  line_stays (Ok d) read_only h = (answer_stays (Ok d.0) d.1 read_only h, h.session ∙ read_only)
-  line_stays (Err x) read_only h = (answer_stays (Err x) _ read_only h, h.session ∙ read_only)
+-- ---- steps of a merge
+
+-- where content isn't told
+fetch_untold : (stripe : ℕ) (answer : Result ℕ ChainRefusal) (old new : Session) (left : Piece) → old.disk.told ≡ None → AnswersFetch stripe answer old new left → new.disk.told ≡ None
+fetch_untold stripe answer old new left none h = go (fetch_refused stripe old) refl
+  where
+    go : (o : Option ChainRefusal) → fetch_refused stripe old ≡ o → new.disk.told ≡ None
+    go None is = both_untold _ old.disk.told new.disk.told none (h.told is)
+    go (Some e) is = ap (λ (s : Session). s.disk.told) (subst (λ o. IfStopped {T = ℕ} o answer (IsUnchanged old new)) is h.early).1 ∙ none
+
+put_untold : (piece : Piece) (answer : Result (Unit {0}) ChainRefusal) (old new : Session) → old.disk.told ≡ None → AnswersPut piece answer old new → new.disk.told ≡ None
+put_untold piece answer old new none h = go (put_refused piece old) refl
+  where
+    go : (o : Option ChainRefusal) → put_refused piece old ≡ o → new.disk.told ≡ None
+    go None is = both_untold _ old.disk.told new.disk.told none (h.told is)
+    go (Some e) is = ap (λ (s : Session). s.disk.told) (subst (λ o. IfStopped {T = Unit {0}} o answer (IsUnchanged old new)) is h.early).1 ∙ none
+
+turn_untold : (stripe : ℕ) (answer : Result (Unit {0}) ChainRefusal) (old new : Session) → old.disk.told ≡ None → AnswersTurn stripe answer old new → new.disk.told ≡ None
+turn_untold stripe answer old new none (not_fetched x _ _ left fetched) = fetch_untold stripe (Err x) old new left none fetched
+turn_untold stripe answer old new none (fetched_and _ stamp _ mid _ piece fetched put) = put_untold piece answer mid new (fetch_untold stripe (Ok stamp) old mid piece none fetched) put
+
+turns_untold : (old : Session) (slot : Piece) (new : Session) (left : Piece) → old.disk.told ≡ None → AnswersTurns old slot new left → new.disk.told ≡ None
+turns_untold old slot _ _ none no_turn = none
+turns_untold old slot new left none (one_more stripe mid _ held _ turns next turn empty) = turn_untold stripe (Ok tt) mid new (turns_untold old slot mid held none turns) turn
+
+copy_untold : (answer : Result (Unit {0}) ChainRefusal) (old new : Session) (slot left : Piece) → old.disk.told ≡ None → AnswersCopy answer old slot new left → new.disk.told ≡ None
+copy_untold answer old new slot left none h = go (merge_refused old) refl
+  where
+    ends : (answer : Result (Unit {0}) ChainRefusal) → EndsCopy old slot answer new left → new.disk.told ≡ None
+    ends _ (all_moved _ _ turns sound missing) = turns_untold old slot new left none turns
+    ends _ (one_refused x stripe mid _ held _ turns next turn empty) = turn_untold stripe (Err x) mid new (turns_untold old slot mid held none turns) turn
+
+    go : (o : Option ChainRefusal) → merge_refused old ≡ o → new.disk.told ≡ None
+    go None is = ends answer (h.turns is)
+    go (Some e) is = ap (λ (s : Session). s.disk.told) (subst (λ o. IfStopped {T = Unit {0}} o answer ((new ≡ old) × (left ≡ slot))) is h.early).1.0 ∙ none
+
+finish_untold : (answer : Result (Unit {0}) ChainRefusal) (old new : Session) → old.disk.told ≡ None → AnswersFinish answer old new → new.disk.told ≡ None
+finish_untold answer old new none h = go (merge_refused old) refl
+  where
+    go : (o : Option ChainRefusal) → merge_refused old ≡ o → new.disk.told ≡ None
+    go None is = both_untold _ old.disk.told new.disk.told none (h.told is)
+    go (Some e) is = ap (λ (s : Session). s.disk.told) (subst (λ o. IfStopped {T = Unit {0}} o answer (IsUnchanged old new)) is h.early).1 ∙ none
+
+line_untold : (number : ℕ) (step : Asked) (t : Told) (old new : Session) (slot left : Piece) → old.disk.told ≡ None → AnswersLine number step t old slot new left → new.disk.told ≡ None
+line_untold number (asks_call call) t old new slot left none h = answer_untold number call old new h.0.answer h.0.reply none h.0.answers
+line_untold number (asks_fetch stripe) t old new slot left none h = fetch_untold stripe h.0 old new left none h.2
+line_untold number asks_put t old new slot left none h = put_untold slot h.0 old new none h.2
+line_untold number asks_copy t old new slot left none h = copy_untold h.0 old new slot left none h.2
+line_untold number asks_finish t old new slot left none h = finish_untold h.0 old new none h.2
+
+-- where the files are only read no merge is under way
+no_merge_read : (s : Session) → IsSound s → is_some s.layers.leaf ≡ false → (e : ChainRefusal) × (merge_refused s ≡ Some e)
+no_merge_read s sound read_only = by_unfit (unfit s.events s.broken) refl
+  where
+    by_merge : (o : Option Underway) → s.layers.merge ≡ o → s.broken ≡ None → no_merge s.layers ≡ Some NoMerge
+    by_merge None is whole = ap (λ o. if is_some o then None else Some NoMerge) is
+    by_merge (Some u) is whole =
+        let merge : IsMergeOf s.layers.geometry s.layers.leaf s.layers.below.items u = subst (λ o. IfSome o (IsMergeOf s.layers.geometry s.layers.leaf s.layers.below.items)) is (sound.ready whole).merge in
+        absurd (let bad : false ≡ true = sym read_only ∙ merge.session in cc)
+
+    by_unfit : (o : Option ChainRefusal) → unfit s.events s.broken ≡ o → (e : ChainRefusal) × (merge_refused s ≡ Some e)
+    by_unfit (Some e) is = (e, ap (λ o. or_else o (no_merge s.layers)) is)
+    by_unfit None is = (NoMerge, ap (λ o. or_else o (no_merge s.layers)) is ∙ by_merge s.layers.merge refl (unbroken s.events s.broken None (ap (λ o. or_else o None) is)))
+
+fetch_first : (u : Option ChainRefusal) (b : Bool) (x : Option ChainRefusal) (e : ChainRefusal) → or_else u (if b then None else Some NoMerge) ≡ Some e → or_else u (if b then x else Some NoMerge) ≡ Some e
+fetch_first (Some y) b x e h = h
+fetch_first None false x e h = h
+fetch_first None true x e h = let bad : ◌≡◌ {A = Option ChainRefusal} None (Some e) = h in absurd (cc)
+
+-- a line leaves the files, which are only read
+line_stays : (number : ℕ) (step : Asked) (t : Told) (old new : Session) (slot left : Piece) → is_some old.layers.leaf ≡ false → AnswersLine number step t old slot new left → (new.disk.told ≡ old.disk.told) × (is_some new.layers.leaf ≡ false)
+line_stays number (asks_call call) t old new slot left read_only h =
+    (answer_stays number call old new h.0.answer h.0.reply read_only h.0.answers, h.0.answers.session ∙ read_only)
+line_stays number (asks_fetch stripe) t old new slot left read_only h =
+    let cause = no_merge_read old h.2.sound read_only in
+    let is : fetch_refused stripe old ≡ Some cause.0 = fetch_first (unfit old.events old.broken) (is_some old.layers.merge) _ cause.0 cause.1 in
+    let only = (subst (λ o. IfStopped {T = ℕ} o h.0 (IsUnchanged old new)) is h.2.early).1 in
+    (ap (λ (s : Session). s.disk.told) only, h.2.keeps.session ∙ read_only)
+line_stays number asks_put t old new slot left read_only h =
+    let cause = no_merge_read old h.2.sound read_only in
+    let is : put_refused slot old ≡ Some cause.0 = first_of (unfit old.events old.broken) (no_merge old.layers) _ cause.0 cause.1 in
+    let only = (subst (λ o. IfStopped {T = Unit {0}} o h.0 (IsUnchanged old new)) is h.2.early).1 in
+    (ap (λ (s : Session). s.disk.told) only, h.2.keeps.session ∙ read_only)
+line_stays number asks_copy t old new slot left read_only h =
+    let cause = no_merge_read old h.2.sound read_only in
+    let same = (subst (λ o. IfStopped {T = Unit {0}} o h.0 ((new ≡ old) × (left ≡ slot))) cause.1 h.2.early).1.0 in
+    (ap (λ (s : Session). s.disk.told) same, ap (λ (s : Session). is_some s.layers.leaf) same ∙ read_only)
+line_stays number asks_finish t old new slot left read_only h =
+    let cause = no_merge_read old h.2.sound read_only in
+    let only = (subst (λ o. IfStopped {T = Unit {0}} o h.0 (IsUnchanged old new)) cause.1 h.2.early).1 in
+    (ap (λ (s : Session). s.disk.told) only, h.2.keeps.session ∙ read_only)
 
 -- ---- all lines
 
 -- content that isn't told before lines isn't told behind them
-pub lines_untold : (number : ℕ) (lines : List Line) (told : List Told) (old new : Session) → old.disk.told ≡ None → AnswersLines number lines told old new → new.disk.told ≡ None
-lines_untold number [] [] old new none is = ap (λ (s : Session). s.disk.told) is ∙ none
-lines_untold number [] (t ∷ told) old new none is = absurd is
-lines_untold number (line ∷ lines) [] old new none is = absurd is
-lines_untold number (line ∷ lines) (t ∷ told) old new none is = lines_untold (number + 1) lines told is.0 new (line_untold number line.form old is.0 t none is.1) is.2
+pub lines_untold : (number : ℕ) (lines : List Line) (told : List Told) (old new : Session) (slot left : Piece) → old.disk.told ≡ None → AnswersLines number lines told old slot new left → new.disk.told ≡ None
+lines_untold number [] [] old new slot left none is = ap (λ (s : Session). s.disk.told) is.0 ∙ none
+lines_untold number [] (t ∷ told) old new slot left none is = absurd is
+lines_untold number (line ∷ lines) [] old new slot left none is = absurd is
+lines_untold number (line ∷ lines) (t ∷ told) old new slot left none is =
+    lines_untold (next_number number line.form) lines told is.0 new is.1 left (line_untold number (asked line.form) t old is.0 slot is.1 none is.2) is.3
 
 -- lines change no file where the files are only read
-pub lines_stay : (number : ℕ) (lines : List Line) (told : List Told) (old new : Session) → is_some old.layers.leaf ≡ false → AnswersLines number lines told old new → new.disk.told ≡ old.disk.told
-lines_stay number [] [] old new read_only is = ap (λ (s : Session). s.disk.told) is
-lines_stay number [] (t ∷ told) old new read_only is = absurd is
-lines_stay number (line ∷ lines) [] old new read_only is = absurd is
-lines_stay number (line ∷ lines) (t ∷ told) old new read_only is =
-    let one = line_stays number line.form old is.0 t read_only is.1 in
-    lines_stay (number + 1) lines told is.0 new one.1 is.2 ∙ one.0
+pub lines_stay : (number : ℕ) (lines : List Line) (told : List Told) (old new : Session) (slot left : Piece) → is_some old.layers.leaf ≡ false → AnswersLines number lines told old slot new left → new.disk.told ≡ old.disk.told
+lines_stay number [] [] old new slot left read_only is = ap (λ (s : Session). s.disk.told) is.0
+lines_stay number [] (t ∷ told) old new slot left read_only is = absurd is
+lines_stay number (line ∷ lines) [] old new slot left read_only is = absurd is
+lines_stay number (line ∷ lines) (t ∷ told) old new slot left read_only is =
+    let one = line_stays number (asked line.form) t old is.0 slot is.1 read_only is.2 in
+    lines_stay (next_number number line.form) lines told is.0 new is.1 left one.1 is.3 ∙ one.0

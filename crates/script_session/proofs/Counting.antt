@@ -15,14 +15,19 @@ use Rattle.guest_model.specs.declared.refusal.ChainRefusal.TheVariants.{Abandone
 use Rattle.guest_model.specs.Ranges.{range_refusal}
 use Rattle.chain_core.specs.Answering.{IsCausedBy, IsCausedByRead}
 use Rattle.chain_core.specs.Answering as chain
-use Rattle.chain_core.specs.Refusing.{barred, broken_by, counted, is_read, misplaced, or_else, out_of, refused, unfit}
+use Rattle.chain_core.specs.Refusing.{broken_by, counted, misplaced, or_else, out_of, refused, unfit}
 use Rattle.chain_core.specs.Sessions.{Session}
 use Rattle.chain_core.specs.declared.layers.Layers.{Layers}
-use Rattle.script.specs.declared.form.Form.{Form}
+use Rattle.chain_core.specs.Copying.{FetchCause, IfStopped, PutCause, fetch_refused, merge_refused, no_merge, no_piece, no_stripe, past_stripes, put_refused, stale, target_number, unfilled}
+use Rattle.chain_core.specs.Finished.{FinishCause, HasFinished}
+use Rattle.merge_core.specs.declared.piece.Piece.{Piece}
+use Rattle.script.specs.Transcript.{of_call}
 use Rattle.script.specs.declared.form.Line.{Line}
-use Rattle.script_session.specs.Answers.{Answers, AnswersLine, AnswersLines, HasCauseOf}
+use Rattle.script_session.specs.Answers.{Answers, AnswersCall, AnswersLine, AnswersLines, HasCauseOf, as_copied, as_done, with_reply, with_stamp}
+use Rattle.script_session.specs.MergeSteps.{AnswersCopy, AnswersFetch, AnswersFinish, AnswersPut, AnswersTurn, AnswersTurns, EndsCopy, IsUnchanged, all_moved, fetched_and, no_turn, not_fetched, one_more, one_refused}
 use Rattle.script_session.specs.Faults.{Counts, CountsFaults, LinesCountFaults}
-use Rattle.script_session.specs.Told.{Told, call_of, caller, fault_of, last_fault, later_of}
+use Rattle.script_session.specs.Told.{Asked, Told, asked, asks_call, asks_copy, asks_fetch, asks_finish, asks_put, caller, fault_of, last_fault, later_of, next_number}
+use Rattle.script_session.proofs.Moving.{ok_reached}
 use Rattle.script_session.proofs.Running.{later_than_none}
 use Rattle.script_session.proofs.Telling.{same_err}
 
@@ -187,10 +192,7 @@ broken_cause events fault later = go (nat_lt events (2 ^ 63))
     go true = (Broken fault.file fault.count, refl, inr refl)
     go false = (Spent events, refl, inl refl)
 
-module _ (number : ℕ) (form : Form) (old new : Session) where
-  abbrev call : Call
-  call = call_of form
-
+module _ (number : ℕ) (call : Call) (old new : Session) where
   -- refused before the files are reached
   refused_early : (answer : Result ℕ ChainRefusal) (r : Reply) (e : ChainRefusal) → refused call old ≡ Some e → Answers (caller number) call answer r old new → (answer ≡ Err e) × (new ≡ record old { events = counted old.events })
   refused_early answer r e is h = subst (λ o. IfSome o (λ e. (answer ≡ Err e) × (new ≡ record old { events = counted old.events }))) is h.early
@@ -209,16 +211,19 @@ module _ (number : ℕ) (form : Form) (old new : Session) where
             let early = refused_early (Err x) r e is h in
             line_rests (early_quiet call old x whole (is ∙ ap Some (sym (same_err x e early.0)))) (ap (λ (s : Session). s.broken) early.1 ∙ whole) (same_told old.disk new.disk (ap (λ (s : Session). s.disk) early.1))
 
-    done_counts : (d : ℕ × Reply) → Answers (caller number) call (Ok d.0) d.1 old new → LineCounts (Ok d) old new
+    done_counts : (d : ℕ × Reply) → Answers (caller number) call (Ok d.0) d.1 old new → LineCounts (Ok (Some d.0, of_call d.1)) old new
     done_counts d h = go (refused call old) refl
       where
-        go : (o : Option ChainRefusal) → refused call old ≡ o → LineCounts (Ok d) old new
+        go : (o : Option ChainRefusal) → refused call old ≡ o → LineCounts (Ok (Some d.0, of_call d.1)) old new
         go None is = let both = done_rests old new some call d.0 h.cause is in line_rests refl both.0 both.1
         go (Some e) is = let bad : ◌≡◌ {A = Result ℕ ChainRefusal} (Ok d.0) (Err e) = (refused_early (Ok d.0) d.1 e is h).0 in absurd (cc)
 
-    line_counts : (t : Told) → AnswersLine number form t old new → LineCounts t old new
-    line_counts (Ok d) h = done_counts d h
-    line_counts (Err x) h = refused_counts x _ h
+    call_counts : (t : Told) → AnswersCall number call t old new → LineCounts t old new
+    call_counts t h = subst (λ t. LineCounts t old new) (sym h.is) (go h.answer h.answers)
+      where
+        go : (answer : Result ℕ ChainRefusal) → Answers (caller number) call answer h.reply old new → LineCounts (with_reply h.reply answer) old new
+        go (Ok place) a = done_counts (place, h.reply) a
+        go (Err x) a = refused_counts x h.reply a
 
   module _ (fault : StoreFault) (broken : old.broken ≡ Some fault) where
     broken_early : (answer : Result ℕ ChainRefusal) (r : Reply) → Answers (caller number) call answer r old new
@@ -228,18 +233,268 @@ module _ (number : ℕ) (form : Form) (old new : Session) where
         let early = refused_early answer r cause.0 (ap (λ b. or_else (unfit old.events b) (misplaced call old.layers)) broken ∙ cause.1) h in
         (cause.0, early.0, early.1, cause.2)
 
-    line_stays_broken : (t : Told) → AnswersLine number form t old new → StaysBroken fault t old new
-    line_stays_broken (Ok d) h =
-        let b = broken_early (Ok d.0) d.1 h in
-        let bad : ◌≡◌ {A = Result ℕ ChainRefusal} (Ok d.0) (Err b.0) = b.1 in
-        absurd (cc)
-    line_stays_broken (Err x) h =
-        let b = broken_early (Err x) _ h in
+    call_stays_broken : (t : Told) → AnswersCall number call t old new → StaysBroken fault t old new
+    call_stays_broken t h =
+        let b = broken_early h.answer h.reply h.answers in
         record {
           same = ap (λ (s : Session). s.disk) b.2;
           broken = ap (λ (s : Session). s.broken) b.2 ∙ broken;
-          told = subst (λ e. TellsAtMost (fault_of (Err e)) fault) (sym (same_err x b.0 b.1)) b.3;
+          told = subst (λ t. TellsAtMost (fault_of t) fault) (sym (h.is ∙ ap (with_reply h.reply) b.1)) b.3;
         }
+
+-- ---- one step of a merge
+
+-- in a session that isn't broken
+step_quiet : (events : ℕ) (broken : Option StoreFault) (later : Option ChainRefusal) (x : ChainRefusal) → broken ≡ None → (later ≡ Some x → Quiet x) → or_else (unfit events broken) later ≡ Some x → Quiet x
+step_quiet events broken later x whole q h = go (nat_lt events (2 ^ 63)) (subst (λ b. or_else (unfit events b) later ≡ Some x) whole h)
+  where
+    go : (b : Bool) → or_else (if b then None else Some (Spent events)) later ≡ Some x → Quiet x
+    go true h = q h
+    go false h = quiet_by (Spent events) x h refl
+
+none_quiet : (x : ChainRefusal) → None ≡ Some x → Quiet x
+none_quiet x h = let bad : ◌≡◌ {A = Option ChainRefusal} None (Some x) = h in absurd (cc)
+
+merge_quiet : (b : Bool) (x : ChainRefusal) → (if b then None else Some NoMerge) ≡ Some x → Quiet x
+merge_quiet true x h = none_quiet x h
+merge_quiet false x h = quiet_by NoMerge x h refl
+
+past_quiet : (stripe stripes : ℕ) (x : ChainRefusal) → past_stripes stripe stripes ≡ Some x → Quiet x
+past_quiet stripe stripes x = go (nat_lt stripe stripes)
+  where
+    go : (b : Bool) → (if b then None else Some (NoStripe stripe stripes)) ≡ Some x → Quiet x
+    go true h = none_quiet x h
+    go false h = quiet_by (NoStripe stripe stripes) x h refl
+
+stripe_quiet : (stripe : ℕ) (layers : Layers) (x : ChainRefusal) → no_stripe stripe layers ≡ Some x → Quiet x
+stripe_quiet stripe layers x = go (is_some layers.merge) _ (past_quiet stripe _ x)
+  where
+    go : (b : Bool) (o : Option ChainRefusal) → (o ≡ Some x → Quiet x) → (if b then o else Some NoMerge) ≡ Some x → Quiet x
+    go true o q h = q h
+    go false o q h = quiet_by NoMerge x h refl
+
+or_quiet : (a b : Option ChainRefusal) (x : ChainRefusal) → (a ≡ Some x → Quiet x) → (b ≡ Some x → Quiet x) → or_else a b ≡ Some x → Quiet x
+or_quiet None b x p q h = q h
+or_quiet (Some y) b x p q h = p h
+
+unfilled_quiet : (b : Bool) (x : ChainRefusal) → (if b then None else Some NoPiece) ≡ Some x → Quiet x
+unfilled_quiet true x h = none_quiet x h
+unfilled_quiet false x h = quiet_by NoPiece x h refl
+
+stale_quiet : (stamp : ℕ) (x : ChainRefusal) → stale stamp ≡ Some x → Quiet x
+stale_quiet stamp x = go (stamp == 0)
+  where
+    go : (b : Bool) → (if b then None else Some (Stale stamp 0)) ≡ Some x → Quiet x
+    go true h = none_quiet x h
+    go false h = quiet_by (Stale stamp 0) x h refl
+
+piece_quiet : (piece : Piece) (layers : Layers) (x : ChainRefusal) → no_piece piece layers ≡ Some x → Quiet x
+piece_quiet piece layers x =
+    or_quiet (no_merge layers) _ x (merge_quiet (is_some layers.merge) x)
+    (or_quiet (unfilled piece) _ x (unfilled_quiet piece.filled x) (or_quiet (no_stripe piece.stripe layers) (stale piece.stamp) x (stripe_quiet piece.stripe layers x) (stale_quiet piece.stamp x)))
+
+module _ (old new : Session) (left : Piece) where
+  fetch_fault : (x : ChainRefusal) → FetchCause old new left (Err x) → Fault old new x
+  fetch_fault EmptyRange c = absurd c
+  fetch_fault (OutOfRange first count sectors) c = absurd c
+  fetch_fault (TooLong count limit) c = absurd c
+  fetch_fault ReadOnly c = absurd c
+  fetch_fault (Broken file count) c = absurd c
+  fetch_fault (Spent t) c = absurd c
+  fetch_fault (FileFull next) c = absurd c
+  fetch_fault (ReadFault file count) c =
+      let fault = chain.fault_of file count in
+      faults (ReadFault file count) fault refl (counts_read file old.disk new.disk fault old.disk.told c.2.0 c.2.1) (ap (λ (d : Disk). d.files) c.2.1.stays) (inl (c.3, c.2.1.count.told))
+  fetch_fault NoMerge c = absurd c
+  fetch_fault (Stale taken at) c = absurd c
+  fetch_fault (NotYet stripe) c = absurd c
+  fetch_fault (Abandoned file count) c = absurd c
+  fetch_fault (NoStripe stripe stripes) c = absurd c
+  fetch_fault NoPiece c = absurd c
+  fetch_fault NoRoom c = absurd c
+
+module _ (piece : Piece) (old new : Session) where
+  put_fault : (x : ChainRefusal) → PutCause piece old new (Err x) → Fault old new x
+  put_fault EmptyRange c = absurd c
+  put_fault (OutOfRange first count sectors) c = absurd c
+  put_fault (TooLong count limit) c = absurd c
+  put_fault ReadOnly c = absurd c
+  put_fault (Broken file count) c =
+      let fault = chain.fault_of file count in
+      faults (Broken file count) fault refl (counts_change (target_number old.layers) old.disk new.disk fault c.1 c.2) (ap (λ (d : Disk). d.files) c.2.stays) (inr c.3)
+  put_fault (Spent t) c = absurd c
+  put_fault (FileFull next) c = rests (FileFull next) refl c.2 c.1
+  put_fault (ReadFault file count) c =
+      let fault = chain.fault_of file count in
+      faults (ReadFault file count) fault refl (counts_read (target_number old.layers) old.disk new.disk fault new.disk.told c.1 c.2) (ap (λ (d : Disk). d.files) c.2.stays)
+      (inl (c.3, c.2.count.told ∙ ap new.disk.failed_reads (sym c.2.of_file)))
+  put_fault NoMerge c = absurd c
+  put_fault (Stale taken at) c = absurd c
+  put_fault (NotYet stripe) c = absurd c
+  put_fault (Abandoned file count) c = absurd c
+  put_fault (NoStripe stripe stripes) c = absurd c
+  put_fault NoPiece c = absurd c
+  put_fault NoRoom c = absurd c
+
+-- what is refused before the files are reached
+early_fault : {T : Type 0} (old new : Session) (x e : ChainRefusal) → old.broken ≡ None → Quiet e → ◌≡◌ {A = Result T ChainRefusal} (Err x) (Err e) → IsUnchanged old new → Fault old new x
+early_fault {T} old new x e whole quiet is only =
+    let same : x ≡ e = cc in
+    rests x (subst Quiet (sym same) quiet) (ap (λ (s : Session). s.broken) only ∙ whole) (same_told old.disk new.disk (ap (λ (s : Session). s.disk) only))
+
+fetch_ends : (stripe : ℕ) (x : ChainRefusal) (old new : Session) (left : Piece) → old.broken ≡ None → AnswersFetch stripe (Err x) old new left → Fault old new x
+fetch_ends stripe x old new left whole h = go (fetch_refused stripe old) refl
+  where
+    go : (o : Option ChainRefusal) → fetch_refused stripe old ≡ o → Fault old new x
+    go None is = fetch_fault old new left x (h.cause is)
+    go (Some e) is =
+        let early = subst (λ o. IfStopped {T = ℕ} o (Err x) (IsUnchanged old new)) is h.early in
+        early_fault {T = ℕ} old new x e whole (step_quiet old.events old.broken (no_stripe stripe old.layers) e whole (stripe_quiet stripe old.layers e) is) early.0 early.1
+
+put_ends : (piece : Piece) (x : ChainRefusal) (old new : Session) → old.broken ≡ None → AnswersPut piece (Err x) old new → Fault old new x
+put_ends piece x old new whole h = go (put_refused piece old) refl
+  where
+    go : (o : Option ChainRefusal) → put_refused piece old ≡ o → Fault old new x
+    go None is = put_fault piece old new x (h.cause is)
+    go (Some e) is =
+        let early = subst (λ o. IfStopped {T = Unit {0}} o (Err x) (IsUnchanged old new)) is h.early in
+        early_fault {T = Unit {0}} old new x e whole (step_quiet old.events old.broken (no_piece piece old.layers) e whole (piece_quiet piece old.layers e) is) early.0 early.1
+
+-- a step that was done
+record Rests (old new : Session) : Type 0 where
+  whole : new.broken ≡ None
+  same : new.disk ≡ record (old.disk) { told = new.disk.told }
+
+fetch_rests : (stripe stamp : ℕ) (old new : Session) (left : Piece) → AnswersFetch stripe (Ok stamp) old new left → Rests old new
+fetch_rests stripe stamp old new left h =
+    let cause = h.cause (ok_reached _ (fetch_refused stripe old) stamp h.early) in
+    record { whole = cause.2; same = same_told old.disk new.disk cause.1 }
+
+put_rests : (piece : Piece) (old new : Session) → AnswersPut piece (Ok tt) old new → Rests old new
+put_rests piece old new h =
+    let cause = h.cause (ok_reached _ (put_refused piece old) tt h.early) in
+    record { whole = cause.2; same = cause.1 }
+
+both_rest : (old mid new : Session) → Rests old mid → Rests mid new → Rests old new
+both_rest old mid new a b = record { whole = b.whole; same = told_both old.disk mid.disk new.disk a.same b.same }
+
+fault_behind : (old mid new : Session) (x : ChainRefusal) → Rests old mid → Fault mid new x → Fault old new x
+fault_behind old mid new x a (rests _ q b e) = rests x q b (told_both old.disk mid.disk new.disk a.same e)
+fault_behind old mid new x a (faults _ fault f counts files b) = faults x fault f counts (files ∙ ap (λ (d : Disk). d.files) a.same) b
+
+turn_rests : (stripe : ℕ) (old new : Session) → AnswersTurn stripe (Ok tt) old new → Rests old new
+turn_rests stripe old new (fetched_and _ stamp _ mid _ piece fetched put) = both_rest old mid new (fetch_rests stripe stamp old mid piece fetched) (put_rests piece mid new put)
+
+turn_fault : (stripe : ℕ) (x : ChainRefusal) (old new : Session) → old.broken ≡ None → AnswersTurn stripe (Err x) old new → Fault old new x
+turn_fault stripe x old new whole (not_fetched _ _ _ left fetched) = fetch_ends stripe x old new left whole fetched
+turn_fault stripe x old new whole (fetched_and _ stamp _ mid _ piece fetched put) =
+    let a = fetch_rests stripe stamp old mid piece fetched in
+    fault_behind old mid new x a (put_ends piece x mid new a.whole put)
+
+turns_rest : (old : Session) (slot : Piece) (new : Session) (left : Piece) → old.broken ≡ None → AnswersTurns old slot new left → Rests old new
+turns_rest old slot _ _ whole no_turn = record { whole = whole; same = refl }
+turns_rest old slot new left whole (one_more stripe mid _ held _ turns next turn empty) = both_rest old mid new (turns_rest old slot mid held whole turns) (turn_rests stripe mid new turn)
+
+by_fault : (x : ChainRefusal) (old new : Session) → Fault old new x → LineCounts (Err x) old new
+by_fault x old new (rests _ q b e) = line_rests q b e
+by_fault x old new (faults _ fault f counts files b) = line_faults fault f counts files b
+
+module _ (old new : Session) (slot left : Piece) (whole : old.broken ≡ None) where
+  fetch_counts : (stripe : ℕ) (answer : Result ℕ ChainRefusal) → AnswersFetch stripe answer old new left → LineCounts (with_stamp answer) old new
+  fetch_counts stripe (Ok stamp) h = let r = fetch_rests stripe stamp old new left h in line_rests refl r.whole r.same
+  fetch_counts stripe (Err x) h = by_fault x old new (fetch_ends stripe x old new left whole h)
+
+  put_counts : (answer : Result (Unit {0}) ChainRefusal) → AnswersPut slot answer old new → LineCounts (as_copied answer) old new
+  put_counts (Ok done) h = let r = put_rests slot old new h in line_rests refl r.whole r.same
+  put_counts (Err x) h = by_fault x old new (put_ends slot x old new whole h)
+
+  copy_ends : (answer : Result (Unit {0}) ChainRefusal) → EndsCopy old slot answer new left → LineCounts (as_done answer) old new
+  copy_ends _ (all_moved _ _ turns sound missing) = let r = turns_rest old slot new left whole turns in line_rests refl r.whole r.same
+  copy_ends _ (one_refused x stripe mid _ held _ turns next turn empty) =
+      let r = turns_rest old slot mid held whole turns in
+      by_fault x old new (fault_behind old mid new x r (turn_fault stripe x mid new r.whole turn))
+
+  copy_counts : (answer : Result (Unit {0}) ChainRefusal) → AnswersCopy answer old slot new left → LineCounts (as_done answer) old new
+  copy_counts answer h = go (merge_refused old) refl
+    where
+      go : (o : Option ChainRefusal) → merge_refused old ≡ o → LineCounts (as_done answer) old new
+      go None is = copy_ends answer (h.turns is)
+      go (Some e) is =
+          let early = subst (λ o. IfStopped {T = Unit {0}} o answer ((new ≡ old) × (left ≡ slot))) is h.early in
+          let quiet : Quiet e = step_quiet old.events old.broken (no_merge old.layers) e whole (merge_quiet (is_some old.layers.merge) e) is in
+          subst (λ a. LineCounts (as_done a) old new) (sym early.0)
+          (line_rests quiet (ap (λ (s : Session). s.broken) early.1.0 ∙ whole) (same_told old.disk new.disk (ap (λ (s : Session). s.disk) early.1.0)))
+
+  finish_ends : (x : ChainRefusal) → FinishCause old new (Err x) (IsUnchanged old new) → Fault old new x
+  finish_ends EmptyRange c = absurd c
+  finish_ends (OutOfRange first count sectors) c = absurd c
+  finish_ends (TooLong count limit) c = absurd c
+  finish_ends ReadOnly c = absurd c
+  finish_ends (Broken file count) c =
+      let fault = chain.fault_of file count in
+      faults (Broken file count) fault refl (counts_change fault.file old.disk new.disk fault c.fails.within c.fails.fails) (ap (λ (d : Disk). d.files) c.fails.fails.stays) (inr c.broken)
+  finish_ends (Spent t) c = absurd c
+  finish_ends (FileFull next) c = absurd c
+  finish_ends (ReadFault file count) c = absurd c
+  finish_ends NoMerge c = absurd c
+  finish_ends (Stale taken at) c = absurd c
+  finish_ends (NotYet stripe) c =
+      let only : IsUnchanged old new = c.1 in
+      rests (NotYet stripe) refl (ap (λ (s : Session). s.broken) only ∙ whole) (same_told old.disk new.disk (ap (λ (s : Session). s.disk) only))
+  finish_ends (Abandoned file count) c = absurd c
+  finish_ends (NoStripe stripe stripes) c = absurd c
+  finish_ends NoPiece c = absurd c
+  finish_ends NoRoom c = absurd c
+
+  finish_counts : (answer : Result (Unit {0}) ChainRefusal) → AnswersFinish answer old new → LineCounts (as_done answer) old new
+  finish_counts answer h = go (merge_refused old) refl answer h.cause h.early
+    where
+      go : (o : Option ChainRefusal) → merge_refused old ≡ o → (answer : Result (Unit {0}) ChainRefusal) → (merge_refused old ≡ None → FinishCause old new answer (IsUnchanged old new)) → IfStopped (merge_refused old) answer (IsUnchanged old new)
+          → LineCounts (as_done answer) old new
+      go None is (Ok done) cause early = let c : HasFinished old new = cause is in line_rests refl c.whole c.counts
+      go None is (Err x) cause early = by_fault x old new (finish_ends x (cause is))
+      go (Some e) is answer cause early =
+          let first = subst (λ o. IfStopped {T = Unit {0}} o answer (IsUnchanged old new)) is early in
+          let quiet : Quiet e = step_quiet old.events old.broken (no_merge old.layers) e whole (merge_quiet (is_some old.layers.merge) e) is in
+          subst (λ a. LineCounts (as_done a) old new) (sym first.0)
+          (line_rests quiet (ap (λ (s : Session). s.broken) first.1 ∙ whole) (same_told old.disk new.disk (ap (λ (s : Session). s.disk) first.1)))
+
+  line_counts : (number : ℕ) (step : Asked) (t : Told) → 0 < old.disk.files → AnswersLine number step t old slot new left → LineCounts t old new
+  line_counts number (asks_call call) t some h = call_counts number call old new whole some t h.0
+  line_counts number (asks_fetch stripe) t some h = subst (λ t. LineCounts t old new) (sym h.1) (fetch_counts stripe h.0 h.2)
+  line_counts number asks_put t some h = subst (λ t. LineCounts t old new) (sym h.1) (put_counts h.0 h.2)
+  line_counts number asks_copy t some h = subst (λ t. LineCounts t old new) (sym h.1) (copy_counts h.0 h.2)
+  line_counts number asks_finish t some h = subst (λ t. LineCounts t old new) (sym h.1) (finish_counts h.0 h.2)
+
+-- in a session that a fault broke
+module _ (old new : Session) (slot left : Piece) (fault : StoreFault) (broken : old.broken ≡ Some fault) where
+  -- what a step is refused by then
+  step_cause : (later : Option ChainRefusal) → (e : ChainRefusal) × (or_else (unfit old.events old.broken) later ≡ Some e) × TellsAtMost (fault_of (Err e)) fault
+  step_cause later =
+      let cause = broken_cause old.events fault later in
+      (cause.0, ap (λ b. or_else (unfit old.events b) later) broken ∙ cause.1, cause.2)
+
+  step_stays : (t : Told) (e : ChainRefusal) → t ≡ Err e → new.disk ≡ old.disk → new.broken ≡ old.broken → TellsAtMost (fault_of (Err e)) fault → StaysBroken fault t old new
+  step_stays t e is same stays tells = record { same = same; broken = stays ∙ broken; told = subst (λ t. TellsAtMost (fault_of t) fault) (sym is) tells }
+
+  line_stays_broken : (number : ℕ) (step : Asked) (t : Told) → AnswersLine number step t old slot new left → StaysBroken fault t old new
+  line_stays_broken number (asks_call call) t h = call_stays_broken number call old new fault broken t h.0
+  line_stays_broken number (asks_fetch stripe) t h =
+      let cause = step_cause (no_stripe stripe old.layers) in
+      let early = subst (λ o. IfStopped {T = ℕ} o h.0 (IsUnchanged old new)) cause.1 h.2.early in
+      step_stays t cause.0 (h.1 ∙ ap with_stamp early.0) (ap (λ (s : Session). s.disk) early.1) (ap (λ (s : Session). s.broken) early.1) cause.2
+  line_stays_broken number asks_put t h =
+      let cause = step_cause (no_piece slot old.layers) in
+      let early = subst (λ o. IfStopped {T = Unit {0}} o h.0 (IsUnchanged old new)) cause.1 h.2.early in
+      step_stays t cause.0 (h.1 ∙ ap as_copied early.0) (ap (λ (s : Session). s.disk) early.1) (ap (λ (s : Session). s.broken) early.1) cause.2
+  line_stays_broken number asks_copy t h =
+      let cause = step_cause (no_merge old.layers) in
+      let early = subst (λ o. IfStopped {T = Unit {0}} o h.0 ((new ≡ old) × (left ≡ slot))) cause.1 h.2.early in
+      step_stays t cause.0 (h.1 ∙ ap as_done early.0) (ap (λ (s : Session). s.disk) early.1.0) (ap (λ (s : Session). s.broken) early.1.0) cause.2
+  line_stays_broken number asks_finish t h =
+      let cause = step_cause (no_merge old.layers) in
+      let early = subst (λ o. IfStopped {T = Unit {0}} o h.0 (IsUnchanged old new)) cause.1 h.2.early in
+      step_stays t cause.0 (h.1 ∙ ap as_done early.0) (ap (λ (s : Session). s.disk) early.1) (ap (λ (s : Session). s.broken) early.1) cause.2
 
 -- ---- all lines of a session that a fault broke
 
@@ -253,13 +508,14 @@ later_at_most a b fault first (inr f) = inr (ap (later_of a) f)
 later_at_most a b fault (inl f) (inl g) = inl (ap (later_of a) g ∙ f)
 later_at_most a b fault (inr f) (inl g) = inr (ap (later_of a) g ∙ f)
 
-lines_stay_broken : (number : ℕ) (lines : List Line) (told : List Told) (old new : Session) (fault : StoreFault) → old.broken ≡ Some fault → AnswersLines number lines told old new → StayBroken fault told old new
-lines_stay_broken number [] [] old new fault broken is = record { same = ap (λ (s : Session). s.disk) is; broken = ap (λ (s : Session). s.broken) is ∙ broken; tells = inl refl }
-lines_stay_broken number [] (t ∷ told) old new fault broken is = absurd is
-lines_stay_broken number (line ∷ lines) [] old new fault broken is = absurd is
-lines_stay_broken number (line ∷ lines) (t ∷ told) old new fault broken is =
-    let one = line_stays_broken number line.form old is.0 fault broken t is.1 in
-    let rest = lines_stay_broken (number + 1) lines told is.0 new fault one.broken is.2 in
+lines_stay_broken : (number : ℕ) (lines : List Line) (told : List Told) (old new : Session) (slot left : Piece) (fault : StoreFault) → old.broken ≡ Some fault → AnswersLines number lines told old slot new left
+    → StayBroken fault told old new
+lines_stay_broken number [] [] old new slot left fault broken is = record { same = ap (λ (s : Session). s.disk) is.0; broken = ap (λ (s : Session). s.broken) is.0 ∙ broken; tells = inl refl }
+lines_stay_broken number [] (t ∷ told) old new slot left fault broken is = absurd is
+lines_stay_broken number (line ∷ lines) [] old new slot left fault broken is = absurd is
+lines_stay_broken number (line ∷ lines) (t ∷ told) old new slot left fault broken is =
+    let one = line_stays_broken old is.0 slot is.1 fault broken number (asked line.form) t is.2 in
+    let rest = lines_stay_broken (next_number number line.form) lines told is.0 new is.1 left fault one.broken is.3 in
     record { same = rest.same ∙ one.same; broken = rest.broken; tells = later_at_most (fault_of t) (last_fault told) fault one.told rest.tells }
 
 -- ---- all lines
@@ -316,19 +572,19 @@ module _ (t : Told) (told : List Told) (old mid new : Session) (files : mid.disk
       by_told o (inr some) = ap (later_of (fault_of t)) some
 
 pub lines_counted : LinesCountFaults
-lines_counted number [] [] old new some whole is = record {
-  files = ap (λ (s : Session). s.disk.files) is;
+lines_counted number [] [] old new slot left some whole is = record {
+  files = ap (λ (s : Session). s.disk.files) is.0;
   last = tt;
-  broken = subst (λ o. IfSome o (λ fault. ◌≡◌ {A = Option StoreFault} None (Some fault))) (sym (ap (λ (s : Session). s.broken) is ∙ whole)) tt;
+  broken = subst (λ o. IfSome o (λ fault. ◌≡◌ {A = Option StoreFault} None (Some fault))) (sym (ap (λ (s : Session). s.broken) is.0 ∙ whole)) tt;
   unbroken = λ whole. tt;
-  quiet = λ none. same_told old.disk new.disk (ap (λ (s : Session). s.disk) is);
+  quiet = λ none. same_told old.disk new.disk (ap (λ (s : Session). s.disk) is.0);
 }
-lines_counted number [] (t ∷ told) old new some whole is = absurd is
-lines_counted number (line ∷ lines) [] old new some whole is = absurd is
-lines_counted number (line ∷ lines) (t ∷ told) old new some whole is =
-    go (line_counts number line.form old is.0 whole some t is.1)
-    (λ files b. lines_counted (number + 1) lines told is.0 new (subst (λ n. 0 < n) (sym files) some) b is.2)
-    (λ fault b. lines_stay_broken (number + 1) lines told is.0 new fault b is.2)
+lines_counted number [] (t ∷ told) old new slot left some whole is = absurd is
+lines_counted number (line ∷ lines) [] old new slot left some whole is = absurd is
+lines_counted number (line ∷ lines) (t ∷ told) old new slot left some whole is =
+    go (line_counts old is.0 slot is.1 whole number (asked line.form) t some is.2)
+    (λ files b. lines_counted (next_number number line.form) lines told is.0 new is.1 left (subst (λ n. 0 < n) (sym files) some) b is.3)
+    (λ fault b. lines_stay_broken (next_number number line.form) lines told is.0 new is.1 left fault b is.3)
   where
     go : LineCounts t old is.0 → (is.0.disk.files ≡ old.disk.files → is.0.broken ≡ None → CountsFaults told is.0 new) → ((fault : StoreFault) → is.0.broken ≡ Some fault → StayBroken fault told is.0 new) → CountsFaults (t ∷ told) old new
     go (line_rests f b e) later broken =

@@ -1,5 +1,5 @@
 -- The store's counts behind a script's session.
-use Rattle.std.proofs.Common.{◌≡◌, ◌<◌, ℕ, List, Option, Some, None, Result, Ok, Err, refl, sym, ap, subst, ◌∙◌, inl}
+use Rattle.std.proofs.Common.{◌≡◌, ◌<◌, List, Option, Some, None, Result, Ok, Err, refl, sym, ap, subst, ◌∙◌, inl}
 use Rattle.std.specs.Prelude.{IfErr, IfSome, OnOk}
 use Rattle.store_model.specs.Disk.{Disk}
 use Rattle.store_model.specs.Plans.{FailsToChange}

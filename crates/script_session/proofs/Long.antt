@@ -1,8 +1,7 @@
 -- Calls of more sectors than one may name: they are made with no sectors.
-use Rattle.std.proofs.Common.{◌≡◌, ◌<◌, ◌^◌, ℕ, Bool, true, false, ◌==◌, ltb, Option, Some, None, Result, Ok, Err, refl, sym, ap, subst, ◌∙◌, arith}
+use Rattle.std.proofs.Common.{◌≡◌, ◌<◌, ◌^◌, ℕ, Bool, true, false, ◌==◌, Option, Some, None, Result, Err, refl, sym, ap, subst, arith}
 use Rattle.std.specs.Prelude.{IfSome, IsErr, OnOk, if◌then◌else◌, nat_lt}
 use Rattle.std.proofs.lemmas.Bool.{lt-ltb, ne_eqb}
-use Rattle.vx_base.specs.declared.parts.Geometry.{Geometry}
 use Rattle.store_model.specs.declared.fault.StoreFault.{StoreFault}
 use Rattle.guest_model.specs.declared.call.Call.{Call}
 use Rattle.guest_model.specs.declared.call.Caller.{Caller}
@@ -10,7 +9,7 @@ use Rattle.guest_model.specs.declared.refusal.ChainRefusal.{ChainRefusal}
 use Rattle.guest_model.specs.declared.refusal.ChainRefusal.TheVariants.{EmptyRange, Spent, TooLong}
 use Rattle.guest_model.specs.Ranges.{range_refusal}
 use Rattle.chain_core.specs.Answering.{AnswersTold}
-use Rattle.chain_core.specs.Refusing.{broken_by, or_else, out_of, unfit}
+use Rattle.chain_core.specs.Refusing.{broken_by, or_else, unfit}
 use Rattle.chain_core.specs.Sessions.{Session}
 use Rattle.script_session.specs.Answers.{too_long}
 

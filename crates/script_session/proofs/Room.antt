@@ -1,6 +1,6 @@
 -- A call that is refused for want of room, in a session.
-use Rattle.std.proofs.Common.{◌≡◌, ◌<◌, ◌≤◌, ◌+◌, ◌/◌, ◌^◌, ◌==◌, ◌||◌, ℕ, Bool, true, false, length, Option, Some, None, Result, Ok, Err, refl, sym, ap, subst, ◌∙◌, arith}
-use Rattle.std.specs.Prelude.{IfSome, if◌then◌else◌, is_some, nat_lt, not}
+use Rattle.std.proofs.Common.{◌≡◌, ◌<◌, ◌≤◌, ◌+◌, ◌/◌, ◌^◌, ◌==◌, ◌||◌, ℕ, zero, suc, Bool, true, false, List, [], ◌∷◌, length, map, Option, Some, None, Result, Ok, Err, refl, sym, ap, subst, ◌∙◌, arith}
+use Rattle.std.specs.Prelude.{IfSome, if◌then◌else◌, is_some, nat_lt, not, slice_index_or}
 use Rattle.std.proofs.lemmas.Bool.{ltb-false}
 use Rattle.vhdx_format.specs.Layers.{Shape}
 use Rattle.store_model.specs.Trace.{Trace}
@@ -13,9 +13,18 @@ use Rattle.chain_model.specs.Members.{Ties}
 use Rattle.layer_session.specs.declared.file.Layer.{Layer}
 use Rattle.layer_session.specs.Keeping.{Serves}
 use Rattle.layer_session.specs.Steps.{is_full}
+use Rattle.vx_base.specs.declared.parts.Geometry.{Geometry}
+use Rattle.store_model.specs.Disk.{Disk}
+use Rattle.chain_model.specs.Images.{Placed}
+use Rattle.layer_session.specs.FileLayers.{AreReadyFiles, HaveFiles}
+use Rattle.layer_session.specs.declared.file_layer.FileLayer.{FileLayer}
+use Rattle.layer_session.specs.declared.file_layer.FileLayer.TheVariants as kind
+use Rattle.merge_core.specs.declared.piece.Piece.{Piece}
 use Rattle.chain_core.specs.Answering.{HasRoom}
+use Rattle.chain_core.specs.Copying.{session_below, session_in, target_layer}
+use Rattle.chain_core.specs.declared.layers.Underway.{Underway}
 use Rattle.chain_core.specs.Refusing.{barred, is_read, or_else, out_of, range_of, refused, unfit}
-use Rattle.chain_core.specs.Sessions.{Session}
+use Rattle.chain_core.specs.Sessions.{AreReady, IsMergeOf, Session, is_session_at}
 use Rattle.chain_core.specs.States.{AreHeld, IsServing, State, others_of, sector_of}
 use Rattle.script_session.proofs.Full.{full_is_far}
 
@@ -77,3 +86,39 @@ call_is_far call next v s trace serving sector told changes fit room = go call c
         let few = few_in_range first count 524288 s.layers.geometry.sectors (in_range (unfit s.events s.broken) _ (range_of s.layers.geometry (calls.Trim first count)) fit) in
         full_leaf s.layers.leaf v s trace (λ (leaf : Layer). not leaf.leave) first count next refl (some (calls.Trim first count) changes fit) serving sector told few (room fit)
     go calls.Flush changes fit room = absurd (room fit)
+
+-- ---- in the target of a merge
+
+-- the layer of a file in a session, at its place
+record SessionAt (below : List FileLayer) (place sector : ℕ) (trace : Trace) : Type 0 where
+  layer : Layer
+  is : session_in (slice_index_or (map (λ l. Some l) below) place None) ≡ Some layer
+  file : Placed
+  serves : Serves layer trace file
+  size : layer.tables.parts.sector ≡ sector
+
+session_at : (below : List FileLayer) (files : List Placed) (place : ℕ) (geometry : Geometry) (disk : Disk) (trace : Trace) → HaveFiles below trace files → AreReadyFiles geometry disk below → is_session_at below place ≡ true
+    → SessionAt below place geometry.sector trace
+session_at [] files place geometry disk trace have ready is = let bad : false ≡ true = is in absurd (cc)
+session_at (l ∷ below) [] place geometry disk trace have ready is = absurd have
+session_at (kind.Session l ∷ below) (file ∷ files) zero geometry disk trace have ready is = record { layer = l; is = refl; file = file; serves = have.0; size = ready.0.sector }
+session_at (kind.Read l ∷ below) (file ∷ files) zero geometry disk trace have ready is = let bad : false ≡ true = is in absurd (cc)
+session_at (l ∷ below) (file ∷ files) (suc place) geometry disk trace have ready is =
+    let rest = session_at below files place geometry disk trace have.1 ready.1 is in
+    record { layer = rest.layer; is = rest.is; file = rest.file; serves = rest.serves; size = rest.size }
+
+-- the files below the leaf are those of its layers
+below_of : (o : Option Layer) (below : List FileLayer) (trace : Trace) (top : Placed) (others : List Placed) → is_some o ≡ true → AreHeld o below trace top others → HaveFiles below trace others
+below_of None below trace top others some held = let bad : false ≡ true = some in absurd (cc)
+below_of (Some leaf) below trace top others some held = held.1
+
+-- A put that is refused for want of room in the target.
+pub target_is_far : (piece : Piece) (next : ℕ) (v : State) (s : Session) (trace : Trace) (u : Underway) → AreReady s.layers s.disk → s.layers.merge ≡ Some u → IsMergeOf s.layers.geometry s.layers.leaf s.layers.below.items u
+    → IsServing s.layers v trace → s.disk.told ≡ Some trace → IfSome (target_layer s.layers) (λ l. is_full false piece.first piece.count next l s.disk) → 2 ^ 43 < next + 1024
+target_is_far piece next v s trace u ready under merge serving told full =
+    let have = below_of s.layers.leaf s.layers.below.items trace v.top (others_of v.rest) merge.session serving.held in
+    let at = session_at s.layers.below.items (others_of v.rest) (u.source + 1) s.layers.geometry s.disk trace have ready.below merge.target in
+    let target : target_layer s.layers ≡ Some at.layer = ap (session_below s.layers.below.items) under ∙ at.is in
+    let few : piece.count ≤ 524288 = omega (arith, piece.bits) in
+    full_is_far false piece.first piece.count next at.layer s.disk trace at.serves.as_held.sizes (at.size ∙ ready.sector) few told
+    (subst (λ o. IfSome o (λ l. is_full false piece.first piece.count next l s.disk)) target full)

@@ -1,6 +1,6 @@
 -- A script's session, from its start to its end.
-use Rattle.std.proofs.Common.{◌≡◌, ◌≢◌, ◌<◌, ◌≤◌, ◌+◌, ◌^◌, ℕ, Bool, true, false, List, [], ◌∷◌, length, take, Option, Some, None, Result, Ok, Err, refl, sym, ap, ap₂, subst, ◌∙◌, arith, ne_eqb, ◌==◌}
-use Rattle.std.specs.Prelude.{IfOk, IfSome, OnOk, is_some}
+use Rattle.std.proofs.Common.{◌≡◌, ◌≢◌, ◌<◌, ◌≤◌, ◌^◌, ℕ, Bool, true, false, List, [], ◌∷◌, length, take, Option, Some, None, Result, Ok, Err, refl, sym, ap, ap₂, subst, ◌∙◌, arith, ne_eqb, ◌==◌}
+use Rattle.std.specs.Prelude.{IfSome, OnOk, is_some}
 use Rattle.std.proofs.lemmas.List.{length-take}
 use Rattle.std.proofs.lemmas.Option.{same_Some}
 use Rattle.std.proofs.lemmas.Result.{on_ok_weaker}
@@ -10,11 +10,12 @@ use Rattle.store_model.specs.declared.fault.StoreFault.{StoreFault}
 use Rattle.store_model.specs.Disk.{Disk, WhereBothTold}
 use Rattle.store_model.specs.File.{is_synced}
 use Rattle.store_model.specs.Trace.{Trace, file_of}
-use Rattle.guest_model.specs.Calls.{Disk as GuestDisk, is_named}
+use Rattle.guest_model.specs.Calls.{Disk as GuestDisk}
 use Rattle.guest_model.specs.History.{History, replay}
 use Rattle.chain_model.specs.Moments.{EachOpens, EachOpensToPrefix}
 use Rattle.link_rules.specs.declared.linked.LinkedFile.{LinkedFile}
 use Rattle.layer_session.specs.declared.file.Layer.{Layer}
+use Rattle.merge_core.specs.declared.piece.Piece.{Piece}
 use Rattle.chain_core.specs.Answering.{HasClosed, HasEnded}
 use Rattle.chain_core.specs.Sessions.{Session}
 use Rattle.merge_plan.specs.Attached.{CanStart}
@@ -25,14 +26,15 @@ use Rattle.chain_core.specs.declared.starting.Mode.TheVariants.{Guests, ReadOnly
 use Rattle.script.specs.declared.form.Line.{Line}
 use Rattle.script_session.specs.Answers.{AnswersLines}
 use Rattle.script_session.specs.Faults.{Counts}
-use Rattle.script_session.specs.Histories.{Break, Drive, IsLater, IsOver, Stands, TellsHistory, disk_after, is_broken, serves}
+use Rattle.script_session.specs.Histories.{Break, Drive, IsOver, Stands, TellsHistory, disk_after, is_broken, no_merge, open_in, serves}
 use Rattle.script_session.specs.Running.{DrawsFor, HasHistory, HasRunScript, HasRunToEnd, HaveHistory, IsAtRest, IsEnded, can_change, drive_of, open_by}
 use Rattle.script_session.specs.Told.{Told, sector_size}
 use Rattle.script_session.specs.declared.session.ScriptRun.{ScriptRun}
 use Rattle.script_session.proofs.Content.{lines_stay, lines_untold}
 use Rattle.script_session.proofs.Counting.{lines_counted, same_told, told_both}
 use Rattle.script_session.proofs.Ending.{end_counted, end_untold, last_counted, quiet_end}
-use Rattle.script_session.proofs.Telling.{both_told, lines_told}
+use Rattle.script_session.proofs.LinesTold.{lines_told}
+use Rattle.script_session.proofs.Telling.{both_told}
 
 -- ---- the start
 
@@ -66,7 +68,7 @@ begun_as ReadOnly leaf others before old drawn now h = record {
 
 -- ---- the same in other words
 
-past_as : (z z' : ℕ) (o o' : GuestDisk) (leaf leaf' : List ℕ) (began began' : Trace) (h : History) (b : ℕ → ℕ → Bool) (now : Trace) → z ≡ z' → o ≡ o' → leaf ≡ leaf' → began ≡ began'
+pub past_as : (z z' : ℕ) (o o' : GuestDisk) (leaf leaf' : List ℕ) (began began' : Trace) (h : History) (b : ℕ → ℕ → Bool) (now : Trace) → z ≡ z' → o ≡ o' → leaf ≡ leaf' → began ≡ began'
     → EachOpensToPrefix z o h (b z) leaf began now → EachOpensToPrefix z' o' h (b z') leaf' began' now
 past_as z z' o o' leaf leaf' began began' h b now ez eo el et past =
     subst (λ n. EachOpensToPrefix n o' h (b n) leaf' began' now) ez
@@ -79,7 +81,7 @@ no_leaf : (o : Option Layer) → is_some o ≡ false → o ≡ None
 no_leaf None e = refl
 no_leaf (Some leaf) e = cc
 
-ended_of : (session : Bool) (v : State) (trace now : Trace) (closed : Result (Unit {0}) StoreFault) → HasClosed session v trace now closed → HasEnded v trace now
+pub ended_of : (session : Bool) (v : State) (trace now : Trace) (closed : Result (Unit {0}) StoreFault) → HasClosed session v trace now closed → HasEnded v trace now
 ended_of session v trace now (Ok done) h = h.ended
 ended_of session v trace now (Err fault) h = h
 
@@ -87,7 +89,7 @@ ended_of session v trace now (Err fault) h = h
 
 module _ (mode : Mode) (leaf : LinkedFile) (others : List LinkedFile) (parts : Parts) (trace : Trace) (lines : List Line) (told : List Told) (behind : Session) (after : Disk) (closed : Result (Unit {0}) StoreFault)
     (synced : is_synced (file_of trace 0) ≡ true) (ended : IsEnded behind after closed) (stays : can_change mode ≡ false → behind.disk.told ≡ Some trace)
-    (tells : TellsHistory (drive_of mode leaf others trace) 1 lines told (started trace leaf others parts) None behind) where
+    (left : Piece) (tells : TellsHistory (drive_of mode leaf others trace) 1 lines told (started trace leaf others parts) no_merge None behind left) where
   abbrev drive : Drive
   drive = drive_of mode leaf others trace
 
@@ -111,15 +113,16 @@ module _ (mode : Mode) (leaf : LinkedFile) (others : List LinkedFile) (parts : P
 
   -- a fault has broken the session
   behind_break : (b : Break) → tells.broken ≡ Some b → behind.broken ≡ Some b.fault → ((other : ℕ) → later.writes other ≡ false → file_of tells.now other ≡ file_of later.since other)
-      → EachOpensToPrefix (sector_of later) later.opening later.history (is_named (sector_of later) b.call) later.leaf later.began tells.now → WhereBothTold (HaveHistory mode (leaf ∷ others) lines told closed) (Some trace) after.told
+      → EachOpensToPrefix (sector_of later) later.opening later.history (open_in (sector_of later) b.call) later.leaf later.began tells.now → WhereBothTold (HaveHistory mode (leaf ∷ others) lines told closed) (Some trace) after.told
   behind_break b is broken still past =
       let e = subst (λ o. IfSome o (λ fault. (closed ≡ Err fault) × (after ≡ behind.disk))) broken ended.broken in
       let now_is : after.told ≡ Some tells.now = ap (λ (d : Disk). d.told) e.1 ∙ tells.seen in
       let has : Has tells.now = record {
         history = later.history;
+        course = tells.end;
         broken = tells.broken;
         told_so = tells.told_so;
-        moments = subst (λ o. EachOpensToPrefix sector_size (opening_disk trace (leaf ∷ others)) later.history (open_by o) leaf.name trace tells.now) (sym is) (moments_as (λ z. is_named z b.call) tells.now past);
+        moments = subst (λ o. EachOpensToPrefix sector_size (opening_disk trace (leaf ∷ others)) later.history (open_by o) leaf.name trace tells.now) (sym is) (moments_as (λ z. open_in z b.call) tells.now past);
         still = others_as tells.now still;
         unchanged = unchanged_in tells.now now_is (λ none. e.1);
         at_rest = subst (λ r. OnOk r (IsAtRest leaf drive later.history tells.now)) (sym e.0) tt;
@@ -149,6 +152,7 @@ module _ (mode : Mode) (leaf : LinkedFile) (others : List LinkedFile) (parts : P
         let end = ended_of (is_some behind.layers.leaf) later tells.now now closed h in
         record {
           history = later.history;
+          course = tells.end;
           broken = tells.broken;
           told_so = tells.told_so;
           moments = subst (λ o. EachOpensToPrefix sector_size (opening_disk trace (leaf ∷ others)) later.history (open_by o) leaf.name trace now) (sym none) (moments_as (λ z s. false) now end.past);
@@ -157,9 +161,9 @@ module _ (mode : Mode) (leaf : LinkedFile) (others : List LinkedFile) (parts : P
           at_rest = rest_of closed h;
         }
 
-  by_stands : (broken : Option Break) → tells.broken ≡ broken → Stands later behind tells.now broken → WhereBothTold (HaveHistory mode (leaf ∷ others) lines told closed) (Some trace) after.told
+  by_stands : (broken : Option Break) → tells.broken ≡ broken → Stands later behind left tells.now tells.end broken → WhereBothTold (HaveHistory mode (leaf ∷ others) lines told closed) (Some trace) after.told
   by_stands (Some b) is (is_broken _ broken still past) = behind_break b is broken still past
-  by_stands None is (serves whole serving) =
+  by_stands None is (serves whole serving on) =
       let end = both_told _ behind.disk.told after.told tells.now tells.seen (ended.told whole) in
       subst (λ o. WhereBothTold (HaveHistory mode (leaf ∷ others) lines told closed) (Some trace) o) (sym end.1) (behind_end whole is end.0 end.1 (end.2 later serving))
 
@@ -195,26 +199,26 @@ module _ (mode : Mode) (leaf : LinkedFile) (others : List LinkedFile) (before : 
     kept = new.told;
   }
 
-  histories : (lines : List Line) (many : ℕ) (told : List Told) (behind : Session) (after : Disk) (closed : Result (Unit {0}) StoreFault) → length lines ≤ 2 ^ 20 → AnswersLines 1 (take many lines) told before behind
+  histories : (lines : List Line) (many : ℕ) (told : List Told) (behind : Session) (slot left : Piece) (after : Disk) (closed : Result (Unit {0}) StoreFault) → length lines ≤ 2 ^ 20 → AnswersLines 1 (take many lines) told before slot behind left
       → IsEnded behind after closed → WhereBothTold (HaveHistory mode (leaf ∷ others) (take many lines) told closed) old.told after.told
-  histories lines many told behind after closed few answers ended = go old.told refl before.disk.told refl begun.serving
+  histories lines many told behind slot left after closed few answers ended = go old.told refl before.disk.told refl begun.serving
     where
       go : (a : Option Trace) → old.told ≡ a → (b : Option Trace) → before.disk.told ≡ b → StartsWith begun.in_it (leaf ∷ others) before.layers a b → WhereBothTold (HaveHistory mode (leaf ∷ others) (take many lines) told closed) a after.told
       go None e None f serving =
-          let none = end_untold behind after closed ended (lines_untold 1 (take many lines) told before behind f answers) in
+          let none = end_untold behind after closed ended (lines_untold 1 (take many lines) told before behind slot left f answers) in
           subst (λ o. WhereBothTold (HaveHistory mode (leaf ∷ others) (take many lines) told closed) None o) (sym none) tt
       go None e (Some y) f serving = absurd serving
       go (Some x) e None f serving = absurd serving
       go (Some x) e (Some y) f serving =
           has_history mode leaf others (begun.in_it leaf.parts) x (take many lines) told behind after closed (can.told x e).each.0.synced ended
-          (λ none. lines_stay 1 (take many lines) told before behind (begun.session ∙ none) answers ∙ ap (λ (d : Disk). d.told) (begun.same none) ∙ e)
-          (lines_told (drive_of mode leaf others x) 1 (take many lines) told (started x leaf others (begun.in_it leaf.parts)) None before behind y f (serves new.broken serving) (over_start x y serving)
+          (λ none. lines_stay 1 (take many lines) told before behind slot left (begun.session ∙ none) answers ∙ ap (λ (d : Disk). d.told) (begun.same none) ∙ e)
+          left (lines_told (drive_of mode leaf others x) 1 (take many lines) told (started x leaf others (begun.in_it leaf.parts)) no_merge None before behind slot left y f (serves new.broken serving tt) (over_start x y serving)
           (omega (arith, few, new.events, length-take many lines)) answers)
 
-  of_run : (names : List (List ℕ)) (lines : List Line) (run : ScriptRun) (after : Disk) → length lines ≤ 2 ^ 20 → HasRunToEnd names lines before run after → HasRunScript mode (leaf ∷ others) names lines run old after drawn now
-  of_run names lines run after few r =
+  of_run : (names : List (List ℕ)) (lines : List Line) (slot left : Piece) (run : ScriptRun) (after : Disk) → length lines ≤ 2 ^ 20 → HasRunToEnd names lines before slot left run after → HasRunScript mode (leaf ∷ others) names lines run old after drawn now
+  of_run names lines slot left run after few r =
       let ran = r.ran in
-      let counts = lines_counted 1 (take ran.many lines) ran.told before r.behind some_file new.broken ran.answers in
+      let counts = lines_counted 1 (take ran.many lines) ran.told before r.behind slot left some_file new.broken ran.answers in
       record {
         many = ran.many;
         told = ran.told;
@@ -224,11 +228,11 @@ module _ (mode : Mode) (leaf : LinkedFile) (others : List LinkedFile) (before : 
         counted = subst (λ o. IfSome o (Counts after)) (sym ran.fault_is) (last_counted ran.told before r.behind after run.closed counts r.ended);
         ended = end_counted ran.told before r.behind after run.closed counts r.ended some_file;
         quiet = λ none. on_ok_weaker run.closed (λ same. told_both old before.disk after begun.counts same) (quiet_end ran.told before r.behind after run.closed counts r.ended (sym ran.fault_is ∙ none));
-        history = histories lines ran.many ran.told r.behind after run.closed few ran.answers r.ended;
+        history = histories lines ran.many ran.told r.behind slot left after run.closed few ran.answers r.ended;
       }
 
-pub script_ran : (mode : Mode) (files : List LinkedFile) (names : List (List ℕ)) (lines : List Line) (run : ScriptRun) (before : Session) (old after : Disk) (drawn now : Option (List (List ℕ))) → HasRunToEnd names lines before run after
+pub script_ran : (mode : Mode) (files : List LinkedFile) (names : List (List ℕ)) (lines : List Line) (slot left : Piece) (run : ScriptRun) (before : Session) (old after : Disk) (drawn now : Option (List (List ℕ))) → HasRunToEnd names lines before slot left run after
     → HasStarted mode files before.layers old before.disk drawn now → CanStart files old → length lines ≤ 2 ^ 20 → IsNew files before → HasRunScript mode files names lines run old after drawn now
-script_ran mode [] names lines run before old after drawn now r begun can few new = absurd can.line
-script_ran mode (leaf ∷ others) names lines run before old after drawn now r begun can few new =
-    of_run mode leaf others before old drawn now can new (begun_as mode leaf others before old drawn now begun) names lines run after few r
+script_ran mode [] names lines slot left run before old after drawn now r begun can few new = absurd can.line
+script_ran mode (leaf ∷ others) names lines slot left run before old after drawn now r begun can few new =
+    of_run mode leaf others before old drawn now can new (begun_as mode leaf others before old drawn now begun) names lines slot left run after few r

@@ -1,11 +1,10 @@
--- Answered lines are told the history.
-use Rattle.std.proofs.Common.{◌≡◌, ◌<◌, ◌≤◌, ◌+◌, ◌^◌, ◌⊎◌, ℕ, Bool, true, false, List, [], ◌∷◌, ◌++◌, length, Option, Some, None, Result, Ok, Err, refl, sym, ap, ap₂, subst, ◌∙◌, arith, inl, inr}
-use Rattle.std.specs.Prelude.{IfSome, if◌then◌else◌, is_some, nat_lt, option_map}
+-- Answered calls are told the history.
+use Rattle.std.proofs.Common.{◌≡◌, ◌<◌, ◌≤◌, ◌+◌, ◌^◌, ℕ, Bool, true, false, List, [], ◌∷◌, ◌++◌, length, Option, Some, None, Result, Ok, Err, refl, sym, ap, ap₂, subst, ◌∙◌, arith}
+use Rattle.std.specs.Prelude.{IfSome, if◌then◌else◌, option_map}
 use Rattle.std.proofs.lemmas.Bool.{lt-ltb}
 use Rattle.std.proofs.lemmas.List.{length-append}
 use Rattle.std.proofs.lemmas.Result.{IfErr-at_err}
 use Rattle.vx_base.specs.declared.parts.Geometry.{Geometry}
-use Rattle.store_model.specs.declared.fault.StoreFault.{StoreFault}
 use Rattle.store_model.specs.Disk.{WhereBothTold}
 use Rattle.store_model.specs.Trace.{Trace}
 use Rattle.guest_model.specs.declared.call.Call.{Call}
@@ -20,12 +19,13 @@ use Rattle.chain_core.specs.Answering.{HasBroken, HasRoom, IsCausedBy, IsCausedB
 use Rattle.chain_core.specs.Answering as chain
 use Rattle.chain_core.specs.Refusing.{barred, broken_by, counted, is_read, misplaced, or_else, out_of, range_of, refused}
 use Rattle.chain_core.specs.Sessions.{Session}
-use Rattle.chain_core.specs.States.{State, IsServing, disk_now, entry, sector_of, with_entry}
-use Rattle.script.specs.declared.form.Form.{Form}
-use Rattle.script.specs.declared.form.Line.{Line}
-use Rattle.script_session.specs.Answers.{Answers, AnswersLine, AnswersLines, HasCauseOf}
-use Rattle.script_session.specs.Histories.{AreTold, Break, Drive, IsLater, IsOver, IsTold, LinesTellHistory, Stands, Stops, TellsHistory, breaks, cause_of, disk_after, fault_in, is_broken, is_done, is_refused, is_stopped, line_told, none_left, serves, with_line}
-use Rattle.script_session.specs.Told.{Told, call_of, caller}
+use Rattle.chain_core.specs.States.{State, IsServing, disk_now, entry, with_entry}
+use Rattle.merge_core.specs.declared.piece.Piece.{Piece}
+use Rattle.script.specs.Transcript.{of_call}
+use Rattle.script_session.specs.Answers.{Answers, AnswersCall, HasCauseOf, with_reply}
+use Rattle.script_session.specs.Histories.{Break, Course, Drive, IsLater, IsLineTold, IsOnCourse, IsOver, IsTold, Stands, Stops, breaks, cause_of, copying, disk_after, fault_in, is_broken, is_done, is_refused, is_stopped, no_merge, serves, with_line}
+use Rattle.script_session.specs.Told.{Asked, Told, asks_call, caller}
+use Rattle.script_session.proofs.Moving.{counted_low}
 use Rattle.script_session.proofs.Room.{call_is_far}
 
 -- ---- small steps
@@ -47,13 +47,20 @@ no_cause_none drive None call h = refl
 no_cause_none drive (Some b) call h = cc
 
 -- the fault of a session is the one by which it was broken
-pub broken_is : (v : State) (s : Session) (trace : Trace) (broken : Option Break) → Stands v s trace broken → s.broken ≡ fault_in broken
-broken_is v s trace None (serves whole h) = whole
-broken_is v s trace (Some b) (is_broken _ e others past) = e
+pub broken_is : (v : State) (s : Session) (slot : Piece) (trace : Trace) (course : Course) (broken : Option Break) → Stands v s slot trace course broken → s.broken ≡ fault_in broken
+broken_is v s slot trace course None (serves whole h on) = whole
+broken_is v s slot trace course (Some b) (is_broken _ e others past) = e
 
-serving_of : (v : State) (s : Session) (trace : Trace) (broken : Option Break) → Stands v s trace broken → broken ≡ None → IsServing s.layers v trace
-serving_of v s trace None (serves whole h) e = h
-serving_of v s trace (Some b) (is_broken _ is others past) e = let bad : ◌≡◌ {A = Option Break} (Some b) None = e in absurd (cc)
+pub serving_of : (v : State) (s : Session) (slot : Piece) (trace : Trace) (course : Course) (broken : Option Break) → Stands v s slot trace course broken → broken ≡ None
+    → IsServing s.layers v trace × IsOnCourse v s.layers.geometry slot course
+serving_of v s slot trace course None (serves whole h on) e = (h, on)
+serving_of v s slot trace course (Some b) (is_broken _ is others past) e = let bad : ◌≡◌ {A = Option Break} (Some b) None = e in absurd (cc)
+
+-- a call leaves the merge as it stands
+on_entry : (v : State) (geometry : Geometry) (slot : Piece) (course : Course) (e : Entry) → IsOnCourse v geometry slot course → IsOnCourse (with_entry e v) geometry slot course
+on_entry v geometry slot no_merge e on = on
+on_entry v geometry slot (copying copied None) e on = on
+on_entry v geometry slot (copying copied (Some stripe)) e on = (on.0, record { there = on.1.there; taken = on.1.taken; is_true = on.1.is_true })
 
 pub same_err : (x e : ChainRefusal) → ◌≡◌ {A = Result ℕ ChainRefusal} (Err x) (Err e) → x ≡ e
 same_err x e h = IfErr-at_err (λ y. x ≡ y) h refl
@@ -118,18 +125,20 @@ done_whole calls.Flush place old new c fit = (c fit).1
 -- ---- one line
 
 -- what one line was told, and where the session stands behind it
-record LineTold (drive : Drive) (number : ℕ) (form : Form) (t : Told) (v : State) (broken : Option Break) (new : Session) : Type 0 where
-  state : State
-  now : Trace
-  after : Option Break
-  told_so : IsTold drive v.history broken (call_of form) t after
-  history : with_line number form t v.history ≡ state.history
-  same : (h : History) (later : State) → IsLater state h later → IsLater v h later
-  over : IsOver drive state new
-  seen : new.disk.told ≡ Some now
-  stands : Stands state new now after
+pub record LineTold (drive : Drive) (number : ℕ) (step : Asked) (t : Told) (v : State) (course : Course) (broken : Option Break) (events : ℕ) (new : Session) (left : Piece) : Type 0 where
+  pub state : State
+  pub now : Trace
+  pub on : Course
+  pub after : Option Break
+  pub told_so : IsLineTold drive v.history course broken step t on after
+  pub history : with_line number step t v.history ≡ state.history
+  pub same : (h : History) (later : State) → IsLater state h later → IsLater v h later
+  pub over : IsOver drive state new
+  pub seen : new.disk.told ≡ Some now
+  pub stands : Stands state new left now on after
+  pub few : new.events ≤ events + 2 ^ 34
 
-kept_same : (before after : Option (List Entry)) (h : History) → IfSome before (λ t. t ≡ h) → after ≡ before → IfSome after (λ t. t ≡ h)
+pub kept_same : (before after : Option (List Entry)) (h : History) → IfSome before (λ t. t ≡ h) → after ≡ before → IfSome after (λ t. t ≡ h)
 kept_same before after h is e = subst (λ o. IfSome o (λ t. t ≡ h)) (sym e) is
 
 kept_more : (before after : Option (List Entry)) (h : History) (e : Entry) → IfSome before (λ t. t ≡ h) → after ≡ option_map (λ t. t ++ e ∷ []) before → IfSome after (λ t. t ≡ h ++ e ∷ [])
@@ -140,7 +149,7 @@ kept_more before after h e is f = subst (λ o. IfSome o (λ t. t ≡ h ++ e ∷ 
     go (Some t) is = ap (λ t. t ++ e ∷ []) is
 
 -- only the count of events is another
-over_events : (drive : Drive) (v : State) (s : Session) (n : ℕ) → IsOver drive v s → IsOver drive v (record s { events = n })
+pub over_events : (drive : Drive) (v : State) (s : Session) (n : ℕ) → IsOver drive v s → IsOver drive v (record s { events = n })
 over_events drive v s n over = record {
   geometry = over.geometry;
   change = over.change;
@@ -150,40 +159,43 @@ over_events drive v s n over = record {
   kept = over.kept;
 }
 
-stands_events : (v : State) (s : Session) (now : Trace) (n : ℕ) (broken : Option Break) → Stands v s now broken → Stands v (record s { events = n }) now broken
-stands_events v s now n None (serves whole h) = serves whole h
-stands_events v s now n (Some b) (is_broken _ is others past) = is_broken b is others past
+stands_events : (v : State) (s : Session) (slot : Piece) (now : Trace) (n : ℕ) (course : Course) (broken : Option Break) → Stands v s slot now course broken → Stands v (record s { events = n }) slot now course broken
+stands_events v s slot now n course None (serves whole h on) = serves whole h on
+stands_events v s slot now n course (Some b) (is_broken _ is others past) = is_broken b is others past
 
-module _ (drive : Drive) (number : ℕ) (form : Form) (v : State) (old new : Session) (over : IsOver drive v old) where
-  abbrev call : Call
-  call = call_of form
+module _ (drive : Drive) (number : ℕ) (call : Call) (v : State) (course : Course) (old new : Session) (slot : Piece) (over : IsOver drive v old) where
+  abbrev Line : Told → Option Break → Session → Type 0
+  Line t broken s = LineTold drive number (asks_call call) t v course broken old.events s slot
 
   abbrev by_line : Entry
   by_line = entry (caller number) call
 
   -- it is refused before it reaches the files
-  early_line : (x : ChainRefusal) (trace : Trace) (broken : Option Break) → old.disk.told ≡ Some trace → Stands v old trace broken → cause_of drive (fault_in broken) call ≡ Some x → new ≡ record old { events = counted old.events }
-      → LineTold drive number form (Err x) v broken new
-  early_line x trace broken seen stands cause only = subst (λ s. LineTold drive number form (Err x) v broken s) (sym only) (record {
+  early_line : (x : ChainRefusal) (trace : Trace) (broken : Option Break) → old.disk.told ≡ Some trace → Stands v old slot trace course broken → cause_of drive (fault_in broken) call ≡ Some x → new ≡ record old { events = counted old.events }
+      → Line (Err x) broken new
+  early_line x trace broken seen stands cause only = subst (λ s. Line (Err x) broken s) (sym only) (record {
     state = v;
     now = trace;
+    on = course;
     after = broken;
-    told_so = is_refused x cause;
+    told_so = (refl, is_refused x cause);
     history = refl;
     same = λ h later is. is;
     over = over_events drive v old (counted old.events) over;
     seen = seen;
-    stands = stands_events v old trace (counted old.events) broken stands;
+    stands = stands_events v old slot trace (counted old.events) course broken stands;
+    few = omega (arith, counted_low old.events);
   })
 
   -- it stops, or breaks the session
   stopped_line : (x : ChainRefusal) (r : Reply) (trace now : Trace) → new.disk.told ≡ Some now → cause_of drive None call ≡ None → Answers (caller number) call (Err x) r old new → refused call old ≡ None
-      → Outcome (is_read call) by_line v new trace now x → LineTold drive number form (Err x) v None new
-  stopped_line x r trace now told cause h fit (stays _ stops b is) = record {
+      → IsOnCourse v old.layers.geometry slot course → Outcome (is_read call) by_line v new trace now x → Line (Err x) None new
+  stopped_line x r trace now told cause h fit on (stays _ stops b is) = record {
     state = v;
     now = now;
+    on = course;
     after = None;
-    told_so = is_stopped x cause stops;
+    told_so = (refl, is_stopped x cause stops);
     history = refl;
     same = λ h later is. is;
     over = record {
@@ -195,13 +207,15 @@ module _ (drive : Drive) (number : ℕ) (form : Form) (v : State) (old new : Ses
       kept = kept_same old.told new.told v.history over.kept (h.notes fit).0;
     };
     seen = told;
-    stands = serves b is.serving;
+    stands = serves b is.serving (subst (λ g. IsOnCourse v g slot course) (sym h.geometry) on);
+    few = omega (arith, h.events, counted_low old.events);
   }
-  stopped_line _ r trace now told cause h fit (ends file count reads b is) = record {
+  stopped_line _ r trace now told cause h fit on (ends file count reads b is) = record {
     state = v;
     now = now;
-    after = Some (record { fault = fault_of file count; call = call });
-    told_so = breaks (fault_of file count) cause reads;
+    on = course;
+    after = Some (record { fault = fault_of file count; call = Some call });
+    told_so = (refl, breaks (fault_of file count) cause reads);
     history = refl;
     same = λ h later is. is;
     over = record {
@@ -213,13 +227,14 @@ module _ (drive : Drive) (number : ℕ) (form : Form) (v : State) (old new : Ses
       kept = kept_same old.told new.told v.history over.kept (h.notes fit).0;
     };
     seen = told;
-    stands = is_broken (record { fault = fault_of file count; call = call }) b is.still is.past;
+    stands = is_broken (record { fault = fault_of file count; call = Some call }) b is.still is.past;
+    few = omega (arith, h.events, counted_low old.events);
   }
 
   -- it is done
-  done_line : (d : ℕ × Reply) (trace now : Trace) → old.disk.told ≡ Some trace → new.disk.told ≡ Some now → cause_of drive None call ≡ None → IsServing old.layers v trace → Answers (caller number) call (Ok d.0) d.1 old new
-      → refused call old ≡ None → IsDone by_line v new.layers trace now → LineTold drive number form (Ok d) v None new
-  done_line d trace now seen told cause serving h fit done =
+  done_line : (d : ℕ × Reply) (trace now : Trace) → old.disk.told ≡ Some trace → new.disk.told ≡ Some now → cause_of drive None call ≡ None → IsServing old.layers v trace → IsOnCourse v old.layers.geometry slot course
+      → Answers (caller number) call (Ok d.0) d.1 old new → refused call old ≡ None → IsDone by_line v new.layers trace now → Line (Ok (Some d.0, of_call d.1)) None new
+  done_line d trace now seen told cause serving on h fit done =
       let notes = h.notes fit in
       let b : new.broken ≡ None = done_whole call d.0 old new h.cause fit in
       let place : length v.history + 1 ≡ d.0 = ap (λ n. n + 1) (sym over.noted) ∙ sym notes.1 ∙ sym notes.2 in
@@ -228,18 +243,20 @@ module _ (drive : Drive) (number : ℕ) (form : Form) (v : State) (old new : Ses
       record {
         state = with_entry by_line v;
         now = now;
+        on = course;
         after = None;
-        told_so = subst (λ t. IsTold drive v.history None call t None) (ap₂ (λ (p : ℕ) (r : Reply). Ok (p, r)) place replied) (is_done cause);
+        told_so = (refl, subst (λ t. IsTold drive v.history None call t None) (ap₂ (λ (p : ℕ) (r : Reply). Ok (Some p, of_call r)) place replied) (is_done cause));
         history = refl;
         same = λ h later is. record {
           leaf = is.leaf;
           retired = is.retired;
-          rest = is.rest;
           number = is.number;
           opening = is.opening;
           began = is.began;
           writes = is.writes;
           since = is.since;
+          left = is.left;
+          names = is.names;
           history = is.history;
         };
         over = record {
@@ -251,84 +268,51 @@ module _ (drive : Drive) (number : ℕ) (form : Form) (v : State) (old new : Ses
           kept = kept_more old.told new.told v.history by_line over.kept notes.0;
         };
         seen = told;
-        stands = serves b done.serving;
+        stands = serves b done.serving (on_entry v new.layers.geometry slot course by_line (subst (λ g. IsOnCourse v g slot course) (sym h.geometry) on));
+        few = omega (arith, h.events, counted_low old.events);
       }
 
-  module _ (trace : Trace) (broken : Option Break) (seen : old.disk.told ≡ Some trace) (stands : Stands v old trace broken) (few : old.events < 2 ^ 63) where
+  module _ (trace : Trace) (broken : Option Break) (seen : old.disk.told ≡ Some trace) (stands : Stands v old slot trace course broken) (few : old.events < 2 ^ 63) where
     cause_is : (o : Option ChainRefusal) → refused call old ≡ o → cause_of drive (fault_in broken) call ≡ o
-    cause_is o is = ap (λ b. cause_of drive b call) (sym (broken_is v old trace broken stands)) ∙ sym (cause_same drive v old call over few) ∙ is
+    cause_is o is = ap (λ b. cause_of drive b call) (sym (broken_is v old slot trace course broken stands)) ∙ sym (cause_same drive v old call over few) ∙ is
 
-    refused_line : (x : ChainRefusal) (r : Reply) → Answers (caller number) call (Err x) r old new → LineTold drive number form (Err x) v broken new
+    refused_line : (x : ChainRefusal) (r : Reply) → Answers (caller number) call (Err x) r old new → Line (Err x) broken new
     refused_line x r h = go (refused call old) refl
       where
-        go : (o : Option ChainRefusal) → refused call old ≡ o → LineTold drive number form (Err x) v broken new
+        go : (o : Option ChainRefusal) → refused call old ≡ o → Line (Err x) broken new
         go (Some e) is =
             let early = subst (λ o. IfSome o (λ e. (◌≡◌ {A = Result ℕ ChainRefusal} (Err x) (Err e)) × (new ≡ record old { events = counted old.events }))) is h.early in
             early_line x trace broken seen stands (cause_is (Some e) is ∙ ap Some (sym (same_err x e early.0))) early.1
         go None is =
             let none : broken ≡ None = no_cause_none drive broken call (cause_is None is) in
-            let after = both_told _ old.disk.told new.disk.told trace seen (h.told (broken_is v old trace broken stands ∙ ap fault_in none)) in
-            let serving = serving_of v old trace broken stands none in
-            let far : is_read call ≡ false → IsFar x = λ changes next e. call_is_far call next v old trace serving over.sector seen changes is (subst (λ y. HasRoom call old (Err y)) e h.room) in
-            subst (λ o. LineTold drive number form (Err x) v o new) (sym none)
-            (stopped_line x r trace after.0 after.1 (subst (λ o. cause_of drive (fault_in o) call ≡ None) none (cause_is None is)) h is
-            (outcome by_line v old new trace after.0 call x far h.cause is (after.2 v serving)))
+            let after = both_told _ old.disk.told new.disk.told trace seen (h.told (broken_is v old slot trace course broken stands ∙ ap fault_in none)) in
+            let serving = serving_of v old slot trace course broken stands none in
+            let far : is_read call ≡ false → IsFar x = λ changes next e. call_is_far call next v old trace serving.0 over.sector seen changes is (subst (λ y. HasRoom call old (Err y)) e h.room) in
+            subst (λ o. Line (Err x) o new) (sym none)
+            (stopped_line x r trace after.0 after.1 (subst (λ o. cause_of drive (fault_in o) call ≡ None) none (cause_is None is)) h is serving.1
+            (outcome by_line v old new trace after.0 call x far h.cause is (after.2 v serving.0)))
 
-    told_done : (d : ℕ × Reply) → Answers (caller number) call (Ok d.0) d.1 old new → LineTold drive number form (Ok d) v broken new
+    told_done : (d : ℕ × Reply) → Answers (caller number) call (Ok d.0) d.1 old new → Line (Ok (Some d.0, of_call d.1)) broken new
     told_done d h = go (refused call old) refl
       where
-        go : (o : Option ChainRefusal) → refused call old ≡ o → LineTold drive number form (Ok d) v broken new
+        go : (o : Option ChainRefusal) → refused call old ≡ o → Line (Ok (Some d.0, of_call d.1)) broken new
         go (Some e) is =
             let early = subst (λ o. IfSome o (λ e. (◌≡◌ {A = Result ℕ ChainRefusal} (Ok d.0) (Err e)) × (new ≡ record old { events = counted old.events }))) is h.early in
             let bad : ◌≡◌ {A = Result ℕ ChainRefusal} (Ok d.0) (Err e) = early.0 in
             absurd (cc)
         go None is =
             let none : broken ≡ None = no_cause_none drive broken call (cause_is None is) in
-            let after = both_told _ old.disk.told new.disk.told trace seen (h.told (broken_is v old trace broken stands ∙ ap fault_in none)) in
-            let serving = serving_of v old trace broken stands none in
-            subst (λ o. LineTold drive number form (Ok d) v o new) (sym none)
-            (done_line d trace after.0 seen after.1 (subst (λ o. cause_of drive (fault_in o) call ≡ None) none (cause_is None is)) serving h is (after.2 v serving))
+            let after = both_told _ old.disk.told new.disk.told trace seen (h.told (broken_is v old slot trace course broken stands ∙ ap fault_in none)) in
+            let serving = serving_of v old slot trace course broken stands none in
+            subst (λ o. Line (Ok (Some d.0, of_call d.1)) o new) (sym none)
+            (done_line d trace after.0 seen after.1 (subst (λ o. cause_of drive (fault_in o) call ≡ None) none (cause_is None is)) serving.0 serving.1 h is (after.2 v serving.0))
 
-    one_line : (t : Told) → AnswersLine number form t old new → LineTold drive number form t v broken new
-    one_line (Ok d) h = told_done d h
-    one_line (Err x) h = refused_line x _ h
+    pub call_line : (t : Told) → AnswersCall number call t old new → Line t broken new
+    call_line t h = subst (λ t. Line t broken new) (sym h.is) (go h.answer h.answers)
+      where
+        go : (answer : Result ℕ ChainRefusal) → Answers (caller number) call answer h.reply old new → Line (with_reply h.reply answer) broken new
+        go (Ok place) a = told_done (place, h.reply) a
+        go (Err x) a = refused_line x h.reply a
 
-events_line : (number : ℕ) (form : Form) (t : Told) (old new : Session) → AnswersLine number form t old new → new.events ≡ counted old.events
-events_line number form (Ok d) old new h = h.events
-events_line number form (Err x) old new h = h.events
-
-one_more : (n : ℕ) → n < 2 ^ 63 → counted n ≡ n + 1
+pub one_more : (n : ℕ) → n < 2 ^ 63 → counted n ≡ n + 1
 one_more n few = ap (λ b. if b then n + 1 else n) (lt-ltb n (2 ^ 63) few)
-
--- ---- all lines
-
-pub lines_told : LinesTellHistory
-lines_told drive number [] [] v broken old new trace seen stands over few is = subst (λ s. TellsHistory drive number [] [] v broken s) (sym is) (record {
-  later = v;
-  now = trace;
-  broken = broken;
-  same = record { leaf = refl; retired = refl; rest = refl; number = refl; opening = refl; began = refl; writes = refl; since = refl; history = refl };
-  told_so = none_left number v.history broken;
-  over = over;
-  seen = seen;
-  stands = stands;
-})
-lines_told drive number [] (t ∷ told) v broken old new trace seen stands over few is = absurd is
-lines_told drive number (line ∷ lines) [] v broken old new trace seen stands over few is = absurd is
-lines_told drive number (line ∷ lines) (t ∷ told) v broken old new trace seen stands over few is =
-    let inside : old.events < 2 ^ 63 = omega (arith, few) in
-    let mid = is.0 in
-    let one = one_line drive number line.form v old mid over trace broken seen stands inside t is.1 in
-    let events : mid.events ≡ old.events + 1 = events_line number line.form t old mid is.1 ∙ one_more old.events inside in
-    let rest = lines_told drive (number + 1) lines told one.state one.after mid new one.now one.seen one.stands one.over (omega (arith, few, events)) is.2 in
-    record {
-      later = rest.later;
-      now = rest.now;
-      broken = rest.broken;
-      same = one.same rest.later.history rest.later rest.same;
-      told_so = line_told number v.history rest.later.history broken one.after rest.broken line lines t told one.told_so
-          (subst (λ h. AreTold drive (number + 1) h one.after lines told rest.later.history rest.broken) (sym one.history) rest.told_so);
-      over = rest.over;
-      seen = rest.seen;
-      stands = rest.stands;
-    }

@@ -1,5 +1,5 @@
 -- How a session answers the lines of a script, for every store.
-use Rattle.std.specs.Prelude.{◌≡◌, ◌≤◌, ◌+◌, ◌*◌, ⊤, ℕ, List, [], ◌∷◌, length, take, is_some, Option, Some, None, Result, Ok, Err, IfOk, IfSome, OnOk, string_bytes}
+use Rattle.std.specs.Prelude.{◌≡◌, ◌≤◌, ◌*◌, ⊤, ℕ, true, false, List, [], ◌∷◌, length, take, is_some, Option, Some, None, Result, Ok, Err, IfOk, IfSome, OnOk, string_bytes}
 use Rattle.store_model.specs.Disk.{WhereTold}
 use Rattle.guest_model.specs.declared.call.Call.{Call}
 use Rattle.guest_model.specs.declared.call.Call.TheVariants as calls
@@ -9,14 +9,19 @@ use Rattle.guest_model.specs.declared.call.Reply.TheVariants as replies
 use Rattle.guest_model.specs.declared.refusal.ChainRefusal.{ChainRefusal}
 use Rattle.guest_model.specs.declared.refusal.ChainRefusal.TheVariants as refusals
 use Rattle.guest_model.specs.Calls as model
-use Rattle.script.specs.declared.form.Form.{Form}
-use Rattle.script.specs.declared.form.Form.TheVariants as forms
 use Rattle.script.specs.declared.form.Line.{Line}
 use Rattle.chain_core.specs.Answering.{AnswersTold, HasCause, HasReadCause, HasRoom, Notes}
 use Rattle.chain_core.specs.Refusing.{counted, refused}
 use Rattle.chain_core.specs.Sessions.{Session}
 use Rattle.chain_core.specs.States.{State, IsServing, disk_now}
-use Rattle.script_session.specs.Told.{Told, call_of, caller, last_fault, sector_size, transcript}
+use Rattle.chain_core.specs.Copying.{FitsDisk}
+use Rattle.merge_core.specs.declared.piece.Piece.{Piece}
+use Rattle.vx_base.specs.declared.parts.Geometry.{Geometry}
+use Rattle.script.specs.Transcript.{LineReply, has_stamp, is_copied, is_done, of_call}
+use Rattle.script_session.specs.MergeSteps.{AnswersCopy, AnswersFetch, AnswersFinish, AnswersPut}
+use Rattle.script_session.specs.Told.{Asked, Told, asked, asks_call, asks_copy, asks_fetch, asks_finish, asks_put, caller, last_fault, next_number, sector_size, transcript}
+use Rattle.script_session.specs.declared.answer.Done.{Done}
+use Rattle.script_session.specs.declared.answer.Done.TheVariants as done
 use Rattle.script_session.specs.declared.lines.LinesRun.{LinesRun}
 
 -- a reply that a call may have: a read's bytes are those of its sectors
@@ -52,24 +57,54 @@ pub record Answers (who : Caller) (call : Call) (result : Result ℕ ChainRefusa
   pub session : is_some new.layers.leaf ≡ is_some old.layers.leaf
   pub events : new.events ≡ counted old.events
 
--- so it answered a line; what is refused has no reply
-abbrev pub AnswersLine : ℕ → Form → Told → Session → Session → Type 0
-AnswersLine number form (Ok done) old new = Answers (caller number) (call_of form) (Ok done.0) done.1 old new
-AnswersLine number form (Err refusal) old new = Answers (caller number) (call_of form) (Err refusal) replies.Done old new
+-- an answer with this reply, where it is no refusal
+abbrev pub with_reply : Reply → Result ℕ ChainRefusal → Told
+with_reply reply (Ok place) = Ok (Some place, of_call reply)
+with_reply reply (Err refusal) = Err refusal
 
--- Lines were answered one after the other, the first of them as the guest's call of that number.
-abbrev pub AnswersLines : ℕ → List Line → List Told → Session → Session → Type 0
-AnswersLines number [] [] old new = new ≡ old
-AnswersLines number [] (told ∷ later) old new = ⊥
-AnswersLines number (line ∷ lines) [] old new = ⊥
-AnswersLines number (line ∷ lines) (told ∷ later) old new = (mid : Session) × AnswersLine number line.form told old mid × AnswersLines (number + 1) lines later mid new
+-- what a fetch's line is told, a put's, and that of a copy or a finish
+abbrev pub with_stamp : Result ℕ ChainRefusal → Told
+with_stamp (Ok stamp) = Ok (None, has_stamp stamp)
+with_stamp (Err refusal) = Err refusal
+
+abbrev pub as_copied : Result (Unit {0}) ChainRefusal → Told
+as_copied (Ok done) = Ok (None, is_copied)
+as_copied (Err refusal) = Err refusal
+
+abbrev pub as_done : Result (Unit {0}) ChainRefusal → Told
+as_done (Ok done) = Ok (None, is_done)
+as_done (Err refusal) = Err refusal
+
+-- So it answered a line that asks for a call.
+pub record AnswersCall (number : ℕ) (call : Call) (told : Told) (old new : Session) : Type 0 where
+  pub answer : Result ℕ ChainRefusal
+  pub reply : Reply
+  pub is : told ≡ with_reply reply answer
+  pub answers : Answers (caller number) call answer reply old new
+
+-- So it answered a line, with the piece in the slot before, and what is left in it: a call and a finish leave it, a fetch fills or empties
+-- it, and each put empties it.
+abbrev pub AnswersLine : ℕ → Asked → Told → Session → Piece → Session → Piece → Type 0
+AnswersLine number (asks_call call) told old slot new left = AnswersCall number call told old new × (left ≡ slot)
+AnswersLine number (asks_fetch stripe) told old slot new left = (answer : Result ℕ ChainRefusal) × (told ≡ with_stamp answer) × AnswersFetch stripe answer old new left
+AnswersLine number asks_put told old slot new left = (answer : Result (Unit {0}) ChainRefusal) × (told ≡ as_copied answer) × AnswersPut slot answer old new × (left.filled ≡ false)
+AnswersLine number asks_copy told old slot new left = (answer : Result (Unit {0}) ChainRefusal) × (told ≡ as_done answer) × AnswersCopy answer old slot new left
+AnswersLine number asks_finish told old slot new left = (answer : Result (Unit {0}) ChainRefusal) × (told ≡ as_done answer) × AnswersFinish answer old new × (left ≡ slot)
+
+-- Lines were answered one after the other; the first call among them is the guest's of that number.
+abbrev pub AnswersLines : ℕ → List Line → List Told → Session → Piece → Session → Piece → Type 0
+AnswersLines number [] [] old slot new left = (new ≡ old) × (left ≡ slot)
+AnswersLines number [] (told ∷ later) old slot new left = ⊥
+AnswersLines number (line ∷ lines) [] old slot new left = ⊥
+AnswersLines number (line ∷ lines) (told ∷ later) old slot new left =
+    (mid : Session) × (held : Piece) × AnswersLine number (asked line.form) told old slot mid held × AnswersLines (next_number number line.form) lines later mid held new left
 
 -- Lines were answered, all of them where a text was given, which is their transcript; it is told which fault of the store was the last
 -- that refused one.
-pub record HasRun (names : List (List ℕ)) (lines : List Line) (old new : Session) (run : LinesRun) : Type 0 where
+pub record HasRun (names : List (List ℕ)) (lines : List Line) (old : Session) (slot : Piece) (new : Session) (left : Piece) (run : LinesRun) : Type 0 where
   pub many : ℕ
   pub told : List Told
-  pub answers : AnswersLines 1 (take many lines) told old new
+  pub answers : AnswersLines 1 (take many lines) told old slot new left
   pub whole : IfOk run.transcript (λ text. (take many lines ≡ lines) × (string_bytes text ≡ transcript names lines told))
   pub fault_is : run.fault ≡ last_fault told
 
@@ -87,14 +122,46 @@ reply_in room (calls.Write first bytes) = replies.Done
 reply_in room (calls.Trim first count) = replies.Done
 reply_in room calls.Flush = replies.Done
 
--- an answer with this reply, where it is no refusal
-abbrev pub with_reply : Reply → Result ℕ ChainRefusal → Told
-with_reply reply (Ok place) = Ok (place, reply)
-with_reply reply (Err refusal) = Err refusal
+abbrev pub reply_of : List ℕ → Asked → Reply
+reply_of room (asks_call call) = reply_in room call
+reply_of room step = replies.Done
+
+-- the reply of a line that was done, and the place of its call in the history
+abbrev pub reply_told : List ℕ → Asked → Done → LineReply
+reply_told room step (done.Call place) = of_call (reply_of room step)
+reply_told room step (done.Fetched stamp) = has_stamp stamp
+reply_told room step done.Copied = is_copied
+reply_told room step done.Whole = is_done
+
+abbrev pub place_in : Done → Option ℕ
+place_in (done.Call place) = Some place
+place_in (done.Fetched stamp) = None
+place_in done.Copied = None
+place_in done.Whole = None
+
+-- what a line is told whose answer in the code is this
+abbrev pub told_by : List ℕ → Asked → Result Done ChainRefusal → Told
+told_by room step (Ok d) = Ok (place_in d, reply_told room step d)
+told_by room step (Err refusal) = Err refusal
+
+-- the answer in the code of a call, of a fetch, of a put, and of a copy or a finish
+abbrev pub called : Result ℕ ChainRefusal → Result Done ChainRefusal
+called (Ok place) = Ok (done.Call place)
+called (Err refusal) = Err refusal
+
+abbrev pub fetched : Result ℕ ChainRefusal → Result Done ChainRefusal
+fetched (Ok stamp) = Ok (done.Fetched stamp)
+fetched (Err refusal) = Err refusal
+
+abbrev pub done_as : Done → Result (Unit {0}) ChainRefusal → Result Done ChainRefusal
+done_as d (Ok done) = Ok d
+done_as d (Err refusal) = Err refusal
 
 -- what a read of the line finds has room
-abbrev pub HasRoomFor : Form → Type 0
-HasRoomFor (forms.Read first count) = count ≤ 2048
-HasRoomFor (forms.Write first count byte) = ⊤
-HasRoomFor (forms.Trim first count) = ⊤
-HasRoomFor forms.Flush = ⊤
+abbrev pub HasRoomFor : Asked → Type 0
+HasRoomFor (asks_call (calls.Read first count)) = count ≤ 2048
+HasRoomFor other = ⊤
+
+-- a piece that was taken fits into each file of the disk
+abbrev pub IsSlot : Geometry → Piece → Type 0
+IsSlot geometry piece = piece.filled ≡ true → FitsDisk geometry piece

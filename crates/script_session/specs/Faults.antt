@@ -1,7 +1,8 @@
 -- What a script's lines say of the store's counts of faults.
-use Rattle.std.specs.Prelude.{◌≡◌, ◌⊎◌, ◌<◌, ◌+◌, ℕ, List, None, Some, IfSome}
+use Rattle.std.specs.Prelude.{◌≡◌, ◌⊎◌, ◌<◌, ℕ, List, None, Some, IfSome}
 use Rattle.store_model.specs.Disk.{Disk}
 use Rattle.store_model.specs.declared.fault.StoreFault.{StoreFault}
+use Rattle.merge_core.specs.declared.piece.Piece.{Piece}
 use Rattle.chain_core.specs.Sessions.{Session}
 use Rattle.script.specs.declared.form.Line.{Line}
 use Rattle.script_session.specs.Answers.{AnswersLines}
@@ -25,5 +26,5 @@ pub record CountsFaults (told : List Told) (old new : Session) : Type 0 where
 -- so it is of lines from a session on that isn't broken
 abbrev pub LinesCountFaults : Type 0
 LinesCountFaults =
-    (number : ℕ) (lines : List Line) (told : List Told) (old new : Session) → 0 < old.disk.files → old.broken ≡ None → AnswersLines number lines told old new
+    (number : ℕ) (lines : List Line) (told : List Told) (old new : Session) (slot left : Piece) → 0 < old.disk.files → old.broken ≡ None → AnswersLines number lines told old slot new left
     → CountsFaults told old new

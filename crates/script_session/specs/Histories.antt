@@ -1,22 +1,29 @@
 -- What the lines of a script are told over a disk: line by line, by the history of the calls that were done (profile).
-use Rattle.std.specs.Prelude.{◌≡◌, ◌+◌, ◌<◌, ◌≤◌, ◌^◌, ⊤, ℕ, Bool, true, false, List, [], ◌∷◌, ◌++◌, length, is_some, Option, Some, None, option_map, Ok, Err, IfSome}
+use Rattle.std.specs.Prelude.{◌≡◌, ◌+◌, ◌*◌, ◌<◌, ◌≤◌, ◌^◌, ◌||◌, ⊤, ℕ, Bool, true, false, nat_lt, List, [], ◌∷◌, ◌++◌, length, map, is_some, Option, Some, None, option_map, Ok, Err, IfSome, if◌then◌else◌}
 use Rattle.vx_base.specs.declared.parts.Geometry.{Geometry}
 use Rattle.store_model.specs.declared.fault.StoreFault.{StoreFault}
 use Rattle.store_model.specs.Trace.{Trace}
 use Rattle.guest_model.specs.declared.call.Call.{Call}
-use Rattle.guest_model.specs.declared.call.Entry.{Entry}
 use Rattle.guest_model.specs.declared.refusal.ChainRefusal.{ChainRefusal}
-use Rattle.guest_model.specs.declared.refusal.ChainRefusal.TheVariants.{Broken, FileFull, NoRoom, ReadFault}
+use Rattle.guest_model.specs.declared.refusal.ChainRefusal.TheVariants.{Broken, FileFull, NoMerge, NoPiece, NoRoom, NotYet, ReadFault}
 use Rattle.guest_model.specs.Calls.{Disk, is_named, reply}
 use Rattle.guest_model.specs.History.{History, replay}
+use Rattle.chain_model.specs.Merges.{AllMarked, with_mark}
 use Rattle.chain_model.specs.Moments.{EachOpensToPrefix}
+use Rattle.chain_model.specs.Stripes.{stripe_count}
+use Rattle.merge_core.specs.Copied.{IsLowest}
+use Rattle.merge_core.specs.Pieces.{piece_of}
+use Rattle.merge_core.specs.declared.piece.Piece.{Piece}
+use Rattle.chain_core.specs.Copying.{IsOfStripe, past_stripes}
+use Rattle.chain_core.specs.Finished.{left_of}
+use Rattle.chain_core.specs.Merging.{IsTruePiece}
 use Rattle.chain_core.specs.Refusing.{barred, broken_by, is_read, or_else, out_of, range_of}
 use Rattle.chain_core.specs.Sessions.{Session}
-use Rattle.chain_core.specs.States.{State, IsServing, LeavesOthers, sector_of}
-use Rattle.script.specs.declared.form.Form.{Form}
+use Rattle.chain_core.specs.States.{IsServing, LeavesOthers, Rest, State, merging, plain, sector_of}
 use Rattle.script.specs.declared.form.Line.{Line}
+use Rattle.script.specs.Transcript.{has_stamp, is_copied, is_done as is_whole, of_call}
 use Rattle.script_session.specs.Answers.{AnswersLines}
-use Rattle.script_session.specs.Told.{Told, call_of, sector_size}
+use Rattle.script_session.specs.Told.{Asked, Told, asked, asks_call, asks_copy, asks_fetch, asks_finish, asks_put, next_number, sector_size}
 
 -- What a script runs over: a disk of so many sectors, which can be changed or only be read, as it is when the session begins.
 pub record Drive : Type 0 where
@@ -28,10 +35,10 @@ pub record Drive : Type 0 where
 abbrev pub disk_after : Drive → History → Disk
 disk_after drive h = replay sector_size drive.opening h
 
--- What broke a session: a fault of the store, in this call.
+-- What broke a session: a fault of the store; in this call, if a call broke it, and else in a step of the merge.
 pub record Break : Type 0 where
   pub fault : StoreFault
-  pub call : Call
+  pub call : Option Call
 
 -- the fault by which a session was broken, if it was
 abbrev pub fault_in : Option Break → Option StoreFault
@@ -58,43 +65,163 @@ Stops false other = ⊥
 -- leaf fails, and breaks the session.
 pub data IsTold (drive : Drive) (h : History) (broken : Option Break) (call : Call) : Told → Option Break → Type 0 where
   is_refused : (e : ChainRefusal) → cause_of drive (fault_in broken) call ≡ Some e → IsTold drive h broken call (Err e) broken
-  is_done : cause_of drive (fault_in broken) call ≡ None → IsTold drive h broken call (Ok (length h + 1, reply (disk_after drive h) call)) broken
+  is_done : cause_of drive (fault_in broken) call ≡ None → IsTold drive h broken call (Ok (Some (length h + 1), of_call (reply (disk_after drive h) call))) broken
   is_stopped : (e : ChainRefusal) → cause_of drive (fault_in broken) call ≡ None → Stops (is_read call) e → IsTold drive h broken call (Err e) broken
   breaks : (fault : StoreFault) → cause_of drive (fault_in broken) call ≡ None → is_read call ≡ false
-      → IsTold drive h broken call (Err (Broken fault.file fault.count)) (Some (record { fault = fault; call = call }))
+      → IsTold drive h broken call (Err (Broken fault.file fault.count)) (Some (record { fault = fault; call = Some call }))
 
--- the history behind a line: its call is the next entry, of guest 1 with its number, if it was done
-abbrev pub with_line : ℕ → Form → Told → History → History
-with_line number form (Ok answer) h = h ++ record { guest = 1; no = number; call = call_of form } ∷ []
-with_line number form (Err refusal) h = h
+-- ---- the steps of a merge
 
--- Lines are told so one after the other, the first as the guest's call of that number: from a history, and what has broken the session
--- if it is broken, to those behind the last line.
-pub data AreTold (drive : Drive) : ℕ → History → Option Break → List Line → List Told → History → Option Break → Type 0 where
-  none_left : (number : ℕ) (h : History) (broken : Option Break) → AreTold drive number h broken [] [] h broken
-  line_told : (number : ℕ) (h last : History) (broken mid end : Option Break) (line : Line) (lines : List Line) (told : Told) (later : List Told)
-      → IsTold drive h broken (call_of line.form) told mid → AreTold drive (number + 1) (with_line number line.form told h) mid lines later last end
-      → AreTold drive number h broken (line ∷ lines) (told ∷ later) last end
+-- How a merge stands for a script: none is under way; or one is, of which these stripes are copied, and the piece of this one was fetched
+-- and waits to be put, if one does.
+pub data Course : Type 0 where
+  no_merge : Course
+  copying : (copied : ℕ → Bool) (waits : Option ℕ) → Course
+
+-- how many stripes the disk has
+abbrev pub stripes_of : Drive → ℕ
+stripes_of drive = stripe_count drive.geometry.sector drive.geometry.sectors
+
+-- What a step is refused by, as the merge stands: none is under way; the disk has fewer stripes; nothing waits to be put.
+abbrev pub out_of_course : ℕ → Course → Asked → Option ChainRefusal
+out_of_course stripes no_merge step = Some NoMerge
+out_of_course stripes (copying copied waits) (asks_fetch stripe) = past_stripes stripe stripes
+out_of_course stripes (copying copied waits) asks_put = if is_some waits then None else Some NoPiece
+out_of_course stripes (copying copied waits) other = None
+
+-- the cause by which a step is refused whatever the files are: a fault broke the session; or how the merge stands
+abbrev pub step_cause : Drive → Option StoreFault → Course → Asked → Option ChainRefusal
+step_cause drive broken course step = or_else (broken_by broken) (out_of_course (stripes_of drive) course step)
+
+-- a fetch or a put that is refused leaves nothing that waits
+abbrev pub left_by : Asked → Course → Course
+left_by step no_merge = no_merge
+left_by (asks_fetch stripe) (copying copied waits) = copying copied None
+left_by asks_put (copying copied waits) = copying copied None
+left_by other (copying copied waits) = copying copied waits
+
+-- What stops a put without breaking the session: a fault of the store, or want of room in the target's file, whose end is then within
+-- 1,024 MB of the greatest place that a block may have.
+abbrev pub StopsPut : ChainRefusal → Type 0
+StopsPut (ReadFault file count) = ⊤
+StopsPut (FileFull next) = 2 ^ 43 < next + 1024
+StopsPut other = ⊥
+
+-- copied are also all stripes below this one
+abbrev pub copied_to : ℕ → (ℕ → Bool) → ℕ → Bool
+copied_to stripe copied t = nat_lt t stripe || copied t
+
+-- this stripe of the disk isn't copied
+pub record IsMissed (stripes : ℕ) (copied : ℕ → Bool) (stripe : ℕ) : Type 0 where
+  pub there : stripe < stripes
+  pub missing : copied stripe ≡ false
+
+-- What a step of a merge is told, as the merge stands, and how it stands behind it: the step has its cause and is refused by it. Or a
+-- stripe is fetched, under the stamp 0, and waits; or a fault stops it, and nothing waits. Or what waits is put, its stripe is copied, and
+-- nothing waits; or that is stopped, or breaks the session. Or all stripes are copied, already before or then; or that is stopped at a
+-- stripe that was missing, or breaks the session there: copied then are the stripes below it, besides those before. Or, all stripes being
+-- copied, the merge is finished, or that breaks the session; else it is told the lowest stripe that isn't copied.
+pub data IsStepTold (drive : Drive) : Course → Option Break → Asked → Told → Course → Option Break → Type 0 where
+  is_barred : (course : Course) (broken : Option Break) (step : Asked) (e : ChainRefusal) → step_cause drive (fault_in broken) course step ≡ Some e → IsStepTold drive course broken step (Err e) (left_by step course) broken
+  is_fetched : (copied : ℕ → Bool) (waits : Option ℕ) (stripe : ℕ) → stripe < stripes_of drive → IsStepTold drive (copying copied waits) None (asks_fetch stripe) (Ok (None, has_stamp 0)) (copying copied (Some stripe)) None
+  fetch_stopped : (copied : ℕ → Bool) (waits : Option ℕ) (stripe file count : ℕ) → stripe < stripes_of drive
+      → IsStepTold drive (copying copied waits) None (asks_fetch stripe) (Err (ReadFault file count)) (copying copied None) None
+  is_put : (copied : ℕ → Bool) (stripe : ℕ) → IsStepTold drive (copying copied (Some stripe)) None asks_put (Ok (None, is_copied)) (copying (with_mark stripe copied) None) None
+  put_stopped : (copied : ℕ → Bool) (stripe : ℕ) (e : ChainRefusal) → StopsPut e → IsStepTold drive (copying copied (Some stripe)) None asks_put (Err e) (copying copied None) None
+  put_breaks : (copied : ℕ → Bool) (stripe : ℕ) (fault : StoreFault)
+      → IsStepTold drive (copying copied (Some stripe)) None asks_put (Err (Broken fault.file fault.count)) (copying copied None) (Some (record { fault = fault; call = None }))
+  none_missing : (copied : ℕ → Bool) (waits : Option ℕ) → AllMarked (stripes_of drive) copied → IsStepTold drive (copying copied waits) None asks_copy (Ok (None, is_whole)) (copying copied waits) None
+  all_copied : (copied : ℕ → Bool) (waits : Option ℕ) (stripe : ℕ) → IsMissed (stripes_of drive) copied stripe
+      → IsStepTold drive (copying copied waits) None asks_copy (Ok (None, is_whole)) (copying (copied_to (stripes_of drive) copied) None) None
+  copy_stopped : (copied : ℕ → Bool) (waits : Option ℕ) (stripe : ℕ) (e : ChainRefusal) → IsMissed (stripes_of drive) copied stripe → StopsPut e
+      → IsStepTold drive (copying copied waits) None asks_copy (Err e) (copying (copied_to stripe copied) None) None
+  copy_breaks : (copied : ℕ → Bool) (waits : Option ℕ) (stripe : ℕ) (fault : StoreFault) → IsMissed (stripes_of drive) copied stripe
+      → IsStepTold drive (copying copied waits) None asks_copy (Err (Broken fault.file fault.count)) (copying (copied_to stripe copied) None) (Some (record { fault = fault; call = None }))
+  is_finished : (copied : ℕ → Bool) (waits : Option ℕ) → AllMarked (stripes_of drive) copied → IsStepTold drive (copying copied waits) None asks_finish (Ok (None, is_whole)) no_merge None
+  not_yet : (copied : ℕ → Bool) (waits : Option ℕ) (stripe : ℕ) → IsLowest (stripes_of drive) copied stripe → IsStepTold drive (copying copied waits) None asks_finish (Err (NotYet stripe)) (copying copied waits) None
+  finish_breaks : (copied : ℕ → Bool) (waits : Option ℕ) (fault : StoreFault) → AllMarked (stripes_of drive) copied
+      → IsStepTold drive (copying copied waits) None asks_finish (Err (Broken fault.file fault.count)) (copying copied waits) (Some (record { fault = fault; call = None }))
+
+-- ---- lines
+
+-- what a line is told: of a call, which leaves the merge as it stands, or of a step of the merge
+abbrev pub IsLineTold : Drive → History → Course → Option Break → Asked → Told → Course → Option Break → Type 0
+IsLineTold drive h course broken (asks_call call) told on after = (on ≡ course) × IsTold drive h broken call told after
+IsLineTold drive h course broken step told on after = IsStepTold drive course broken step told on after
+
+-- the history behind a line: its call, if it is one, is the next entry, of guest 1 with its number, if it was done
+abbrev pub with_line : ℕ → Asked → Told → History → History
+with_line number (asks_call call) (Ok answer) h = h ++ record { guest = 1; no = number; call = call } ∷ []
+with_line number (asks_call call) (Err refusal) h = h
+with_line number step told h = h
+
+-- Lines are told so one after the other, the first call among them as the guest's of that number: from a history, how the merge stands,
+-- and what has broken the session if it is broken, to those behind the last line.
+pub data AreTold (drive : Drive) : ℕ → History → Course → Option Break → List Line → List Told → History → Course → Option Break → Type 0 where
+  none_left : (number : ℕ) (h : History) (course : Course) (broken : Option Break) → AreTold drive number h course broken [] [] h course broken
+  line_told : (number : ℕ) (h last : History) (course on end : Course) (broken mid after : Option Break) (line : Line) (lines : List Line) (told : Told) (later : List Told)
+      → IsLineTold drive h course broken (asked line.form) told on mid → AreTold drive (next_number number line.form) (with_line number (asked line.form) told h) on mid lines later last end after
+      → AreTold drive number h course broken (line ∷ lines) (told ∷ later) last end after
 
 -- ---- and what stands behind them
 
--- A session stands so over the state: it serves the history; or a fault has broken it, in a call that is the next one behind the whole
--- history for good, and each moment since it began opens to a prefix of the history.
-pub data Stands (v : State) (s : Session) (now : Trace) : Option Break → Type 0 where
-  serves : s.broken ≡ None → IsServing s.layers v now → Stands v s now None
+-- a piece was taken of this stripe of the disk, and is true of the merge's source
+pub record IsWaiting (v : State) (geometry : Geometry) (stripe : ℕ) (slot : Piece) : Type 0 where
+  pub there : stripe < stripe_count geometry.sector geometry.sectors
+  pub taken : IsOfStripe geometry stripe slot
+  pub is_true : IsTruePiece v (piece_of slot)
+
+-- the slot has the piece that waits, if one does
+abbrev pub HoldsWaiting : State → Geometry → Piece → Option ℕ → Type 0
+HoldsWaiting v geometry slot None = slot.filled ≡ false
+HoldsWaiting v geometry slot (Some stripe) = IsWaiting v geometry stripe slot
+
+-- a merge is under way in a state, with these marks
+abbrev pub HasMarks : Rest → (ℕ → Bool) → Type 0
+HasMarks (plain others) marks = ⊥
+HasMarks (merging above source target below m) marks = (t : ℕ) → m.marks t ≡ marks t
+
+-- and none is
+abbrev pub IsPlain : Rest → Type 0
+IsPlain (plain others) = ⊤
+IsPlain (merging above source target below m) = ⊥
+
+-- the state and the slot are those of the merge as it stands
+abbrev pub IsOnCourse : State → Geometry → Piece → Course → Type 0
+IsOnCourse v geometry slot no_merge = IsPlain v.rest
+IsOnCourse v geometry slot (copying copied waits) = HasMarks v.rest copied × HoldsWaiting v geometry slot waits
+
+-- the sectors that the call names which broke a session, if one did: behind the whole history a crash may leave anything in them
+abbrev pub open_in : ℕ → Option Call → ℕ → Bool
+open_in z None s = false
+open_in z (Some call) s = is_named z call s
+
+-- A session stands so over the state: it serves the history, and the merge stands so; or a fault has broken it, in a call that is the next
+-- one behind the whole history for good or in a step of the merge, and each moment since it began opens to a prefix of the history.
+pub data Stands (v : State) (s : Session) (slot : Piece) (now : Trace) (course : Course) : Option Break → Type 0 where
+  serves : s.broken ≡ None → IsServing s.layers v now → IsOnCourse v s.layers.geometry slot course → Stands v s slot now course None
   is_broken : (b : Break) → s.broken ≡ Some b.fault → LeavesOthers v now
-      → EachOpensToPrefix (sector_of v) v.opening v.history (is_named (sector_of v) b.call) v.leaf v.began now → Stands v s now (Some b)
+      → EachOpensToPrefix (sector_of v) v.opening v.history (open_in (sector_of v) b.call) v.leaf v.began now → Stands v s slot now course (Some b)
+
+-- the numbers of the files below the leaf that stay when a merge is finished
+abbrev pub left_numbers : Rest → List ℕ
+left_numbers rest = map (λ f. f.number) (left_of rest)
+
+-- the names of the files of a state's chain, but for the source of its merge
+abbrev pub names_left : State → List (List ℕ)
+names_left v = map (λ f. f.member.name) (v.top ∷ left_of v.rest)
 
 -- a state of the same session, with this history
 pub record IsLater (v : State) (h : History) (later : State) : Type 0 where
   pub leaf : later.leaf ≡ v.leaf
   pub retired : later.retired ≡ v.retired
-  pub rest : later.rest ≡ v.rest
   pub number : later.top.number ≡ v.top.number
   pub opening : later.opening ≡ v.opening
   pub began : later.began ≡ v.began
   pub writes : later.writes ≡ v.writes
   pub since : later.since ≡ v.since
+  pub left : left_numbers later.rest ≡ left_numbers v.rest
+  pub names : names_left later ≡ names_left v
   pub history : later.history ≡ h
 
 -- The session of a chain over this drive, with the state's history, which its recorder has if it tells it.
@@ -107,19 +234,21 @@ pub record IsOver (drive : Drive) (v : State) (s : Session) : Type 0 where
   pub kept : IfSome s.told (λ h. h ≡ v.history)
 
 -- What the lines were told, and where the session stands behind them.
-pub record TellsHistory (drive : Drive) (number : ℕ) (lines : List Line) (told : List Told) (v : State) (before : Option Break) (new : Session) : Type 0 where
+pub record TellsHistory (drive : Drive) (number : ℕ) (lines : List Line) (told : List Told) (v : State) (course : Course) (before : Option Break) (new : Session) (left : Piece) : Type 0 where
   pub later : State
   pub now : Trace
+  pub end : Course
   pub broken : Option Break
   pub same : IsLater v later.history later
-  pub told_so : AreTold drive number v.history before lines told later.history broken
+  pub told_so : AreTold drive number v.history course before lines told later.history end broken
   pub over : IsOver drive later new
   pub seen : new.disk.told ≡ Some now
-  pub stands : Stands later new now broken
+  pub stands : Stands later new left now end broken
 
--- A session that tells its content and answers lines tells them its history.
+-- A session that tells its content and answers lines tells them its history. A line has at most so many events: a copy moves fewer than
+-- 2^32 stripes, each by two of them.
 abbrev pub LinesTellHistory : Type 0
 LinesTellHistory =
-    (drive : Drive) (number : ℕ) (lines : List Line) (told : List Told) (v : State) (broken : Option Break) (old new : Session) (trace : Trace)
-    → old.disk.told ≡ Some trace → Stands v old trace broken → IsOver drive v old → old.events + length lines ≤ 2 ^ 63 → AnswersLines number lines told old new
-    → TellsHistory drive number lines told v broken new
+    (drive : Drive) (number : ℕ) (lines : List Line) (told : List Told) (v : State) (course : Course) (broken : Option Break) (old new : Session) (slot left : Piece) (trace : Trace)
+    → old.disk.told ≡ Some trace → Stands v old slot trace course broken → IsOver drive v old → old.events + length lines * 2 ^ 34 ≤ 2 ^ 63 → AnswersLines number lines told old slot new left
+    → TellsHistory drive number lines told v course broken new left

@@ -4,9 +4,9 @@ use Rattle.store_model.specs.Disk.{Disk, WhereBothTold}
 use Rattle.store_model.specs.File.{is_synced}
 use Rattle.store_model.specs.Trace.{Trace, file_of}
 use Rattle.store_model.specs.declared.fault.StoreFault.{StoreFault}
-use Rattle.guest_model.specs.Calls.{is_named}
 use Rattle.guest_model.specs.History.{History}
 use Rattle.chain_model.specs.Moments.{EachOpens, EachOpensToPrefix}
+use Rattle.merge_core.specs.declared.piece.Piece.{Piece}
 use Rattle.link_rules.specs.declared.linked.LinkedFile.{LinkedFile}
 use Rattle.chain_core.specs.Answering.{ClosesTold}
 use Rattle.chain_core.specs.Ending.{IsOfSession, SomeChangeFailed}
@@ -18,14 +18,14 @@ use Rattle.merge_plan.specs.declared.drawing.NewIds.{NewIds}
 use Rattle.script.specs.declared.form.Line.{Line}
 use Rattle.script_session.specs.Answers.{HasRun}
 use Rattle.script_session.specs.Faults.{Counts}
-use Rattle.script_session.specs.Histories.{AreTold, Break, Drive, disk_after}
+use Rattle.script_session.specs.Histories.{AreTold, Break, Course, Drive, disk_after, no_merge, open_in}
 use Rattle.script_session.specs.Told.{Told, last_fault, sector_size, transcript}
 use Rattle.script_session.specs.declared.session.ScriptRun.{ScriptRun}
 
--- the sectors that the call names which broke a session: behind the whole history a crash may leave anything in them
+-- the sectors that are open: those that the call names which broke the session
 abbrev pub open_by : Option Break → ℕ → Bool
 open_by None s = false
-open_by (Some b) s = is_named sector_size b.call s
+open_by (Some b) s = open_in sector_size b.call s
 
 abbrev pub can_change : Mode → Bool
 can_change Guests = true
@@ -45,8 +45,9 @@ pub record IsAtRest (leaf : LinkedFile) (drive : Drive) (h : History) (now : Tra
 -- changed, and that neither where the files are only read.
 pub record HasHistory (mode : Mode) (leaf : LinkedFile) (others : List LinkedFile) (lines : List Line) (told : List Told) (closed : Result (Unit {0}) StoreFault) (trace now : Trace) : Type 0 where
   pub history : History
+  pub course : Course
   pub broken : Option Break
-  pub told_so : AreTold (drive_of mode leaf others trace) 1 [] None lines told history broken
+  pub told_so : AreTold (drive_of mode leaf others trace) 1 [] no_merge None lines told history course broken
   pub moments : EachOpensToPrefix sector_size (opening_disk trace (leaf ∷ others)) history (open_by broken) leaf.name trace now
   pub still : (other : ℕ) → other ≢ 0 → file_of now other ≡ file_of trace other
   pub unchanged : can_change mode ≡ false → now ≡ trace
@@ -85,7 +86,7 @@ pub record IsEnded (s : Session) (after : Disk) (closed : Result (Unit {0}) Stor
   pub told : s.broken ≡ None → ClosesTold s after closed
 
 -- Lines were answered in a session, and then it ended.
-pub record HasRunToEnd (names : List (List ℕ)) (lines : List Line) (before : Session) (run : ScriptRun) (after : Disk) : Type 0 where
+pub record HasRunToEnd (names : List (List ℕ)) (lines : List Line) (before : Session) (slot left : Piece) (run : ScriptRun) (after : Disk) : Type 0 where
   pub behind : Session
-  pub ran : HasRun names lines before behind (record { transcript = run.transcript; fault = run.fault })
+  pub ran : HasRun names lines before slot behind left (record { transcript = run.transcript; fault = run.fault })
   pub ended : IsEnded behind after run.closed

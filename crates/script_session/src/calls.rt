@@ -5,12 +5,11 @@ ghost use Rattle.guest_model.specs.declared.call.Reply.{Reply};
 ghost use Rattle.guest_model.specs.declared.call.Call.TheVariants as calls;
 ghost use Rattle.guest_model.specs.declared.call.Reply.TheVariants as replies;
 ghost use Rattle.chain_core.specs.Sessions.{IsSound, seen};
-ghost use Rattle.script_session.specs.Answers.{Answers, HasRoomFor, reply_in, too_long};
+ghost use Rattle.script_session.specs.Answers.{Answers, too_long};
 ghost use Rattle.script_session.specs.Told as told;
 
 use chain_core::Chain;
 use guest_model::{Caller, ChainRefusal, Recorder};
-use script::Form;
 use store_model::Store;
 
 /// Bytes of a sector.
@@ -80,7 +79,7 @@ fn read_many<S: Store, R: Recorder>(
 }
 
 // Reads sectors into the front of the room.
-fn read<S: Store, R: Recorder>(
+pub(crate) fn read<S: Store, R: Recorder>(
     chain: &mut Chain<S, R>,
     number: u64,
     first: u64,
@@ -149,7 +148,7 @@ fn write_many<S: Store, R: Recorder>(
 }
 
 // Writes sectors, all of whose bytes are one.
-fn write<S: Store, R: Recorder>(
+pub(crate) fn write<S: Store, R: Recorder>(
     chain: &mut Chain<S, R>,
     number: u64,
     first: u64,
@@ -172,7 +171,7 @@ fn write<S: Store, R: Recorder>(
 }
 
 // Makes sectors zeros.
-fn trim<S: Store, R: Recorder>(
+pub(crate) fn trim<S: Store, R: Recorder>(
     chain: &mut Chain<S, R>,
     number: u64,
     first: u64,
@@ -188,7 +187,10 @@ fn trim<S: Store, R: Recorder>(
 }
 
 // Makes all that was written before outlast a crash.
-fn flush<S: Store, R: Recorder>(chain: &mut Chain<S, R>, number: u64) -> Result<u64, ChainRefusal>
+pub(crate) fn flush<S: Store, R: Recorder>(
+    chain: &mut Chain<S, R>,
+    number: u64,
+) -> Result<u64, ChainRefusal>
     requires { IsSound (seen S.disk R.noted R.told chain.old) }
     ensures sound { IsSound (seen S.disk R.noted R.told chain.new) }
     ensures answers { let before = seen S.disk R.noted R.told chain.old in
@@ -196,29 +198,4 @@ fn flush<S: Store, R: Recorder>(chain: &mut Chain<S, R>, number: u64) -> Result<
         Answers (told.caller number) calls.Flush result replies.Done before now }
 {
     chain.flush(caller(number))
-}
-
-/// Makes the call that a line asks for, as guest 1's of that number. The room has the bytes of a write, and takes those of a
-/// read at its front.
-pub fn make_call<S: Store, R: Recorder>(
-    chain: &mut Chain<S, R>,
-    number: u64,
-    form: Form,
-    room: &mut [u8],
-) -> Result<u64, ChainRefusal>
-    requires sound { IsSound (seen S.disk R.noted R.told chain.old) }
-    requires room { length room.old ≡ 1048576 }
-    ensures sound { IsSound (seen S.disk R.noted R.told chain.new) }
-    ensures room { length room.new ≡ 1048576 }
-    ensures answers { let before = seen S.disk R.noted R.told chain.old in
-        let now = seen S.disk R.noted R.told chain.new in
-        Answers (told.caller number) (told.call_of form) result (reply_in room.new (told.call_of form)) before now }
-    ensures few { OnOk result (HasRoomFor form) }
-{
-    match form {
-        Form::Read { first, count } => read(chain, number, first, count, room),
-        Form::Write { first, count, byte } => write(chain, number, first, count, byte, room),
-        Form::Trim { first, count } => trim(chain, number, first, count),
-        Form::Flush => flush(chain, number),
-    }
 }

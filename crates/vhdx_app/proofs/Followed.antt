@@ -41,6 +41,7 @@ use Rattle.link_rules.proofs.Composing.{among_append, left_then, replayed_then, 
 use Rattle.link_rules.proofs.OneLinking.{one_linking}
 use Rattle.link_rules.proofs.Ways.{found_way}
 use Rattle.vhdx_app.specs.Causes.{AnswersBy, of_chain}
+use Rattle.vhdx_app.specs.Starts.{StandsSo}
 use Rattle.vhdx_app.specs.Commands.{AreAnew, AreOpened, HasFollowed, HasGeometry, HasRead, IsOpened, IsRefusedRange, LeavesFollowed, LeavesFollowedBy, LeavesReadBy, OnlyAttaches}
 use Rattle.vhdx_app.specs.Commands as code
 use Rattle.vhdx_app.specs.Dump.{Finds}
@@ -305,3 +306,21 @@ pub shown_before : (files now : Contents) (leaf : List ℕ) (linked : Linked) (k
 shown_before files now leaf linked known links replays shows =
     shows_before files now leaf (linked_names linked) replays linked.files known (listed files leaf linked links)
     (λ name among. among_append name linked.retired (names_of linked.files) ∙ or_right (is_among name linked.retired) (is_among name (names_of linked.files)) among) shows
+
+-- what is so of what a file stands for once it is opened was so before
+pub stands_before : (files now : Contents) (leaf : List ℕ) (linked : Linked) (name : List ℕ) (P : List ℕ → Type 0) → Replays (linked_names linked) files now → is_among name (names_of linked.files) ≡ true → StandsSo now name P → StandsSo files name P
+stands_before files now leaf linked name P replays among so = by_had (files name) refl where
+  among_all : is_among name (linked_names linked) ≡ true
+  among_all = among_append name linked.retired (names_of linked.files) ∙ or_right (is_among name linked.retired) (is_among name (names_of linked.files)) among
+
+  by_kept : (bytes x : List ℕ) → files name ≡ Some bytes → now name ≡ Some x → IsKept (linked_names linked) name bytes x → StandsSo files name P
+  by_kept bytes x had also (untouched apart) = let never : true ≡ false = sym among_all ∙ apart in cc
+  by_kept bytes x had also (replayed _ known stood) =
+      let one : so.bytes ≡ x = same_Some so.bytes x (sym so.there ∙ also) in
+      let again = opens_again bytes x stood in
+      let same : x ≡ so.settled = stands_once x x so.settled again.stays (subst (λ b. StandsFor b so.settled) one so.stands) in
+      record { bytes = bytes; settled = so.settled; there = had; stands = subst (StandsFor bytes) same stood; so = so.so }
+
+  by_had : (o : Option (List ℕ)) → files name ≡ o → StandsSo files name P
+  by_had None e = let never : None ≡ Some so.bytes = sym (replays.none name e) ∙ so.there in cc
+  by_had (Some bytes) e = let k = replays.each name bytes e in by_kept bytes k.0 e k.1 k.2

@@ -1,6 +1,6 @@
 -- What a host is left with behind a session over a chain's files.
-use Rattle.std.proofs.Common.{◌≡◌, ◌≢◌, ◌⊎◌, ◌||◌, ℕ, zero, suc, ◌+◌, ◌≤◌, Bool, true, false, List, [], ◌∷◌, ◌++◌, map, Option, Some, None, refl, sym, ap, subst, ◌∙◌, arith}
-use Rattle.std.specs.Prelude.{option_map}
+use Rattle.std.proofs.Common.{◌≡◌, ◌⊎◌, ℕ, zero, suc, ◌+◌, ◌≤◌, Bool, true, false, List, [], ◌∷◌, ◌++◌, map, Option, Some, None, refl, sym, ap, subst, ◌∙◌, arith}
+use Rattle.std.specs.Prelude.{option_map, slice_index_or}
 use Rattle.std.proofs.lemmas.Option.{same_Some}
 use Rattle.store_model.specs.Disk.{Disk as StoreDisk, WhereBothTold, WhereTold}
 use Rattle.store_model.specs.File as stored
@@ -18,11 +18,11 @@ use Rattle.chain_model.specs.Files.{OpensTo, at_rest}
 use Rattle.chain_model.specs.Members.{NoneTwice}
 use Rattle.chain_model.specs.Moments.{EachOpens, EachOpensToPrefix, is_open}
 use Rattle.chain_model.proofs.Linking.{more_files_link_alike}
-use Rattle.link_rules.specs.Chains.{names_of}
+use Rattle.link_rules.specs.Chains.{is_among, names_of}
 use Rattle.link_rules.specs.Folders.{AllIdle, contents}
-use Rattle.link_rules.specs.Lines.{BeginsWith}
 use Rattle.link_rules.specs.declared.linked.Linked.{Linked}
 use Rattle.link_rules.specs.declared.linked.LinkedFile.{LinkedFile}
+use Rattle.chain_core.specs.Answering.{EachLinks}
 use Rattle.chain_core.specs.Starting.{opening_disk}
 use Rattle.chain_core.specs.declared.starting.Mode.{Mode}
 use Rattle.script_session.specs.Histories.{Break}
@@ -30,13 +30,14 @@ use Rattle.script_session.specs.Running.{open_by}
 use Rattle.vhdx_app.specs.Commands.{AreAnew, Lends}
 use Rattle.vhdx_app.specs.Crashes.{AreSpared, EachImageOpens, IsSpared, OpensToFirst}
 use Rattle.vhdx_app.specs.Crashes as spared
-use Rattle.vhdx_app.specs.Folders.{AllHome, files_of}
+use Rattle.vhdx_app.specs.Folders.{AllHome, LeadsTo, files_of}
+use Rattle.vhdx_app.specs.Starts.{changed_names}
 use Rattle.vhdx_app.specs.Sessions.{IsChainIn, Rests, Stands, is_reading, leaf_name}
 use Rattle.vhdx_app.proofs.Home.{home_of_idle}
 use Rattle.vhdx_app.proofs.Lent.{all_back, anew_contents, anew_idle, are_away, names_attached, names_in, opened_there}
 use Rattle.vhdx_app.proofs.Resting.{rest_opens}
-use Rattle.vhdx_app.proofs.Sparing.{anew_spared}
-use Rattle.vhdx_app.proofs.Serving.{first_at, first_now, idle_now, last_once_of, opens_now, spared_at, spared_now}
+use Rattle.vhdx_app.proofs.Sparing.{anew_spared, still_spared}
+use Rattle.vhdx_app.proofs.Serving.{first_at, first_now, idle_now, last_once_of, leads_now, opens_now, spared_at, spared_now}
 
 -- ---- what is told before and after
 
@@ -54,18 +55,14 @@ told_first R (Some a) (Some b) y e h = (a, refl, subst (R a) (same_Some b y e) h
 
 -- ---- a folder to which nothing was done
 
-still_spared : (leaf : List ℕ) (folder : List Held) → AreSpared leaf folder folder
-still_spared leaf [] = tt
-still_spared leaf (held ∷ folder) = (spared.untouched, still_spared leaf folder)
-
-pub home_spared : (leaf : List ℕ) (folder now : List Held) → AllHome folder → AreSpared leaf folder now → AllHome now
-home_spared leaf [] [] home h = home
-home_spared leaf [] (later ∷ now) home h = absurd h
-home_spared leaf (held ∷ folder) [] home h = absurd h
-home_spared leaf (held ∷ folder) (later ∷ now) home h = by_place (home_spared leaf folder now (λ k d w. home (suc k) d (omega (arith, w))) h.1)
+pub home_spared : (changed : List (List ℕ)) (folder now : List Held) → AllHome folder → AreSpared changed folder now → AllHome now
+home_spared changed [] [] home h = home
+home_spared changed [] (later ∷ now) home h = absurd h
+home_spared changed (held ∷ folder) [] home h = absurd h
+home_spared changed (held ∷ folder) (later ∷ now) home h = by_place (home_spared changed folder now (λ k d w. home (suc k) d (omega (arith, w))) h.1)
   where
-    by_held : (later : Held) → IsSpared leaf held later → (file : stored.File) × (later.file ≡ Some file)
-    by_held _ (spared.is_leaf file same) = (file, refl)
+    by_held : (later : Held) → IsSpared changed held later → (file : stored.File) × (later.file ≡ Some file)
+    by_held _ (spared.may_change file among) = (file, refl)
     by_held _ spared.untouched = home zero held (omega arith)
     by_held _ (spared.attached file had) = (fresh (seen file), refl)
 
@@ -98,15 +95,16 @@ first_rests now name is_broken disk idle opens = record {
 }
 
 -- a host that stays as it was
-module _ (mode : Mode) (linked : Linked) (folder : List Held) (old new : Hosted) (idle : AllIdle folder) (told : old.folder ≡ Some folder) (folder_is : new.folder ≡ old.folder) (past_is : new.past ≡ old.past) where
+module _ (mode : Mode) (merge : Option (List ℕ)) (linked : Linked) (folder : List Held) (old new : Hosted) (idle : AllIdle folder) (told : old.folder ≡ Some folder) (folder_is : new.folder ≡ old.folder) (past_is : new.past ≡ old.past) where
   same_folder : (g : List Held) → new.folder ≡ Some g → folder ≡ g
   same_folder g is = same_Some folder g (sym told ∙ sym folder_is ∙ is)
 
-  pub still_stands : Stands mode linked [] None folder old new
+  pub still_stands : Stands mode merge linked [] None folder old new
   still_stands = record {
     moments = λ disk opens. throughout_still (OpensToFirst (leaf_name linked) disk [] (open_by None)) old new past_is
         (λ g is. subst (OpensToFirst (leaf_name linked) disk [] (open_by None)) (same_folder g is) (first_rests folder (leaf_name linked) (open_by None) disk idle opens));
-    spared = λ file begins. throughout_still (AreSpared file.name folder) old new past_is (λ g is. subst (AreSpared file.name folder) (same_folder g is) (still_spared file.name folder));
+    spared = throughout_still (AreSpared (changed_names merge linked.files) folder) old new past_is
+        (λ g is. subst (AreSpared (changed_names merge linked.files) folder) (same_folder g is) (still_spared (changed_names merge linked.files) folder));
     unchanged = λ reading g is name. ap (λ x. contents x name) (sym (same_folder g is));
     home = λ g is. subst AllHome (same_folder g is) (home_of_idle folder idle);
   }
@@ -119,13 +117,14 @@ module _ (mode : Mode) (linked : Linked) (folder : List Held) (old new : Hosted)
 
 -- ---- files that are lent and come back
 
--- what a session leaves of the files' trace
-pub record Changed (before now : Trace) : Type 0 where
+-- what a session leaves of the files' trace, which may change some files
+pub record Changed (written : ℕ → Bool) (before now : Trace) : Type 0 where
   pub attached : now.attached ≡ before.attached
-  pub still : (other : ℕ) → other ≢ 0 → file_of now other ≡ file_of before other
+  pub still : (other : ℕ) → written other ≡ false → file_of now other ≡ file_of before other
 
 module _ (retired : List (List ℕ)) (leaf : LinkedFile) (others : List LinkedFile) (old mid : Hosted) (lent : StoreDisk) (idle : WhereTold old.folder AllIdle) (once : NoneTwice (retired ++ names_of (leaf ∷ others)))
-    (chain : WhereTold old.folder (IsChainIn (record { retired = retired; files = leaf ∷ others }))) (lends : Lends (names_of (leaf ∷ others)) old mid lent) (disk : StoreDisk) (changed : WhereBothTold Changed lent.told disk.told) where
+    (chain : WhereTold old.folder (IsChainIn (record { retired = retired; files = leaf ∷ others }))) (lends : Lends (names_of (leaf ∷ others)) old mid lent) (disk : StoreDisk) (merge : Option (List ℕ)) (written : ℕ → Bool)
+    (may : (n : ℕ) → written n ≡ true → is_among (slice_index_or (names_of (leaf ∷ others)) n []) (changed_names merge (leaf ∷ others)) ≡ true) (changed : WhereBothTold (Changed written) lent.told disk.told) where
   abbrev pub L : Linked
   L = record { retired = retired; files = leaf ∷ others }
 
@@ -153,12 +152,12 @@ module _ (retired : List (List ℕ)) (leaf : LinkedFile) (others : List LinkedFi
   names_told f t same = ap (map _) same ∙ names_attached names f
 
   -- where the folder is told, what the store tells in the end
-  pub now_told : (f : List Held) → old.folder ≡ Some f → (t : Trace) × (disk.told ≡ Some t) × Changed (trace_of f) t
-  now_told f told = both_told Changed lent.told disk.told (trace_of f) (lent_told f told) changed
+  pub now_told : (f : List Held) → old.folder ≡ Some f → (t : Trace) × (disk.told ≡ Some t) × Changed written (trace_of f) t
+  now_told f told = both_told (Changed written) lent.told disk.told (trace_of f) (lent_told f told) changed
 
   pub back_requires : WhereTold mid.folder (λ folder. WhereTold disk.told (λ trace. AreAway trace folder))
   back_requires g is t told =
-      let first = told_first Changed lent.told disk.told t told changed in
+      let first = told_first (Changed written) lent.told disk.told t told changed in
       let b = told_before first.0 first.1 in
       let rest : without names b.0 ≡ g = same_Some _ g (sym (mid_folder b.0 b.1) ∙ is) in
       let same : t.attached ≡ (trace_of b.0).attached = first.2.attached ∙ ap (λ (x : Trace). x.attached) b.2 in
@@ -182,7 +181,7 @@ module _ (retired : List (List ℕ)) (leaf : LinkedFile) (others : List LinkedFi
       t_told : disk.told ≡ Some t
       t_told = (now_told f told).1
 
-      is_changed : Changed (trace_of f) t
+      is_changed : Changed written (trace_of f) t
       is_changed = (now_told f told).2
 
       abbrev pub rest : List Held
@@ -210,40 +209,39 @@ module _ (retired : List (List ℕ)) (leaf : LinkedFile) (others : List LinkedFi
       last_counts fault counted = last_one fault.count fault.file old now (come_back disk t rest) kept counted
 
       pub stands : (mode : Mode) (h : History) (broken : Option Break) → EachOpensToPrefix sector_size (opening_disk (trace_of f) (leaf ∷ others)) h (open_by broken) leaf.name (trace_of f) t → (is_reading mode ≡ true → t ≡ trace_of f)
-          → Stands mode L h broken f old now
+          → Stands mode merge L h broken f old now
       stands mode h broken past reading = record {
         moments = λ d opens.
             throughout (OpensToFirst (leaf_name L) d h (open_by broken))
-            (first_at retired leaf others f idle_f once is_chain.opened (leaf_name L) is_chain.chain t is_changed.attached is_changed.still h (open_by broken) past d opens)
-            (first_now retired leaf others f idle_f once is_chain.opened (leaf_name L) is_chain.chain t is_changed.attached is_changed.still h (open_by broken) past d opens);
-        spared = λ file begins. subst (λ n. Throughout (AreSpared n f) old now) (first_file file begins) spares;
+            (first_at retired leaf others f idle_f once is_chain.opened (leaf_name L) is_chain.chain (changed_names merge (leaf ∷ others)) written may t is_changed.attached is_changed.still h (open_by broken) past d opens)
+            (first_now retired leaf others f idle_f once is_chain.opened (leaf_name L) is_chain.chain (changed_names merge (leaf ∷ others)) written may t is_changed.attached is_changed.still h (open_by broken) past d opens);
+        spared = throughout (AreSpared (changed_names merge (leaf ∷ others)) f) spared_then last_spared;
         unchanged = λ read. in_now (λ g. (name : List ℕ) → contents g name ≡ contents f name) (unchanged_back (reading read));
-        home = in_now AllHome (home_spared leaf.name f (given_back t rest) (home_of_idle f idle_f) last_spared);
+        home = in_now AllHome (home_spared (changed_names merge (leaf ∷ others)) f (given_back t rest) (home_of_idle f idle_f) last_spared);
       }
         where
-          first_file : (file : LinkedFile) → BeginsWith file (leaf ∷ others) → leaf.name ≡ file.name
-          first_file file begins = ap (name_of_first) begins.is
-            where
-              name_of_first : List LinkedFile → List ℕ
-              name_of_first [] = leaf.name
-              name_of_first (x ∷ xs) = x.name
+          last_spared : AreSpared (changed_names merge (leaf ∷ others)) f (given_back t rest)
+          last_spared = spared_now retired leaf others f idle_f once is_chain.opened (leaf_name L) is_chain.chain (changed_names merge (leaf ∷ others)) written may t is_changed.attached is_changed.still
 
-          last_spared : AreSpared leaf.name f (given_back t rest)
-          last_spared = spared_now retired leaf others f idle_f once is_chain.opened (leaf_name L) is_chain.chain t is_changed.attached is_changed.still
-
-          spares : Throughout (AreSpared leaf.name f) old now
-          spares = throughout (AreSpared leaf.name f) (λ k within. spared_at retired leaf others f idle_f once is_chain.opened (leaf_name L) is_chain.chain t is_changed.attached is_changed.still k) last_spared
+          spared_then : (k : ℕ) → k ≤ moment t → AreSpared (changed_names merge (leaf ∷ others)) f (given_back (at_moment k t) rest)
+          spared_then k within = spared_at retired leaf others f idle_f once is_chain.opened (leaf_name L) is_chain.chain (changed_names merge (leaf ∷ others)) written may t is_changed.attached is_changed.still k
 
           unchanged_back : t ≡ trace_of f → (name : List ℕ) → contents (given_back t rest) name ≡ contents f name
           unchanged_back same name =
               ap (λ x. contents (given_back x rest) name) same
               ∙ anew_contents names f (given_back (trace_of f) rest) (all_back names f idle_f (last_once_of retired names once) (opened_there f (leaf ∷ others) is_chain.opened)) name
 
-      pub rests : (h : History) → is_synced (file_of t 0) ≡ true → EachOpens leaf.name (λ s. false) (replay sector_size (opening_disk (trace_of f) (leaf ∷ others)) h) t → Rests L h f old now
+      pub rests : (h : History) → ((n : ℕ) → written n ≡ true → is_synced (file_of t n) ≡ true) → EachOpens leaf.name (λ s. false) (replay sector_size (opening_disk (trace_of f) (leaf ∷ others)) h) t → Rests L h f old now
       rests h synced opens = record {
-        idle = λ g is x also. subst AllIdle (same_Some _ x (sym now_is ∙ also)) (idle_now retired leaf others f idle_f once is_chain.opened (leaf_name L) is_chain.chain t is_changed.attached is_changed.still synced);
-        opens = λ d is. in_now (λ g. OpensTo (files_of g) (leaf_name L) (replay sector_size d h)) (opens_now retired leaf others f idle_f once is_chain.opened (leaf_name L) is_chain.chain t is_changed.attached is_changed.still h synced opens d is);
+        idle = λ g is x also. subst AllIdle (same_Some _ x (sym now_is ∙ also)) (idle_now retired leaf others f idle_f once is_chain.opened (leaf_name L) is_chain.chain (changed_names merge (leaf ∷ others)) written may t is_changed.attached is_changed.still synced);
+        opens = λ d is. in_now (λ g. OpensTo (files_of g) (leaf_name L) (replay sector_size d h)) (opens_now retired leaf others f idle_f once is_chain.opened (leaf_name L) is_chain.chain (changed_names merge (leaf ∷ others)) written may t is_changed.attached is_changed.still h synced opens d is);
       }
+
+      pub leads : (h : History) (files : List (List ℕ)) → ((n : ℕ) → written n ≡ true → is_synced (file_of t n) ≡ true) → EachOpens leaf.name (λ s. false) (replay sector_size (opening_disk (trace_of f) (leaf ∷ others)) h) t → EachLinks leaf.name files t
+          → WhereTold now.folder (λ g. LeadsTo (files_of g) (leaf_name L) files)
+      leads h files synced opens links =
+          in_now (λ g. LeadsTo (files_of g) (leaf_name L) files)
+          (leads_now retired leaf others f idle_f once is_chain.opened (leaf_name L) is_chain.chain (changed_names merge (leaf ∷ others)) written may t is_changed.attached is_changed.still h files synced opens links)
 
       -- ---- where nothing was done to the files
 
@@ -264,13 +262,14 @@ module _ (retired : List (List ℕ)) (leaf : LinkedFile) (others : List LinkedFi
         opens_back : (d : Disk) → OpensTo (files_of f) (leaf_name L) d → OpensTo (files_of (given_back t rest)) (leaf_name L) d
         opens_back d opens = rests_as f (given_back t rest) (leaf_name L) (anew_contents names f (given_back t rest) is_anew) d opens
 
-        pub unchanged_stands : (mode : Mode) → Stands mode L [] None f old now
+        pub unchanged_stands : (mode : Mode) → Stands mode merge L [] None f old now
         unchanged_stands mode = record {
           moments = λ d opens. throughout (OpensToFirst (leaf_name L) d [] (open_by None))
               (λ k within. subst (λ x. OpensToFirst (leaf_name L) d [] (open_by None) (given_back x rest)) (sym (at_once k within)) (first_rests (given_back t rest) (leaf_name L) (open_by None) d idle_back (opens_back d opens)))
               (first_rests (given_back t rest) (leaf_name L) (open_by None) d idle_back (opens_back d opens));
-          spared = λ file begins. throughout (AreSpared file.name f)
-              (λ k within. subst (λ x. AreSpared file.name f (given_back x rest)) (sym (at_once k within)) (anew_spared names file.name f (given_back t rest) is_anew)) (anew_spared names file.name f (given_back t rest) is_anew);
+          spared = throughout (AreSpared (changed_names merge (leaf ∷ others)) f)
+              (λ k within. subst (λ x. AreSpared (changed_names merge (leaf ∷ others)) f (given_back x rest)) (sym (at_once k within)) (anew_spared names (changed_names merge (leaf ∷ others)) f (given_back t rest) is_anew))
+              (anew_spared names (changed_names merge (leaf ∷ others)) f (given_back t rest) is_anew);
           unchanged = λ reading. in_now (λ g. (name : List ℕ) → contents g name ≡ contents f name) (anew_contents names f (given_back t rest) is_anew);
           home = in_now AllHome (home_of_idle (given_back t rest) idle_back);
         }

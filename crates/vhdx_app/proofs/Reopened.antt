@@ -11,7 +11,9 @@ use Rattle.chain_model.specs.Moments.{EachOpens}
 use Rattle.chain_model.proofs.Linking.{more_files_link_alike, retired_may_lead}
 use Rattle.link_rules.specs.Folders.{AllIdle, contents}
 use Rattle.link_rules.specs.Laws.{at_rest_all}
+use Rattle.chain_core.specs.Answering.{EachLinks}
 use Rattle.vhdx_app.specs.Crashes.{EachImageOpens, IsCleanFolderImage}
+use Rattle.vhdx_app.specs.Folders.{LeadsTo}
 use Rattle.vhdx_app.proofs.Lent.{back_over, names_in}
 use Rattle.vhdx_app.proofs.Returned.{AreBack, all_named, are_back, back_beside, clean_image, in_image, kept_in_image, of_names, restricted}
 
@@ -127,3 +129,12 @@ module _ (folder : List Held) (names : List (List ℕ)) (idle : AllIdle folder) 
   images_reopen among disk opens image is =
       let o = opens (within image is) (clean_image trace now image is.left is.whole are_now) in
       record { retired = outer ++ o.retired; chain = o.chain; linked = linked_behind image is o.retired o.chain o.linked; agrees = o.agrees }
+
+  -- and by the same files
+  pub images_relink : (among : ℕ → Bool) (disk : Disk) (files : List (List ℕ)) → EachOpens (first_name chain) among disk trace → EachLinks (first_name chain) files trace → (image : List NamedBytes) → IsCleanFolderImage (given_back trace (without names folder)) image
+      → LeadsTo (files_in image) leaf files
+  unfolding now within
+  images_relink among disk files opens links image is =
+      let clean = clean_image trace now image is.left is.whole are_now in
+      let o = opens (within image is) clean in
+      record { retired = outer ++ o.retired; chain = o.chain; linked = linked_behind image is o.retired o.chain o.linked; are = links (within image is) clean o.retired o.chain o.linked }

@@ -15,8 +15,8 @@ use Rattle.chain_model.proofs.Linking.{more_files_link_alike}
 use Rattle.link_rules.specs.Folders.{AllIdle, contents}
 use Rattle.link_rules.specs.Laws.{at_rest_all}
 use Rattle.link_rules.proofs.Lent.{rest_idle}
-use Rattle.vhdx_app.specs.Crashes.{EachImageOpens, HaveNoTornMatch}
-use Rattle.vhdx_app.specs.Folders.{files_of}
+use Rattle.vhdx_app.specs.Crashes.{EachImageOpens, HaveNoTornMatch, IsCleanFolderImage}
+use Rattle.vhdx_app.specs.Folders.{LeadsTo, files_of}
 use Rattle.vhdx_app.proofs.Lent.{seen_image}
 use Rattle.vhdx_app.proofs.Returned.{kept_in_image}
 
@@ -85,3 +85,10 @@ rest_opens folder leaf among retired chain idle linked image is = record {
   linked = more_files_link_alike (files_of folder) (files_in image) leaf retired chain (λ name file had. kept_in_image folder folder name file image idle refl is.left is.whole had) linked;
   agrees = record { sectors = refl; same = λ i apart. refl };
 }
+
+-- where the name leads in each image of it, there it leads
+pub leads_at_rest : (folder : List Held) (leaf : List ℕ) (names : List (List ℕ)) → AllIdle folder → ((image : List NamedBytes) → IsCleanFolderImage folder image → LeadsTo (files_in image) leaf names) → LeadsTo (files_of folder) leaf names
+leads_at_rest folder leaf names idle leads =
+    let o = leads (as_seen folder) (record { left = seen_left folder idle; whole = seen_whole folder idle }) in
+    let linked = more_files_link_alike (files_in (as_seen folder)) (files_of folder) leaf o.retired o.chain (λ name file had. sym (seen_files folder idle name) ∙ had) o.linked in
+    record { retired = o.retired; chain = o.chain; linked = linked; are = o.are }

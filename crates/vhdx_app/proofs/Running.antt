@@ -1,5 +1,5 @@
 -- What a run does, from what its commands do.
-use Rattle.std.proofs.Common.{◌≡◌, ◌≢◌, ◌⊎◌, ℕ, List, Option, Some, None, refl, inl, inr, sym, subst, ◌∙◌}
+use Rattle.std.proofs.Common.{◌≡◌, ◌≢◌, ◌⊎◌, ℕ, Bool, List, Option, Some, None, refl, inl, inr, sym, subst, ◌∙◌}
 use Rattle.std.specs.Prelude.{MatchOption, codes}
 use Rattle.command_line.specs.Requests.{File, Wish, plain}
 use Rattle.command_line.specs.Requests as wish
@@ -16,7 +16,7 @@ use Rattle.link_rules.specs.Touches.{IsOnWay, TouchesSafely}
 use Rattle.link_rules.proofs.Safe.{none_safely}
 use Rattle.vhdx_app.specs.Folders.{IsReplayedIn, OnlyFollows}
 use Rattle.vhdx_app.specs.Printed.{Sent, cut, whole}
-use Rattle.vhdx_app.specs.Runs.{Ends, FollowsFirst, Runs}
+use Rattle.vhdx_app.specs.Runs.{AskMerge, Ends, HasMerge, FollowsFirst, Runs}
 use Rattle.vhdx_app.specs.Worlds.{World, world}
 use Rattle.vhdx_app.specs.declared.status.Status.{Status}
 use Rattle.vhdx_app.specs.declared.status.Status.TheVariants.{Done, Refused, Usage, Fault, NoMemory}
@@ -37,6 +37,16 @@ module _ (words : List (List ℕ)) (told : Option Request) (h : MatchOption told
   pub none_asked : told ≡ None → (w : Wish) → Asks words w → ⊥
   none_asked is = asked_none words told is h
 
+  -- how it ends where a merge may be asked for
+  pub merge_ends : (leaf : List ℕ) (merge : Option (List ℕ)) (read_only : Bool) (request : Request) → told ≡ Some request → plain request ≡ wish.steps leaf merge read_only → (before now : World) (status : Status) → Ends (HasMerge merge) before now status
+      → Ends (AskMerge words) before now status
+  merge_ends leaf merge read_only request is same before now status ends = record {
+    rose = ends.rose;
+    quiet = ends.quiet;
+    home = ends.home;
+    idle = λ fault none. ends.idle fault (λ memory has. none memory (wish.steps leaf merge read_only, subst (Asks words) same (asked words told request is h), has));
+  }
+
 -- ---- the commands
 
 pub follows_first : (leaf : List ℕ) (before now : World) (status : Status) → OnlyFollows leaf before.host.folder now.host.folder → ((status ≡ Done) ⊎ (status ≡ Refused) → IsReplayedIn leaf before.host.folder now.host.folder)
@@ -49,11 +59,11 @@ not_of_source h = elim h [ inl a ↦ inl a | inr c ↦ inr (inr c) ]
 
 module _ (before now : World) (status : Status) (idle : WhereTold before.host.folder AllIdle) (unread : now.source_faults ≡ before.source_faults) where
   pub followed_ends : (leaf : List ℕ) (is_text : Status → List ℕ → Type 0) → Ended is_text before.host.faults now.host.faults before.written now.written before.sink_faults now.sink_faults status → OnlyFollows leaf before.host.folder now.host.folder
-      → (status ≢ Fault → WhereTold before.host.folder (λ folder. WhereTold now.host.folder AllIdle)) → Ends before now status
-  followed_ends leaf is_text ended followed stays_idle = record { rose = λ fault. not_of_source (ended.rose fault); quiet = λ fault. ((ended.quiet fault).0, unread, (ended.quiet fault).1); home = home_followed leaf before.host.folder now.host.folder idle followed; idle = stays_idle }
+      → (status ≢ Fault → WhereTold before.host.folder (λ folder. WhereTold now.host.folder AllIdle)) → {merges : Type 0} → Ends merges before now status
+  followed_ends leaf is_text ended followed stays_idle = record { rose = λ fault. not_of_source (ended.rose fault); quiet = λ fault. ((ended.quiet fault).0, unread, (ended.quiet fault).1); home = home_followed leaf before.host.folder now.host.folder idle followed; idle = λ fault none. stays_idle fault }
 
-  pub made_ends : (name : List ℕ) (file : File) → MakeEnded name file (outside before.host before.drawn) (outside now.host now.drawn) before.written now.written before.sink_faults now.sink_faults status → Ends before now status
-  made_ends name file ended = record { rose = λ fault. not_of_source (ended.ended.rose fault); quiet = λ fault. ((ended.ended.quiet fault).0, unread, (ended.ended.quiet fault).1); home = home_added name file before.host.folder now.host.folder idle ended.others; idle = ended.idle }
+  pub made_ends : (name : List ℕ) (file : File) → MakeEnded name file (outside before.host before.drawn) (outside now.host now.drawn) before.written now.written before.sink_faults now.sink_faults status → {merges : Type 0} → Ends merges before now status
+  made_ends name file ended = record { rose = λ fault. not_of_source (ended.ended.rose fault); quiet = λ fault. ((ended.ended.quiet fault).0, unread, (ended.ended.quiet fault).1); home = home_added name file before.host.folder now.host.folder idle ended.others; idle = λ fault none. ended.idle fault }
 
 -- ---- where nothing is done but that a text is printed
 
@@ -66,21 +76,21 @@ sent_quiet meant before after old new text status (whole is sent same) fault = s
 sent_quiet meant before after old new text status (cut is n sent rose) fault = absurd (fault is)
 
 module _ (host : Hosted) (drawn : Option (List (List ℕ))) (left : Option (List ℕ)) (rises : ℕ) (sunk after : Option (List ℕ)) (old new : ℕ) (status : Status) (idle : WhereTold host.folder AllIdle) where
-  pub sent_ends : (meant : Status) (text : List ℕ) → (meant ≡ Fault → ⊥) → Sent sunk after old new meant text status → Ends (world host drawn left rises sunk old) (world host drawn left rises after new) status
+  pub sent_ends : (meant : Status) (text : List ℕ) → (meant ≡ Fault → ⊥) → Sent sunk after old new meant text status → {merges : Type 0} → Ends merges (world host drawn left rises sunk old) (world host drawn left rises after new) status
   sent_ends meant text none sent = record {
     rose = λ fault. inr (inr (sent_rose meant sunk after old new text status none sent fault));
     quiet = λ fault. (refl, refl, sent_quiet meant sunk after old new text status sent fault);
     home = home_still host.folder host.folder idle refl;
-    idle = λ fault f told. idle;
+    idle = λ fault none f told. idle;
   }
 
   pub no_memory_runs : Sent sunk after old new NoMemory (codes "no memory\n") status → (w : Wish) → Runs w (world host drawn left rises sunk old) (world host drawn left rises after new) status
   no_memory_runs sent (wish.dump leaf first count) = record { printed = record { meant = NoMemory; text = codes "no memory\n"; said = refl; sent = sent }; follows = follows_first leaf _ _ status (follows_none leaf host) (λ shown. absurd (no_memory_shown _ _ _ _ _ _ sent shown)) (none_safely (λ f. IsOnWay (contents f) leaf) host) refl refl }
   no_memory_runs sent (wish.info leaf) = record { printed = record { meant = NoMemory; text = codes "no memory\n"; said = refl; sent = sent }; follows = follows_first leaf _ _ status (follows_none leaf host) (λ shown. absurd (no_memory_shown _ _ _ _ _ _ sent shown)) (none_safely (λ f. IsOnWay (contents f) leaf) host) refl refl }
   no_memory_runs sent (wish.make name file) = record { printed = record { meant = NoMemory; text = codes "no memory\n"; said = refl; sent = sent }; kept = λ done fault. looks_still file host; others = adds_none name file host; moments = still_making name file host; unread = refl }
-  no_memory_runs sent (wish.steps leaf read_only) = unread_runs leaf read_only (world host drawn left rises sunk old) (world host drawn left rises after new) status idle refl refl NoMemory (codes "no memory\n") sent refl (none_taken left)
+  no_memory_runs sent (wish.steps leaf merge read_only) = unread_runs leaf merge read_only (world host drawn left rises sunk old) (world host drawn left rises after new) status idle refl refl NoMemory (codes "no memory\n") sent refl (none_taken left)
   no_memory_runs sent wish.help = record { printed = record { meant = NoMemory; text = codes "no memory\n"; said = refl; sent = sent }; stays = refl }
   no_memory_runs sent wish.version = record { printed = record { meant = NoMemory; text = codes "no memory\n"; said = refl; sent = sent }; stays = refl }
 
-pub usage_ends : (host : Hosted) (drawn : Option (List (List ℕ))) (left : Option (List ℕ)) (rises : ℕ) (sunk : Option (List ℕ)) (old : ℕ) (status : Status) → WhereTold host.folder AllIdle → status ≡ Usage → Ends (world host drawn left rises sunk old) (world host drawn left rises sunk old) status
-usage_ends host drawn left rises sunk old status idle is = record { rose = λ fault. let e : Usage ≡ Fault = sym is ∙ fault in cc; quiet = λ fault. (refl, refl, refl); home = home_still host.folder host.folder idle refl; idle = λ fault f told. idle }
+pub usage_ends : (host : Hosted) (drawn : Option (List (List ℕ))) (left : Option (List ℕ)) (rises : ℕ) (sunk : Option (List ℕ)) (old : ℕ) (status : Status) → WhereTold host.folder AllIdle → status ≡ Usage → {merges : Type 0} → Ends merges (world host drawn left rises sunk old) (world host drawn left rises sunk old) status
+usage_ends host drawn left rises sunk old status idle is = record { rose = λ fault. let e : Usage ≡ Fault = sym is ∙ fault in cc; quiet = λ fault. (refl, refl, refl); home = home_still host.folder host.folder idle refl; idle = λ fault none f told. idle }

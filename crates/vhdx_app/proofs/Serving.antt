@@ -1,6 +1,7 @@
 -- A session over a folder's files: what its store tells is what the folder holds at each moment, and then.
 use Rattle.std.proofs.Common.{◌≡◌, ◌≢◌, ℕ, ◌+◌, ◌≤◌, Bool, true, false, List, [], ◌∷◌, ◌++◌, map, refl, sym, ap, subst, ◌∙◌, arith}
 use Rattle.std.specs.List.{AllByRecursion}
+use Rattle.std.specs.Prelude.{slice_index_or}
 use Rattle.store_model.specs.File.{is_synced, seen}
 use Rattle.store_model.specs.Folder.{Held, attached_trace, given_back, has_name, without}
 use Rattle.store_model.specs.Trace.{NamedBytes, Trace, at_moment, file_of, moment}
@@ -16,19 +17,20 @@ use Rattle.chain_model.specs.Members as model
 use Rattle.chain_model.specs.Sessions.{as_read}
 use Rattle.chain_model.specs.Moments.{EachOpens, EachOpensToPrefix}
 use Rattle.chain_model.proofs.Linking.{one_chain}
-use Rattle.link_rules.specs.Chains.{names_of}
+use Rattle.link_rules.specs.Chains.{is_among, names_of}
 use Rattle.link_rules.specs.Folders.{AllIdle, contents}
 use Rattle.link_rules.specs.Laws.{AreMembers, IsTheChain, at_rest_all}
 use Rattle.link_rules.specs.declared.linked.LinkedFile.{LinkedFile}
+use Rattle.chain_core.specs.Answering.{EachLinks}
 use Rattle.chain_core.specs.Starting.{opening_disk, placed_from as placed}
 use Rattle.vhdx_app.specs.Commands.{AreOpened, placed_from}
 use Rattle.vhdx_app.specs.Crashes.{AreSpared, EachImageOpens, OpensToFirst}
-use Rattle.vhdx_app.specs.Folders.{files_of}
+use Rattle.vhdx_app.specs.Folders.{LeadsTo, files_of}
 use Rattle.vhdx_app.proofs.Back.{placed_are, placed_in}
 use Rattle.vhdx_app.proofs.Followed.{last_in, same_members}
 use Rattle.vhdx_app.proofs.Lent.{each_at, names_attached, names_in, opened_there}
-use Rattle.vhdx_app.proofs.Reopened.{OutOf, images_reopen}
-use Rattle.vhdx_app.proofs.Resting.{opens_at_rest}
+use Rattle.vhdx_app.proofs.Reopened.{OutOf, images_relink, images_reopen}
+use Rattle.vhdx_app.proofs.Resting.{leads_at_rest, opens_at_rest}
 use Rattle.vhdx_app.proofs.Sparing.{are_spared, spared_idle, still_before}
 
 -- ---- names
@@ -96,7 +98,8 @@ module _ (retired : List (List ℕ)) (leaf : LinkedFile) (others : List LinkedFi
   retired_once : NoneTwice (model.names_of chain.retired)
   retired_once = subst NoneTwice (sym chain.names) (first_once_of retired (names_of (leaf ∷ others)) once)
 
-  module _ (trace : Trace) (same : trace.attached ≡ old.attached) (still : (other : ℕ) → other ≢ 0 → file_of trace other ≡ file_of old other) where
+  module _ (changed : List (List ℕ)) (written : ℕ → Bool) (may : (n : ℕ) → written n ≡ true → is_among (slice_index_or (names_of (leaf ∷ others)) n []) changed ≡ true) (trace : Trace) (same : trace.attached ≡ old.attached)
+      (still : (other : ℕ) → written other ≡ false → file_of trace other ≡ file_of old other) where
     abbrev pub rest : List Held
     rest = without names folder
 
@@ -113,18 +116,17 @@ module _ (retired : List (List ℕ)) (leaf : LinkedFile) (others : List LinkedFi
         images_reopen folder names idle names_once there name chain.retired chain.chain chain.linked retired_out retired_once (at_moment k trace) (names_at k) among disk
         (subst (λ n. EachOpens n among disk (at_moment k trace)) (sym first_is) opens)
 
-    pub spared_at : (k : ℕ) → AreSpared leaf.name folder (given_back (at_moment k trace) rest)
-    spared_at k =
-        are_spared leaf.name (names_of others) folder idle names_once there (at_moment k trace) (attached_at k) (λ other apart. still_before other k old trace refl same (still other apart))
+    pub spared_at : (k : ℕ) → AreSpared changed folder (given_back (at_moment k trace) rest)
+    spared_at k = are_spared changed (names_of (leaf ∷ others)) folder idle names_once there written may (at_moment k trace) (attached_at k) (λ other apart. still_before other k old trace refl same (still other apart))
 
     now_at : at_moment (moment trace) trace ≡ trace
     now_at = at_moment-now trace
 
-    pub spared_now : AreSpared leaf.name folder (given_back trace rest)
-    spared_now = subst (λ t. AreSpared leaf.name folder (given_back t rest)) now_at (spared_at (moment trace))
+    pub spared_now : AreSpared changed folder (given_back trace rest)
+    spared_now = subst (λ t. AreSpared changed folder (given_back t rest)) now_at (spared_at (moment trace))
 
-    pub idle_now : is_synced (file_of trace 0) ≡ true → AllIdle (given_back trace rest)
-    idle_now synced = spared_idle leaf.name (names_of others) folder idle names_once there trace same still synced
+    pub idle_now : ((n : ℕ) → written n ≡ true → is_synced (file_of trace n) ≡ true) → AllIdle (given_back trace rest)
+    idle_now synced = spared_idle changed (names_of (leaf ∷ others)) folder idle names_once there written may trace same still synced
 
     -- each moment of the store is one of the folder
     pub first_at : (h : History) (is_broken : ℕ → Bool) → EachOpensToPrefix sector_size (opening_disk old (leaf ∷ others)) h is_broken leaf.name old trace → (disk : Disk) → OpensTo (files_of folder) name disk
@@ -142,10 +144,18 @@ module _ (retired : List (List ℕ)) (leaf : LinkedFile) (others : List LinkedFi
     first_now h is_broken past disk opens = subst (λ t. OpensToFirst name disk h is_broken (given_back t rest)) now_at (first_at h is_broken past disk opens (moment trace) (omega arith))
 
     -- at its end nothing is unsynced, and the folder opens to the disk
-    pub opens_now : (h : History) → is_synced (file_of trace 0) ≡ true → EachOpens leaf.name (λ s. false) (replay sector_size (opening_disk old (leaf ∷ others)) h) trace → (disk : Disk) → OpensTo (files_of folder) name disk
+    pub opens_now : (h : History) → ((n : ℕ) → written n ≡ true → is_synced (file_of trace n) ≡ true) → EachOpens leaf.name (λ s. false) (replay sector_size (opening_disk old (leaf ∷ others)) h) trace → (disk : Disk) → OpensTo (files_of folder) name disk
         → OpensTo (files_of (given_back trace rest)) name (replay sector_size disk h)
     opens_now h synced opens disk is =
         subst (λ d. OpensTo (files_of (given_back trace rest)) name (replay sector_size d h)) (sym (same_disk disk is))
         (opens_at_rest (given_back trace rest) name (replay sector_size (opening_disk old (leaf ∷ others)) h) (idle_now synced)
         (subst (λ t. EachImageOpens name (λ s. false) (replay sector_size (opening_disk old (leaf ∷ others)) h) (given_back t rest)) now_at
         (reopens (moment trace) (λ s. false) (replay sector_size (opening_disk old (leaf ∷ others)) h) (subst (EachOpens leaf.name (λ s. false) (replay sector_size (opening_disk old (leaf ∷ others)) h)) (sym now_at) opens))))
+
+    -- there the name leads to the files to which each image led
+    pub leads_now : (h : History) (files : List (List ℕ)) → ((n : ℕ) → written n ≡ true → is_synced (file_of trace n) ≡ true) → EachOpens leaf.name (λ s. false) (replay sector_size (opening_disk old (leaf ∷ others)) h) trace → EachLinks leaf.name files trace
+        → LeadsTo (files_of (given_back trace rest)) name files
+    leads_now h files synced opens links =
+        leads_at_rest (given_back trace rest) name files (idle_now synced)
+        (images_relink folder names idle names_once there name chain.retired chain.chain chain.linked retired_out retired_once trace (subst (λ t. names_in t.attached ≡ names) now_at (names_at (moment trace))) (λ s. false) (replay sector_size (opening_disk old (leaf ∷ others)) h) files
+        (subst (λ n. EachOpens n (λ s. false) (replay sector_size (opening_disk old (leaf ∷ others)) h) trace) (sym first_is) opens) (subst (λ n. EachLinks n files trace) (sym first_is) links))

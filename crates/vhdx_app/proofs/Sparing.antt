@@ -1,18 +1,22 @@
--- What a session changes of a folder's files: the leaf alone.
-use Rattle.std.proofs.Common.{◌≡◌, ◌≢◌, ℕ, zero, suc, ◌+◌, ◌-◌, ◌<◌, ◌==◌, Bool, true, false, cond, List, [], ◌∷◌, map, drop, Option, Some, refl, sym, ap, subst, ◌∙◌, arith}
+-- What a session changes of a folder's files: those that it may.
+use Rattle.std.proofs.Common.{◌≡◌, ℕ, zero, suc, ◌+◌, ◌-◌, ◌==◌, Bool, true, false, cond, List, [], ◌∷◌, map, drop, Some, refl, sym, ap, subst, ◌∙◌, arith}
+use Rattle.std.specs.Prelude.{option_map, slice_index_or, unwrap_or}
 use Rattle.std.specs.List.{AllByRecursion}
 use Rattle.std.specs.Str.{bytes_eq}
-use Rattle.store_model.specs.File.{File, Op, is_synced}
-use Rattle.store_model.specs.Folder.{Held, attached_trace, back_from, given_back, has_name, seen_named, with_file, without}
+use Rattle.store_model.specs.File.{File, Op, is_synced, seen}
+use Rattle.store_model.specs.Folder.{Held, attached_trace, back_from, file_named, fresh, given_back, has_name, seen_named, with_file, without}
 use Rattle.store_model.specs.Trace.{Change, NamedBytes, Trace, at_moment, bytes_of, file_of, moment, ops_of}
 use Rattle.store_model.proofs.Throughout.{attached-at_moment}
+use Rattle.chain_model.specs.Images.{name_of}
 use Rattle.chain_model.specs.Members.{NoneTwice}
+use Rattle.link_rules.specs.Chains.{is_among}
 use Rattle.link_rules.specs.Folders.{AllIdle}
+use Rattle.link_rules.proofs.Lent.{can_attach}
 use Rattle.vhdx_app.specs.Commands.{AreAnew, IsAnew}
 use Rattle.vhdx_app.specs.Commands as anew
 use Rattle.vhdx_app.specs.Crashes.{AreSpared, IsSpared}
 use Rattle.vhdx_app.specs.Crashes as spared
-use Rattle.vhdx_app.proofs.Lent.{among_all, anew_idle, apart, back_anew, back_over, commute, each_at, names_attached, names_in, same_anew, same_name}
+use Rattle.vhdx_app.proofs.Lent.{AreAt, back_over, each_at, names_attached, names_in, same_name}
 
 -- ---- a file that isn't changed in the end wasn't before
 
@@ -35,91 +39,132 @@ still_before other k old now none same still =
 pub attached_since : (old now : Trace) → at_moment (moment old) now ≡ old → now.attached ≡ old.attached
 attached_since old now since = sym (attached-at_moment (moment old) now) ∙ ap (λ (t : Trace). t.attached) since
 
--- ---- what comes back of it
+-- ---- folders in which others are spared
 
--- another file under a name that none of these has
-back_with : (name : List ℕ) (x : Option File) (i : ℕ) (files : List NamedBytes) (trace : Trace) (now : List Held) → AllByRecursion (λ other. other ≢ name) (names_in files)
-    → back_from i files trace (with_file name x now) ≡ with_file name x (back_from i files trace now)
-unfolding names_in
-back_with name x i [] trace now others = refl
-back_with name x i (f ∷ files) trace now others =
-    ap (back_from (i + 1) files trace) (commute f.name name (Some (file_of trace i)) x now (apart f.name name others.0)) ∙ back_with name x (i + 1) files trace (with_file f.name (Some (file_of trace i)) now) others.1
+one_spared : (names changed : List (List ℕ)) (held later : Held) → IsAnew names held later → IsSpared changed held later
+one_spared names changed held _ anew.untouched = spared.untouched
+one_spared names changed held _ (anew.attached file among there) = spared.attached file there
 
-back_alike : (old trace : Trace) → ((other : ℕ) → other ≢ 0 → file_of trace other ≡ file_of old other) → (i : ℕ) → 0 < i → (files : List NamedBytes) (now : List Held) → back_from i files trace now ≡ back_from i files old now
-back_alike old trace still i some [] now = refl
-back_alike old trace still i some (f ∷ files) now =
-    ap (λ x. back_from (i + 1) files trace (with_file f.name (Some x) now)) (still i (omega (arith, some))) ∙ back_alike old trace still (i + 1) (omega (arith, some)) files (with_file f.name (Some (file_of old i)) now)
+pub anew_spared : (names changed : List (List ℕ)) (folder now : List Held) → AreAnew names folder now → AreSpared changed folder now
+anew_spared names changed [] [] h = tt
+anew_spared names changed [] (later ∷ now) h = absurd h
+anew_spared names changed (held ∷ folder) [] h = absurd h
+anew_spared names changed (held ∷ folder) (later ∷ now) h = (one_spared names changed held later h.0, anew_spared names changed folder now h.1)
 
-one_spared : (names : List (List ℕ)) (leaf : List ℕ) (held later : Held) → IsAnew names held later → IsSpared leaf held later
-one_spared names leaf held _ anew.untouched = spared.untouched
-one_spared names leaf held _ (anew.attached file among there) = spared.attached file there
+pub still_spared : (changed : List (List ℕ)) (folder : List Held) → AreSpared changed folder folder
+still_spared changed [] = tt
+still_spared changed (held ∷ folder) = (spared.untouched, still_spared changed folder)
 
-pub anew_spared : (names : List (List ℕ)) (leaf : List ℕ) (folder now : List Held) → AreAnew names folder now → AreSpared leaf folder now
-anew_spared names leaf [] [] h = tt
-anew_spared names leaf [] (later ∷ now) h = absurd h
-anew_spared names leaf (held ∷ folder) [] h = absurd h
-anew_spared names leaf (held ∷ folder) (later ∷ now) h = (one_spared names leaf held later h.0, anew_spared names leaf folder now h.1)
+later_name : (changed : List (List ℕ)) (held later : Held) → IsSpared changed held later → later.name ≡ held.name
+later_name changed held _ (spared.may_change file among) = refl
+later_name changed held _ spared.untouched = refl
+later_name changed held _ (spared.attached file had) = refl
 
-leaf_changed : (names : List (List ℕ)) (leaf : List ℕ) (file : File) (folder now : List Held) → AreAnew names folder now → AreSpared leaf folder (with_file leaf (Some file) now)
-leaf_changed names leaf file [] [] h = tt
-leaf_changed names leaf file [] (later ∷ now) h = absurd h
-leaf_changed names leaf file (held ∷ folder) [] h = absurd h
-leaf_changed names leaf file (held ∷ folder) (later ∷ now) h = by_name (bytes_eq later.name leaf) refl (leaf_changed names leaf file folder now h.1)
-  where
-    by_held : (later : Held) → IsAnew names held later → bytes_eq later.name leaf ≡ true → IsSpared leaf held (record later { file = Some file })
-    by_held _ anew.untouched e = spared.is_leaf file (same_name held.name leaf e)
-    by_held _ (anew.attached other among there) e = spared.is_leaf file (same_name held.name leaf e)
+-- one more of those that may be changed
+module _ (changed : List (List ℕ)) (name : List ℕ) (among : is_among name changed ≡ true) (file : File) where
+  changed_again : (held later : Held) → bytes_eq held.name name ≡ true → IsSpared changed held later → IsSpared changed held (record later { file = Some file })
+  changed_again held _ e (spared.may_change other known) = spared.may_change file known
+  changed_again held _ e spared.untouched = spared.may_change file (ap (λ n. is_among n changed) (same_name held.name name e) ∙ among)
+  changed_again held _ e (spared.attached other had) = spared.may_change file (ap (λ n. is_among n changed) (same_name held.name name e) ∙ among)
 
-    by_name : (p : Bool) → bytes_eq later.name leaf ≡ p → AreSpared leaf folder (with_file leaf (Some file) now) → AreSpared leaf (held ∷ folder) (with_file leaf (Some file) (later ∷ now))
+  one_changed : (folder now : List Held) → AreSpared changed folder now → AreSpared changed folder (with_file name (Some file) now)
+  one_changed [] [] h = tt
+  one_changed [] (later ∷ now) h = absurd h
+  one_changed (held ∷ folder) [] h = absurd h
+  one_changed (held ∷ folder) (later ∷ now) h = by_name (bytes_eq later.name name) refl (one_changed folder now h.1) where
+    by_name : (p : Bool) → bytes_eq later.name name ≡ p → AreSpared changed folder (with_file name (Some file) now) → AreSpared changed (held ∷ folder) (with_file name (Some file) (later ∷ now))
     by_name true e rest =
-        subst (λ p. AreSpared leaf (held ∷ folder) (cond p (record later { file = Some file } ∷ now) (later ∷ with_file leaf (Some file) now))) (sym e) (by_held later h.0 e, anew_spared names leaf folder now h.1)
-    by_name false e rest =
-        subst (λ p. AreSpared leaf (held ∷ folder) (cond p (record later { file = Some file } ∷ now) (later ∷ with_file leaf (Some file) now))) (sym e) (one_spared names leaf held later h.0, rest)
+        subst (λ p. AreSpared changed (held ∷ folder) (cond p (record later { file = Some file } ∷ now) (later ∷ with_file name (Some file) now))) (sym e)
+        (changed_again held later (ap (λ n. bytes_eq n name) (sym (later_name changed held later h.0)) ∙ e) h.0, h.1)
+    by_name false e rest = subst (λ p. AreSpared changed (held ∷ folder) (cond p (record later { file = Some file } ∷ now) (later ∷ with_file name (Some file) now))) (sym e) (h.0, rest)
 
-one_idle : (leaf : List ℕ) (file : File) (now : List Held) → is_synced file ≡ true → AllIdle now → AllIdle (with_file leaf (Some file) now)
-one_idle leaf file [] synced idle = idle
-one_idle leaf file (held ∷ now) synced idle = by_name (bytes_eq held.name leaf) refl (one_idle leaf file now synced (λ k d h. idle (suc k) d (omega (arith, h)))) where
-  by_name : (p : Bool) → bytes_eq held.name leaf ≡ p → AllIdle (with_file leaf (Some file) now) → AllIdle (with_file leaf (Some file) (held ∷ now))
-  by_name true e rest = subst (λ p. AllIdle (cond p (record held { file = Some file } ∷ now) (held ∷ with_file leaf (Some file) now))) (sym e) (by_place (record held { file = Some file }) now (file, refl, synced) (λ k d h. idle (suc k) d (omega (arith, h))))
+-- one more of those that were attached, and not changed
+module _ (changed : List (List ℕ)) (name : List ℕ) where
+  kept_again : (held later : Held) (file : File) → held.file ≡ Some file → IsSpared changed held later → IsSpared changed held (record later { file = Some (fresh (seen file)) })
+  kept_again held _ file had (spared.may_change other known) = spared.attached file had
+  kept_again held _ file had spared.untouched = spared.attached file had
+  kept_again held _ file had (spared.attached other known) = spared.attached file had
+
+  one_kept : (folder now : List Held) (file : File) → file_named name folder ≡ Some file → AreSpared changed folder now → AreSpared changed folder (with_file name (Some (fresh (seen file))) now)
+  one_kept [] [] file had h = tt
+  one_kept [] (later ∷ now) file had h = absurd h
+  one_kept (held ∷ folder) [] file had h = absurd h
+  one_kept (held ∷ folder) (later ∷ now) file had h = by_name (bytes_eq held.name name) refl (one_kept folder now file) where
+    eq_later : bytes_eq later.name name ≡ bytes_eq held.name name
+    eq_later = ap (λ n. bytes_eq n name) (later_name changed held later h.0)
+
+    by_name : (p : Bool) → bytes_eq held.name name ≡ p → (file_named name folder ≡ Some file → AreSpared changed folder now → AreSpared changed folder (with_file name (Some (fresh (seen file))) now))
+        → AreSpared changed (held ∷ folder) (with_file name (Some (fresh (seen file))) (later ∷ now))
+    by_name true e further =
+        subst (λ p. AreSpared changed (held ∷ folder) (cond p (record later { file = Some (fresh (seen file)) } ∷ now) (later ∷ with_file name (Some (fresh (seen file))) now))) (sym (eq_later ∙ e))
+        (kept_again held later file (sym (ap (λ c. cond c held.file (file_named name folder)) e) ∙ had) h.0, h.1)
+    by_name false e further =
+        subst (λ p. AreSpared changed (held ∷ folder) (cond p (record later { file = Some (fresh (seen file)) } ∷ now) (later ∷ with_file name (Some (fresh (seen file))) now))) (sym (eq_later ∙ e))
+        (h.0, further (sym (ap (λ c. cond c held.file (file_named name folder)) e) ∙ had) h.1)
+
+-- ---- and at rest
+
+one_idle : (name : List ℕ) (file : File) (now : List Held) → is_synced file ≡ true → AllIdle now → AllIdle (with_file name (Some file) now)
+one_idle name file [] synced idle = idle
+one_idle name file (held ∷ now) synced idle = by_name (bytes_eq held.name name) refl (one_idle name file now synced (λ k d h. idle (suc k) d (omega (arith, h)))) where
+  by_name : (p : Bool) → bytes_eq held.name name ≡ p → AllIdle (with_file name (Some file) now) → AllIdle (with_file name (Some file) (held ∷ now))
+  by_name true e rest = subst (λ p. AllIdle (cond p (record held { file = Some file } ∷ now) (held ∷ with_file name (Some file) now))) (sym e) (by_place (record held { file = Some file }) now (file, refl, synced) (λ k d h. idle (suc k) d (omega (arith, h))))
     where
       by_place : (first : Held) (others : List Held) → ((f : File) × (first.file ≡ Some f) × (is_synced f ≡ true)) → AllIdle others → AllIdle (first ∷ others)
       by_place first others own rest zero d h = own
       by_place first others own rest (suc k) d h = rest k d (omega (arith, h))
-  by_name false e rest = subst (λ p. AllIdle (cond p (record held { file = Some file } ∷ now) (held ∷ with_file leaf (Some file) now))) (sym e) (by_place rest)
+  by_name false e rest = subst (λ p. AllIdle (cond p (record held { file = Some file } ∷ now) (held ∷ with_file name (Some file) now))) (sym e) (by_place rest)
     where
-      by_place : AllIdle (with_file leaf (Some file) now) → AllIdle (held ∷ with_file leaf (Some file) now)
+      by_place : AllIdle (with_file name (Some file) now) → AllIdle (held ∷ with_file name (Some file) now)
       by_place rest zero d h = idle zero d (omega arith)
       by_place rest (suc k) d h = rest k d (omega (arith, h))
 
--- a store of which only the first file was changed
-module _ (leaf : List ℕ) (names : List (List ℕ)) (folder : List Held) (idle : AllIdle folder) (once : NoneTwice (leaf ∷ names)) (there : AllByRecursion (λ name. has_name name folder ≡ true) (leaf ∷ names))
-    (trace : Trace) (same : trace.attached ≡ (attached_trace (leaf ∷ names) folder).attached) (still : (other : ℕ) → other ≢ 0 → file_of trace other ≡ file_of (attached_trace (leaf ∷ names) folder) other) where
-  old : Trace
-  old = attached_trace (leaf ∷ names) folder
+-- ---- a store of which only some files were changed, by their numbers
 
-  -- the others come back anew
-  rest : List Held
-  rest = back_from 1 (map (λ name. record { name = name; bytes = seen_named name folder }) names) old folder
+module _ (changed names : List (List ℕ)) (folder : List Held) (idle : AllIdle folder) (once : NoneTwice names) (there : AllByRecursion (λ name. has_name name folder ≡ true) names) (written : ℕ → Bool)
+    (may : (n : ℕ) → written n ≡ true → is_among (slice_index_or names n []) changed ≡ true) (trace : Trace) (same : trace.attached ≡ (attached_trace names folder).attached)
+    (still : (other : ℕ) → written other ≡ false → file_of trace other ≡ file_of (attached_trace names folder) other) where
+  abbrev old : Trace
+  old = attached_trace names folder
 
-  rest_anew : AreAnew (leaf ∷ names) folder rest
-  unfolding rest old
-  rest_anew = back_anew (leaf ∷ names) folder idle 1 names folder (among_all (leaf ∷ names)).1 there.1 (each_at (attached_trace (leaf ∷ names) folder).attached).1 (same_anew (leaf ∷ names) folder)
+  fresh_at : (number : ℕ) → file_of old number ≡ fresh (bytes_of old.attached number)
+  unfolding file_of
+  fresh_at number = refl
 
-  -- the folder with the leaf over them
-  now_is : given_back trace (without (leaf ∷ names) folder) ≡ with_file leaf (Some (file_of trace 0)) rest
-  unfolding rest old names_in
+  may_attached : (n : ℕ) → written n ≡ true → is_among (name_of old.attached n) changed ≡ true
+  may_attached n e = ap (λ ns. is_among (slice_index_or ns n []) changed) (names_attached names folder) ∙ may n e
+
+  abbrev files_from : List (List ℕ) → List NamedBytes
+  files_from rest = map (λ name. record { name = name; bytes = seen_named name folder }) rest
+
+  back_spared : (i : ℕ) (rest : List (List ℕ)) (now : List Held) → AllByRecursion (λ name. has_name name folder ≡ true) rest → AreAt old.attached i (files_from rest) → AreSpared changed folder now
+      → AreSpared changed folder (back_from i (files_from rest) trace now)
+  back_spared i [] now rest_there at h = h
+  back_spared i (name ∷ rest) now rest_there at h = back_spared (i + 1) rest (with_file name (Some (file_of trace i)) now) rest_there.1 at.1 (by_written (written i) refl) where
+    by_written : (p : Bool) → written i ≡ p → AreSpared changed folder (with_file name (Some (file_of trace i)) now)
+    by_written true e = one_changed changed name (sym (ap (λ n. is_among n changed) at.0.name) ∙ may_attached i e) (file_of trace i) folder now h
+    by_written false e =
+        let c = can_attach name folder idle rest_there.0 in
+        let is : file_of trace i ≡ fresh (seen c.0) = still i e ∙ fresh_at i ∙ ap fresh (at.0.bytes ∙ ap (λ o. unwrap_or (option_map seen o) []) c.1) in
+        subst (λ f. AreSpared changed folder (with_file name (Some f) now)) (sym is) (one_kept changed name folder now c.0 c.1 h)
+
+  back_idle : ((n : ℕ) → written n ≡ true → is_synced (file_of trace n) ≡ true) → (i : ℕ) (rest : List (List ℕ)) (now : List Held) → AllIdle now → AllIdle (back_from i (files_from rest) trace now)
+  back_idle synced i [] now h = h
+  back_idle synced i (name ∷ rest) now h = back_idle synced (i + 1) rest (with_file name (Some (file_of trace i)) now) (one_idle name (file_of trace i) now (by_written (written i) refl) h) where
+    by_written : (p : Bool) → written i ≡ p → is_synced (file_of trace i) ≡ true
+    by_written true e = synced i e
+    by_written false e = ap is_synced (still i e ∙ fresh_at i)
+
+  -- the folder with the files over it
+  now_is : given_back trace (without names folder) ≡ back_from 0 (files_from names) trace folder
+  unfolding names_in
   now_is =
-      let list = attached_trace (leaf ∷ names) folder in
-      let some : 0 < 1 = omega arith in
-      let others = map (λ name. record { name = name; bytes = seen_named name folder }) names in
-      ap (λ files. back_from 0 files trace (without (leaf ∷ names) folder)) same
-      ∙ ap (λ ns. back_from 0 list.attached trace (without ns folder)) (sym (names_attached (leaf ∷ names) folder))
-      ∙ back_over 0 list.attached trace folder (subst NoneTwice (sym (names_attached (leaf ∷ names) folder)) once)
-      ∙ back_alike list trace still 1 some others (with_file leaf (Some (file_of trace 0)) folder)
-      ∙ back_with leaf (Some (file_of trace 0)) 1 others list folder (subst (AllByRecursion (λ other. other ≢ leaf)) (sym (names_attached names folder)) once.0)
+      ap (λ files. back_from 0 files trace (without names folder)) same
+      ∙ ap (λ ns. back_from 0 (files_from names) trace (without ns folder)) (sym (names_attached names folder))
+      ∙ back_over 0 (files_from names) trace folder (subst NoneTwice (sym (names_attached names folder)) once)
 
-  pub are_spared : AreSpared leaf folder (given_back trace (without (leaf ∷ names) folder))
-  are_spared = subst (AreSpared leaf folder) (sym now_is) (leaf_changed (leaf ∷ names) leaf (file_of trace 0) folder rest rest_anew)
+  pub are_spared : AreSpared changed folder (given_back trace (without names folder))
+  are_spared = subst (AreSpared changed folder) (sym now_is) (back_spared 0 names folder there (each_at old.attached) (still_spared changed folder))
 
-  pub spared_idle : is_synced (file_of trace 0) ≡ true → AllIdle (given_back trace (without (leaf ∷ names) folder))
-  spared_idle synced = subst AllIdle (sym now_is) (one_idle leaf (file_of trace 0) rest synced (anew_idle (leaf ∷ names) folder rest rest_anew idle))
+  pub spared_idle : ((n : ℕ) → written n ≡ true → is_synced (file_of trace n) ≡ true) → AllIdle (given_back trace (without names folder))
+  spared_idle synced = subst AllIdle (sym now_is) (back_idle synced 0 names folder idle)

@@ -19,9 +19,9 @@ use Rattle.script_session.specs.declared.session.ScriptRun.{ScriptRun}
 use Rattle.vhdx_app.specs.Answers.{fault_line}
 use Rattle.vhdx_app.specs.Folders.{OnlyFollows}
 use Rattle.vhdx_app.specs.Printed.{Sent, cut, whole}
-use Rattle.vhdx_app.specs.Runs.{Ends}
+use Rattle.vhdx_app.specs.Runs.{Ends, HasMerge}
 use Rattle.vhdx_app.specs.Sessions.{LeafIsRun, source_said}
-use Rattle.vhdx_app.specs.Steps.{DrawsFor, DrawsForLeaf, IsRunOf, IsStepsText, IsTranscript, IsUnopenedText, Ran, RefusesSession, RunsOver, RunsSteps, RunsUnopened, SparesOthers, drive_over}
+use Rattle.vhdx_app.specs.Steps.{IsUnopenedText, RunsSteps}
 use Rattle.vhdx_app.specs.Steps as steps
 use Rattle.vhdx_app.specs.Worlds.{World}
 use Rattle.vhdx_app.specs.declared.refusal.StepsRefusal.{StepsRefusal}
@@ -32,17 +32,17 @@ use Rattle.vhdx_app.proofs.Left.{follows_none}
 
 -- ---- how a run ends, by the text that was meant
 
-pub ends_by : (before now : World) (meant status : Status) (text : List ℕ) → Sent before.written now.written before.sink_faults now.sink_faults meant text status
+pub ends_by : (merges : Type 0) (before now : World) (meant status : Status) (text : List ℕ) → Sent before.written now.written before.sink_faults now.sink_faults meant text status
     → (meant ≡ Fault → Rose before.host.faults now.host.faults ⊎ Rose before.source_faults now.source_faults)
     → (meant ≢ Fault → (now.host.faults ≡ before.host.faults) × (now.source_faults ≡ before.source_faults))
-    → StaysHome before.host.folder now.host.folder → (status ≢ Fault → WhereTold before.host.folder (λ f. WhereTold now.host.folder AllIdle)) → Ends before now status
-ends_by before now meant status text (whole is sent same) rose quiet home idle = record {
+    → StaysHome before.host.folder now.host.folder → (status ≢ Fault → (status ≡ NoMemory → ¬ merges) → WhereTold before.host.folder (λ f. WhereTold now.host.folder AllIdle)) → Ends merges before now status
+ends_by merges before now meant status text (whole is sent same) rose quiet home idle = record {
   rose = λ fault. elim (rose (sym is ∙ fault)) [ inl h ↦ inl h | inr s ↦ inr (inl s) ];
   quiet = λ fault. let q = quiet (λ e. fault (is ∙ e)) in (q.0, q.1, same);
   home = home;
   idle = idle;
 }
-ends_by before now meant status text (cut is n sent rise) rose quiet home idle = record {
+ends_by merges before now meant status text (cut is n sent rise) rose quiet home idle = record {
   rose = λ fault. inr (inr rise);
   quiet = λ fault. absurd (fault is);
   home = home;
@@ -68,7 +68,7 @@ none_taken left bytes told = (0, told)
 
 -- ---- no script, or none that can be read
 
-module _ (leaf : List ℕ) (ro : Bool) (before now : World) (status : Status) (idle : WhereTold before.host.folder AllIdle) (same : now.host ≡ before.host) (undrawn : now.drawn ≡ before.drawn) where
+module _ (leaf : List ℕ) (merge : Option (List ℕ)) (ro : Bool) (before now : World) (status : Status) (idle : WhereTold before.host.folder AllIdle) (same : now.host ≡ before.host) (undrawn : now.drawn ≡ before.drawn) where
   stays : OnlyFollows leaf before.host.folder now.host.folder
   stays = subst (λ (h : Hosted). OnlyFollows leaf before.host.folder h.folder) (sym same) (follows_none leaf before.host)
 
@@ -85,31 +85,33 @@ module _ (leaf : List ℕ) (ro : Bool) (before now : World) (status : Status) (i
   faults = ap (λ (h : Hosted). h.faults) same
 
   pub unread_runs : (meant : Status) (text : List ℕ) → Sent before.written now.written before.sink_faults now.sink_faults meant text status → IsUnopenedText leaf before now meant text
-      → WhereTold before.left (λ bytes. IsPartTaken bytes now.left) → RunsSteps leaf ro before now status
+      → WhereTold before.left (λ bytes. IsPartTaken bytes now.left) → RunsSteps leaf merge ro before now status
   unread_runs meant text sent said taken =
       steps.unopened taken (record { printed = record { meant = meant; text = text; said = said; sent = sent }; followed = stays; moments = safely; undrawn = undrawn })
 
   pub unread_ends : (meant : Status) (text : List ℕ) → Sent before.written now.written before.sink_faults now.sink_faults meant text status → (meant ≡ Fault → Rose before.source_faults now.source_faults)
-      → (meant ≢ Fault → now.source_faults ≡ before.source_faults) → Ends before now status
-  unread_ends meant text sent rose quiet = ends_by before now meant status text sent (λ fault. inr (rose fault)) (λ fault. (faults, quiet fault)) home idles
+      → (meant ≢ Fault → now.source_faults ≡ before.source_faults) → Ends (HasMerge merge) before now status
+  unread_ends meant text sent rose quiet = ends_by (HasMerge merge) before now meant status text sent (λ fault. inr (rose fault)) (λ fault. (faults, quiet fault)) home (λ fault none. idles fault)
 
   -- by what refuses the script
   pub refused_runs : (r : SourceRefusal) → (let result : Result (List Line) SourceRefusal = Err r in IfSome before.left (λ bytes. ReadsScript kinds.Steps bytes result)) → (let result : Result (List Line) SourceRefusal = Err r in IfSome before.left (λ bytes. LeavesOf bytes now.left result))
       → (let result : Result (List Line) SourceRefusal = Err r in CountsFault before.source_faults now.source_faults result) → Sent before.written now.written before.sink_faults now.sink_faults (source_said r).0 (source_said r).1 status
-      → RunsSteps leaf ro before now status
+      → RunsSteps leaf merge ro before now status
   refused_runs (source.Line number) reads left counts sent = unread_runs Usage (steps.broken_line number) sent (record { number = number; text_is = refl; first = where_some _ before.left reads }) (λ bytes told. part_taken bytes now.left (where_some _ before.left left bytes told))
   refused_runs (source.Source fault) reads left counts sent =
       unread_runs Fault (fault_line (codes "source") fault.count) sent (steps.of_source counts.0 (ap (fault_line (codes "source")) counts.1)) (where_some _ before.left left)
   refused_runs source.NoRoom reads left counts sent = unread_runs NoMemory (codes "no memory\n") sent refl (where_some _ before.left left)
 
   pub refused_ends : (r : SourceRefusal) → (let result : Result (List Line) SourceRefusal = Err r in CountsFault before.source_faults now.source_faults result)
-      → Sent before.written now.written before.sink_faults now.sink_faults (source_said r).0 (source_said r).1 status → Ends before now status
+      → Sent before.written now.written before.sink_faults now.sink_faults (source_said r).0 (source_said r).1 status → Ends (HasMerge merge) before now status
   refused_ends (source.Line number) counts sent = unread_ends Usage (steps.broken_line number) sent (λ e. cc) (λ e. counts)
   refused_ends (source.Source fault) counts sent = unread_ends Fault (fault_line (codes "source") fault.count) sent (λ e. counts.0) (λ e. absurd (e refl))
   refused_ends source.NoRoom counts sent = unread_ends NoMemory (codes "no memory\n") sent (λ e. cc) (λ e. counts)
 
 -- a run of the leaf's name, by what its arguments are
-pub leaf_told : (named leaf : List ℕ) (mode m : Mode) (lines script : List Line) (old new : Hosted) (before now : Option (List (List ℕ))) (result : Result ScriptRun StepsRefusal) → named ≡ leaf → mode ≡ m → lines ≡ script
-    → LeafIsRun named mode lines old new before now result → LeafIsRun leaf m script old new before now result
-leaf_told named leaf mode m lines script old new before now result a b c h =
-    subst (λ n. LeafIsRun n m script old new before now result) a (subst (λ x. LeafIsRun named x script old new before now result) b (subst (λ ls. LeafIsRun named mode ls old new before now result) c h))
+pub leaf_told : (named leaf : List ℕ) (merges merge : Option (List ℕ)) (mode m : Mode) (lines script : List Line) (old new : Hosted) (before now : Option (List (List ℕ))) (result : Result ScriptRun StepsRefusal) → named ≡ leaf → merges ≡ merge → mode ≡ m
+    → lines ≡ script → LeafIsRun named mode merges lines old new before now result → LeafIsRun leaf m merge script old new before now result
+leaf_told named leaf merges merge mode m lines script old new before now result a b c d h =
+    subst (λ n. LeafIsRun n m merge script old new before now result) a
+    (subst (λ x. LeafIsRun named x merge script old new before now result) c
+    (subst (λ k. LeafIsRun named mode k script old new before now result) b (subst (λ ls. LeafIsRun named mode merges ls old new before now result) d h)))

@@ -1,5 +1,5 @@
 -- What a crash may leave of a folder while a session goes on, and what that is opened to.
-use Rattle.std.specs.Prelude.{◌≡◌, ◌≤◌, ◌||◌, ⊤, ℕ, Bool, List, [], ◌∷◌, length, take, Some}
+use Rattle.std.specs.Prelude.{◌≡◌, ◌≤◌, ⊤, ℕ, Bool, true, List, [], ◌∷◌, length, take, Some}
 use Rattle.store_model.specs.File.{File, seen}
 use Rattle.store_model.specs.Folder.{Held, IsFolderImage, fresh}
 use Rattle.store_model.specs.Trace.{NamedBytes}
@@ -8,6 +8,7 @@ use Rattle.guest_model.specs.Calls.{Disk}
 use Rattle.guest_model.specs.History.{History, replay}
 use Rattle.chain_model.specs.Files.{OpensWithin, files_in}
 use Rattle.chain_model.specs.Moments.{is_open}
+use Rattle.link_rules.specs.Chains.{is_among}
 use Rattle.vhdx_format.specs.Fields.{sector_size}
 
 -- in no file of an image nothing that a crash tore passes for whole
@@ -33,15 +34,15 @@ pub record OpensToFirst (leaf : List ℕ) (opening : Disk) (h : History) (is_bro
   pub within : m ≤ length h
   pub opens : EachImageOpens leaf (λ s. is_open sector_size h is_broken m s) (replay sector_size opening (take m h)) folder
 
--- A file while a session goes on: only the leaf is written; any other holds what it held, nothing of it being unsynced.
-pub data IsSpared (leaf : List ℕ) (held : Held) : Held → Type 0 where
-  is_leaf : (file : File) → held.name ≡ leaf → IsSpared leaf held (record held { file = Some file })
-  untouched : IsSpared leaf held held
-  attached : (file : File) → held.file ≡ Some file → IsSpared leaf held (record held { file = Some (fresh (seen file)) })
+-- A file while a session goes on: those of some names may be changed; any other holds what it held, nothing of it being unsynced.
+pub data IsSpared (changed : List (List ℕ)) (held : Held) : Held → Type 0 where
+  may_change : (file : File) → is_among held.name changed ≡ true → IsSpared changed held (record held { file = Some file })
+  untouched : IsSpared changed held held
+  attached : (file : File) → held.file ≡ Some file → IsSpared changed held (record held { file = Some (fresh (seen file)) })
 
 -- so it is with each file of a folder
-abbrev pub AreSpared : List ℕ → List Held → List Held → Type 0
-AreSpared leaf [] [] = ⊤
-AreSpared leaf [] (later ∷ now) = ⊥
-AreSpared leaf (held ∷ folder) [] = ⊥
-AreSpared leaf (held ∷ folder) (later ∷ now) = IsSpared leaf held later × AreSpared leaf folder now
+abbrev pub AreSpared : List (List ℕ) → List Held → List Held → Type 0
+AreSpared changed [] [] = ⊤
+AreSpared changed [] (later ∷ now) = ⊥
+AreSpared changed (held ∷ folder) [] = ⊥
+AreSpared changed (held ∷ folder) (later ∷ now) = IsSpared changed held later × AreSpared changed folder now

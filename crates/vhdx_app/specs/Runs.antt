@@ -1,7 +1,7 @@
 -- What a run does, by what the words ask for.
-use Rattle.std.specs.Prelude.{◌≡◌, ◌≢◌, ◌⊎◌, ℕ, List, codes}
+use Rattle.std.specs.Prelude.{◌≡◌, ◌≢◌, ◌⊎◌, ⊤, ℕ, List, Option, Some, None, codes}
 use Rattle.command_line.specs.Requests.{File as NewFile, Wish, dump, help, info, make, steps, version}
-use Rattle.command_line.specs.Words.{help_text, version_text}
+use Rattle.command_line.specs.Words.{Asks, help_text, version_text}
 use Rattle.make_file.specs.Makes.{Outside, outside}
 use Rattle.store_model.specs.Cause.{Rose}
 use Rattle.store_model.specs.Disk.{WhereTold}
@@ -54,7 +54,7 @@ abbrev pub Runs : Wish → World → World → Status → Type 0
 Runs (dump leaf first count) before now status = RunsShowing leaf (IsDumpText before.host now.host leaf first count) before now status
 Runs (info leaf) before now status = RunsShowing leaf (IsInfoText before.host now.host leaf) before now status
 Runs (make name file) before now status = RunsMake name file before now status
-Runs (steps leaf read_only) before now status = RunsSteps leaf read_only before now status
+Runs (steps leaf merge read_only) before now status = RunsSteps leaf merge read_only before now status
 Runs help before now status = RunsText help_text before now status
 Runs version before now status = RunsText version_text before now status
 
@@ -64,12 +64,24 @@ pub data RunsNothing (before now : World) (status : Status) : Type 0 where
   no_memory : OnlyPrints before now → Sent before.written now.written before.sink_faults now.sink_faults NoMemory (codes "no memory\n") status
       → RunsNothing before now status
 
+-- a merge is asked for
+abbrev pub HasMerge : Option (List ℕ) → Type 0
+HasMerge None = ⊥
+HasMerge (Some name) = ⊤
+
+abbrev pub IsMerging : Wish → Type 0
+IsMerging (steps leaf merge read_only) = HasMerge merge
+IsMerging other = ⊥
+
+abbrev pub AskMerge : List (List ℕ) → Type 0
+AskMerge words = (wish : Wish) × Asks words wish × IsMerging wish
+
 -- However it ends: a fault is answered only where a count rose, the host's, the source's or the sink's, and none is passed over. No file is
--- away, and nothing of any is unsynced but after a fault.
-pub record Ends (before now : World) (status : Status) : Type 0 where
+-- away, and nothing of any is unsynced but after a fault, and where memory ran out and a merge was to start.
+pub record Ends (merges : Type 0) (before now : World) (status : Status) : Type 0 where
   pub rose : status ≡ Fault
       → Rose before.host.faults now.host.faults ⊎ (Rose before.source_faults now.source_faults ⊎ Rose before.sink_faults now.sink_faults)
   pub quiet : status ≢ Fault
       → (now.host.faults ≡ before.host.faults) × (now.source_faults ≡ before.source_faults) × (now.sink_faults ≡ before.sink_faults)
   pub home : WhereTold before.host.folder (λ folder. WhereTold now.host.folder AllHome)
-  pub idle : status ≢ Fault → WhereTold before.host.folder (λ folder. WhereTold now.host.folder AllIdle)
+  pub idle : status ≢ Fault → (status ≡ NoMemory → ¬ merges) → WhereTold before.host.folder (λ folder. WhereTold now.host.folder AllIdle)

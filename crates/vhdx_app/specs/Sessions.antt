@@ -1,5 +1,5 @@
 -- What the functions of `steps` say of themselves; what a run promises doesn't rest on these.
-use Rattle.std.specs.Prelude.{◌≡◌, ◌≢◌, ◌⊎◌, ⊤, ◌<◌, ◌+◌, ◌++◌, ℕ, length, Bool, true, false, List, [], ◌∷◌, take, codes, Option, Some, None, Result, Ok, Err, IfErr, IfOk, IfSome, OnOk, String, string_bytes}
+use Rattle.std.specs.Prelude.{◌≡◌, ◌≢◌, ◌⊎◌, ⊤, ◌<◌, ◌+◌, ◌++◌, ℕ, length, Bool, true, false, List, [], ◌∷◌, take, codes, Option, Some, None, Result, Ok, Err, IfErr, IfOk, IfSome, OnOk, String, string_bytes, slice_index_or}
 use Rattle.file_open.specs.Causes.{Meaning, refuses, host_failed, store_failed, no_memory}
 use Rattle.make_file.specs.Identifiers.{Draws, first_unfit}
 use Rattle.store_model.specs.Cause.{Rose}
@@ -8,6 +8,8 @@ use Rattle.store_model.specs.File.{is_sealed, is_synced, seen}
 use Rattle.store_model.specs.Folder.{Held, Hosted}
 use Rattle.store_model.specs.Moments.{LastReturnedCounts, Throughout}
 use Rattle.store_model.specs.Trace.{Trace, file_of}
+use Rattle.store_model.specs.declared.fault.SealFault.{SealFault}
+use Rattle.store_model.specs.declared.fault.SealFault.TheVariants as seal
 use Rattle.store_model.specs.declared.fault.StoreFault.{StoreFault}
 use Rattle.vhdx_format.specs.Fields.{sector_size}
 use Rattle.vx_base.specs.declared.NoRoom.{NoRoom}
@@ -22,13 +24,21 @@ use Rattle.link_rules.specs.Effects.{HasReplayed, LeavesBy, StaysIdle, linked_na
 use Rattle.link_rules.specs.Causes as link
 use Rattle.link_rules.specs.Folders.{ReturnsHealthy, contents}
 use Rattle.link_rules.specs.Laws.{IsTheChain}
-use Rattle.link_rules.specs.Lines.{BeginsWith, IsLinkedUp}
+use Rattle.link_rules.specs.Lines.{IsLinkedUp}
 use Rattle.link_rules.specs.Touches.{IsOnWay, TouchesSafely}
 use Rattle.link_rules.specs.declared.linked.Linked.{Linked}
 use Rattle.link_rules.specs.declared.linked.LinkedFile.{LinkedFile}
 use Rattle.link_rules.specs.declared.refusal.LinkRefusal.{LinkRefusal}
 use Rattle.merge_plan.specs.Attached.{BeginsInUse}
-use Rattle.merge_plan.specs.Drawing.{drawn_ids}
+use Rattle.merge_plan.specs.Drawing.{drawn_ids, merge_ids}
+use Rattle.merge_plan.specs.Merging.{AreOf, HasFirst, HasLast, HasNone, MergeFiles}
+use Rattle.merge_plan.specs.Planning.{AreShort, IsBegun, IsTooLong}
+use Rattle.merge_plan.specs.declared.drawing.MergeIds.{MergeIds}
+use Rattle.merge_plan.specs.declared.refusal.PrepareRefusal.{PrepareRefusal}
+use Rattle.merge_plan.specs.declared.refusal.PrepareRefusal.TheVariants as plan
+use Rattle.chain_core.specs.MergeStarting.{RefusesMerge, spent}
+use Rattle.chain_core.specs.declared.merge_start.MergeStartRefusal.{MergeStartRefusal}
+use Rattle.chain_core.specs.declared.merge_start.MergeStartRefusal.TheVariants as merge_start
 use Rattle.chain_core.specs.Starting.{BeginsHigh, EachOpensAlike, JudgesIds}
 use Rattle.chain_core.specs.declared.starting.Mode.{Mode}
 use Rattle.chain_core.specs.declared.starting.Mode.TheVariants.{Guests, ReadOnly}
@@ -39,20 +49,23 @@ use Rattle.script.specs.declared.form.Line.{Line}
 use Rattle.script.specs.declared.refusal.SourceRefusal.{SourceRefusal}
 use Rattle.script.specs.declared.refusal.SourceRefusal.TheVariants as source
 use Rattle.script_session.specs.Faults.{Counts}
-use Rattle.script_session.specs.Histories.{AreTold, Break}
-use Rattle.script_session.specs.Running.{open_by}
+use Rattle.script_session.specs.Histories.{AreTold, Break, Course, no_merge}
+use Rattle.script_session.specs.MergeRunning.{HasRunMerge}
+use Rattle.script_session.specs.Running.{HasRunScript, open_by}
 use Rattle.script_session.specs.Told.{Told, last_fault, transcript}
 use Rattle.script_session.specs.declared.session.ScriptRun.{ScriptRun}
 use Rattle.vhdx_app.specs.Answers.{fault_line}
-use Rattle.vhdx_app.specs.Causes.{meaning_of_chain}
+use Rattle.vhdx_app.specs.Causes.{LeavesStoreBy, meaning_of_chain}
 use Rattle.vhdx_app.specs.Commands.{AreOpened, Reports}
 use Rattle.vhdx_app.specs.Crashes.{AreSpared, OpensToFirst}
-use Rattle.vhdx_app.specs.Folders.{AllHome, files_of}
+use Rattle.vhdx_app.specs.Folders.{AllHome, LeadsTo, files_of}
 use Rattle.vhdx_app.specs.Making.{ShowIds}
 use Rattle.vhdx_app.specs.Printed.{Sent}
 use Rattle.vhdx_app.specs.Refusals.{Refusal}
 use Rattle.vhdx_app.specs.Refusals as refusals
-use Rattle.vhdx_app.specs.Steps.{broken_line, drive_over}
+use Rattle.vhdx_app.specs.Starts.{HasRoomIn, IsFullIn, changed_names, child_pairs, source_pairs}
+use Rattle.vhdx_app.specs.Steps.{begun_course, broken_line, drive_over, left_names}
+use Rattle.vhdx_app.specs.declared.refusal.ChainRefusal.{ChainRefusal}
 use Rattle.vhdx_app.specs.declared.refusal.ChainRefusal.TheVariants as chain
 use Rattle.vhdx_app.specs.declared.refusal.StepsRefusal.{StepsRefusal}
 use Rattle.vhdx_app.specs.declared.refusal.StepsRefusal.TheVariants as steps
@@ -67,11 +80,28 @@ abbrev pub is_reading : Mode → Bool
 is_reading Guests = false
 is_reading ReadOnly = true
 
+-- files that are only read aren't merged
+abbrev pub CanMerge : Mode → Option (List ℕ) → Type 0
+CanMerge Guests merge = ⊤
+CanMerge ReadOnly None = ⊤
+CanMerge ReadOnly (Some name) = ⊥
+
+abbrev pub IsBarredMerge : Mode → Option (List ℕ) → Type 0
+IsBarredMerge Guests merge = ⊥
+IsBarredMerge ReadOnly None = ⊥
+IsBarredMerge ReadOnly (Some name) = ⊤
+
 -- what it says that a script wasn't run
 abbrev pub meaning_of_steps : StepsRefusal → Meaning Refusal
 meaning_of_steps (steps.Chain refusal) = meaning_of_chain refusal
 meaning_of_steps (steps.Spent number) = refuses (refusals.Spent number)
 meaning_of_steps (steps.IdUnfit id) = refuses (refusals.IdUnfit id)
+meaning_of_steps steps.ReadOnly = refuses refusals.ReadOnly
+meaning_of_steps (steps.NotInChain name) = refuses (refusals.NotInChain name)
+meaning_of_steps (steps.IsBase name) = refuses (refusals.IsBase name)
+meaning_of_steps (steps.LeafSource name) = refuses (refusals.LeafSource name)
+meaning_of_steps (steps.LocatorTooLarge len) = refuses (refusals.LocatorTooLarge len)
+meaning_of_steps (steps.MetadataFull file) = refuses (refusals.MetadataFull file)
 
 -- why a session doesn't start, as why a script isn't run
 abbrev pub of_start : StartRefusal → StepsRefusal
@@ -79,6 +109,52 @@ of_start (start.Spent number) = steps.Spent number
 of_start (start.IdUnfit id) = steps.IdUnfit id
 of_start (start.Store fault) = steps.Chain (chain.Store fault)
 of_start start.NoRoom = steps.Chain chain.NoRoom
+
+-- why a merge of the file of this name, in a chain of files of these names, isn't planned, as why a script isn't run
+abbrev pub of_plan : List (List ℕ) → List ℕ → PrepareRefusal → StepsRefusal
+of_plan names source plan.NotInChain = steps.NotInChain source
+of_plan names source plan.IsBase = steps.IsBase source
+of_plan names source plan.LeafSource = steps.LeafSource source
+of_plan names source (plan.LocatorTooLarge len) = steps.LocatorTooLarge len
+of_plan names source (plan.MetadataFull file) = steps.MetadataFull (slice_index_or names file [])
+of_plan names source (plan.IdUnfit id) = steps.IdUnfit id
+of_plan names source (plan.Store fault) = steps.Chain (chain.Store fault)
+of_plan names source plan.NoRoom = steps.Chain chain.NoRoom
+
+abbrev pub of_begin : SealFault → StepsRefusal
+of_begin (seal.Store fault) = steps.Chain (chain.Store fault)
+of_begin seal.NoRoom = steps.Chain chain.NoRoom
+
+-- and why a session with it doesn't start
+abbrev pub of_merge_start : List (List ℕ) → List ℕ → MergeStartRefusal → StepsRefusal
+of_merge_start names source (merge_start.Spent number) = steps.Spent number
+of_merge_start names source (merge_start.Plan refusal) = of_plan names source refusal
+of_merge_start names source (merge_start.Begin fault) = of_begin fault
+
+-- it tells the name of a file
+abbrev pub PlanNamesFile : PrepareRefusal → Type 0
+PlanNamesFile plan.NotInChain = ⊤
+PlanNamesFile plan.IsBase = ⊤
+PlanNamesFile plan.LeafSource = ⊤
+PlanNamesFile (plan.LocatorTooLarge len) = ⊥
+PlanNamesFile (plan.MetadataFull file) = ⊤
+PlanNamesFile (plan.IdUnfit id) = ⊥
+PlanNamesFile (plan.Store fault) = ⊥
+PlanNamesFile plan.NoRoom = ⊥
+
+-- a file of which it tells is one of so many
+abbrev pub PlanHasFile : ℕ → PrepareRefusal → Type 0
+PlanHasFile count (plan.MetadataFull file) = file < count
+PlanHasFile count other = ⊤
+
+abbrev pub StartHasFile : ℕ → MergeStartRefusal → Type 0
+StartHasFile count (merge_start.Plan refusal) = PlanHasFile count refusal
+StartHasFile count other = ⊤
+
+-- so it is told; or memory ran out for a name
+pub data IsMergeRefusal (names : List (List ℕ)) (source : List ℕ) : MergeStartRefusal → StepsRefusal → Type 0 where
+  is_told : (start : MergeStartRefusal) (refusal : StepsRefusal) → refusal ≡ of_merge_start names source start → IsMergeRefusal names source start refusal
+  no_name : (why : PrepareRefusal) (refusal : StepsRefusal) → PlanNamesFile why → refusal ≡ steps.Chain chain.NoRoom → IsMergeRefusal names source (merge_start.Plan why) refusal
 
 -- ---- over a store
 
@@ -118,6 +194,12 @@ abbrev pub HasCause : List LinkedFile → Disk → Option (List (List ℕ)) → 
 HasCause files disk before now (steps.Chain refusal) = IsNoRule (meaning_of_chain refusal)
 HasCause files disk before now (steps.Spent number) = BeginsHigh files number × (now ≡ before)
 HasCause files disk before now (steps.IdUnfit id) = (ids : NewIds) × JudgesIds files disk before now (Some id) ids
+HasCause files disk before now steps.ReadOnly = ⊥
+HasCause files disk before now (steps.NotInChain name) = ⊥
+HasCause files disk before now (steps.IsBase name) = ⊥
+HasCause files disk before now (steps.LeafSource name) = ⊥
+HasCause files disk before now (steps.LocatorTooLarge len) = ⊥
+HasCause files disk before now (steps.MetadataFull file) = ⊥
 
 -- A script wasn't run: whatever was changed of the leaf, the files open to the disk that they had.
 pub record HasNotRun (mode : Mode) (files : List LinkedFile) (old new : Disk) (before now : Option (List (List ℕ))) (refusal : StepsRefusal) : Type 0 where
@@ -126,6 +208,21 @@ pub record HasNotRun (mode : Mode) (files : List LinkedFile) (old new : Disk) (b
   pub kept : (new.told ≡ old.told) ⊎ EachOpensAlike files old.told new.told
   pub still : WhereBothTold (λ trace now. (other : ℕ) → other ≢ 0 → file_of now other ≡ file_of trace other) old.told new.told
   pub reading : is_reading mode ≡ true → (new.told ≡ old.told) × (now ≡ before)
+
+-- A script wasn't run in a session with a merge: the files' lengths weren't read, or the session didn't start.
+pub data HasNotMerged (files : List LinkedFile) (name : List ℕ) (old new : Disk) (before now : Option (List (List ℕ))) : StepsRefusal → Type 0 where
+  unread : (refusal : ChainRefusal) → LeavesStoreBy old new (meaning_of_chain refusal) → now ≡ before → HasNotMerged files name old new before now (steps.Chain refusal)
+  not_started : (start : MergeStartRefusal) (refusal : StepsRefusal) → RefusesMerge files name old new before now start → EachOpensAlike files old.told new.told → IsMergeRefusal (names_of files) name start refusal
+      → HasNotMerged files name old new before now refusal
+
+-- with a merge of the file of this name, if there is one
+abbrev pub HasNotRunWith : Mode → Option (List ℕ) → List LinkedFile → Disk → Disk → Option (List (List ℕ)) → Option (List (List ℕ)) → StepsRefusal → Type 0
+HasNotRunWith mode None files old new before now refusal = HasNotRun mode files old new before now refusal
+HasNotRunWith mode (Some name) files old new before now refusal = HasNotMerged files name old new before now refusal
+
+abbrev pub HasRunWith : Mode → Option (List ℕ) → List LinkedFile → List (List ℕ) → List Line → ScriptRun → Disk → Disk → Option (List (List ℕ)) → Option (List (List ℕ)) → Type 0
+HasRunWith mode None files names lines run old new before now = HasRunScript mode files names lines run old new before now
+HasRunWith mode (Some name) files names lines run old new before now = HasRunMerge files name names lines run old new before now
 
 -- ---- over a folder
 
@@ -158,14 +255,28 @@ pub record JudgesDrawn (linked : Linked) (folder : Option (List Held)) (before n
   pub shown : WhereTold folder (λ f. ShowIds (contents f) linked.files known)
   pub judged : first_unfit known (drawn_ids ids) ≡ unfit
 
+-- A merge of the file of this name is planned over the chain, and of the identifiers that were drawn for it this one is the first that is
+-- unfit, or none is.
+pub record JudgesMergeIn (linked : Linked) (name : List ℕ) (folder : Option (List Held)) (before now : Option (List (List ℕ))) (unfit : Option (List ℕ)) : Type 0 where
+  pub m : MergeFiles
+  pub ids : MergeIds
+  pub unspent : spent linked.files name ≡ None
+  pub begun : IsBegun linked.files name before now m ids
+  pub short : AreShort m ids
+  pub source : WhereTold folder (λ f. HasRoomIn (contents f) m.source (source_pairs m ids))
+  pub child : WhereTold folder (λ f. HasRoomIn (contents f) m.child (child_pairs m ids))
+  pub known : List (List ℕ)
+  pub shown : WhereTold folder (λ f. ShowIds (contents f) linked.files known)
+  pub judged : first_unfit known (merge_ids ids) ≡ unfit
+
 -- the leaf's name is opened to this disk
 abbrev pub OpensIn : Linked → List Held → (GuestDisk → Type 0) → Type 0
 OpensIn linked folder P = (disk : GuestDisk) → OpensTo (files_of folder) (leaf_name linked) disk → P disk
 
 -- What stands of the folder since the chain was opened, with a history of calls that were done.
-pub record Stands (mode : Mode) (linked : Linked) (h : History) (broken : Option Break) (folder : List Held) (old new : Hosted) : Type 0 where
+pub record Stands (mode : Mode) (merge : Option (List ℕ)) (linked : Linked) (h : History) (broken : Option Break) (folder : List Held) (old new : Hosted) : Type 0 where
   pub moments : OpensIn linked folder (λ disk. Throughout (OpensToFirst (leaf_name linked) disk h (open_by broken)) old new)
-  pub spared : (file : LinkedFile) → BeginsWith file linked.files → Throughout (AreSpared file.name folder) old new
+  pub spared : Throughout (AreSpared (changed_names merge linked.files) folder) old new
   pub unchanged : is_reading mode ≡ true → WhereTold new.folder (λ after. (name : List ℕ) → contents after name ≡ contents folder name)
   pub home : WhereTold new.folder AllHome
 
@@ -174,29 +285,37 @@ pub record Rests (linked : Linked) (h : History) (folder : List Held) (old new :
   pub idle : StaysIdle old.folder new.folder
   pub opens : OpensIn linked folder (λ disk. WhereTold new.folder (λ after. OpensTo (files_of after) (leaf_name linked) (replay sector_size disk h)))
 
--- lines were told so over the folder
-pub record RanIn (mode : Mode) (linked : Linked) (lines : List Line) (told : List Told) (closed : Result (Unit {0}) StoreFault) (folder : List Held) (old new : Hosted) : Type 0 where
-  pub history : History
-  pub broken : Option Break
-  pub told_so : OpensIn linked folder (λ disk. AreTold (drive_over (is_reading mode) disk) 1 [] None lines told history broken)
-  pub stands : Stands mode linked history broken folder old new
-  pub rests : OnOk closed (Rests linked history folder old new)
+-- the file of this name is dropped from the chain by a merge
+abbrev pub IsDroppedIn : Linked → List ℕ → Hosted → Type 0
+IsDroppedIn linked name now = (m : MergeFiles) × AreOf linked.files name m × WhereTold now.folder (λ after. LeadsTo (files_of after) (leaf_name linked) (left_names m))
 
-abbrev pub DrawsOver : Mode → Linked → Option (List Held) → Option (List (List ℕ)) → Option (List (List ℕ)) → Type 0
-DrawsOver Guests linked folder before now = JudgesDrawn linked folder before now None
-DrawsOver ReadOnly linked folder before now = now ≡ before
+-- lines were told so over the folder
+pub record RanIn (mode : Mode) (merge : Option (List ℕ)) (linked : Linked) (lines : List Line) (told : List Told) (closed : Result (Unit {0}) StoreFault) (folder : List Held) (old new : Hosted) : Type 0 where
+  pub history : History
+  pub course : Course
+  pub broken : Option Break
+  pub told_so : OpensIn linked folder (λ disk. AreTold (drive_over (is_reading mode) disk) 1 [] (begun_course merge) None lines told history course broken)
+  pub stands : Stands mode merge linked history broken folder old new
+  pub rests : OnOk closed (Rests linked history folder old new)
+  pub dropped : OnOk closed (course ≡ no_merge → IfSome merge (λ name. IsDroppedIn linked name new))
+
+abbrev pub DrawsOver : Mode → Option (List ℕ) → Linked → Option (List Held) → Option (List (List ℕ)) → Option (List (List ℕ)) → Type 0
+DrawsOver Guests None linked folder before now = JudgesDrawn linked folder before now None
+DrawsOver ReadOnly None linked folder before now = now ≡ before
+DrawsOver Guests (Some name) linked folder before now = JudgesMergeIn linked name folder before now None
+DrawsOver ReadOnly (Some name) linked folder before now = ⊥
 
 -- A script ran over the chain.
-pub record RunOver (mode : Mode) (linked : Linked) (lines : List Line) (run : ScriptRun) (old new : Hosted) (before now : Option (List (List ℕ))) : Type 0 where
+pub record RunOver (mode : Mode) (merge : Option (List ℕ)) (linked : Linked) (lines : List Line) (run : ScriptRun) (old new : Hosted) (before now : Option (List (List ℕ))) : Type 0 where
   pub many : ℕ
   pub told : List Told
   pub whole : IfOk run.transcript (λ text. (take many lines ≡ lines) × (string_bytes text ≡ transcript (names_of linked.files) lines told))
   pub fault_is : run.fault ≡ last_fault told
-  pub drawn : DrawsOver mode linked old.folder before now
+  pub drawn : DrawsOver mode merge linked old.folder before now
   pub counted : IfSome run.fault (IsCounted old new)
   pub ended : IfErr run.closed (IsCounted old new)
   pub quiet : run.fault ≡ None → OnOk run.closed (new.faults ≡ old.faults)
-  pub ran : WhereTold old.folder (λ folder. RanIn mode linked (take many lines) told run.closed folder old new)
+  pub ran : WhereTold old.folder (λ folder. RanIn mode merge linked (take many lines) told run.closed folder old new)
 
 -- how the host's count goes with why a script wasn't run
 abbrev pub CountsRefusal : {R : Type 0} → Hosted → Hosted → Meaning R → Type 0
@@ -212,18 +331,80 @@ UnlessStore (host_failed fault) P = P
 UnlessStore (store_failed fault) P = ⊤
 UnlessStore no_memory P = P
 
-abbrev pub HasCauseIn : Linked → Option (List Held) → Option (List (List ℕ)) → Option (List (List ℕ)) → StepsRefusal → Type 0
-HasCauseIn linked folder before now (steps.Chain refusal) = IsNoRule (meaning_of_chain refusal)
-HasCauseIn linked folder before now (steps.Spent number) = BeginsHigh linked.files number × (now ≡ before)
-HasCauseIn linked folder before now (steps.IdUnfit id) = JudgesDrawn linked folder before now (Some id)
+-- what refuses a session without a merge
+abbrev pub HasLeafCause : Linked → Option (List Held) → Option (List (List ℕ)) → Option (List (List ℕ)) → StepsRefusal → Type 0
+HasLeafCause linked folder before now (steps.Chain refusal) = IsNoRule (meaning_of_chain refusal)
+HasLeafCause linked folder before now (steps.Spent number) = BeginsHigh linked.files number × (now ≡ before)
+HasLeafCause linked folder before now (steps.IdUnfit id) = JudgesDrawn linked folder before now (Some id)
+HasLeafCause linked folder before now steps.ReadOnly = ⊥
+HasLeafCause linked folder before now (steps.NotInChain name) = ⊥
+HasLeafCause linked folder before now (steps.IsBase name) = ⊥
+HasLeafCause linked folder before now (steps.LeafSource name) = ⊥
+HasLeafCause linked folder before now (steps.LocatorTooLarge len) = ⊥
+HasLeafCause linked folder before now (steps.MetadataFull file) = ⊥
+
+-- with a merge, whose files and identifiers these are
+pub record BeginsMergeIn (linked : Linked) (name : List ℕ) (before now : Option (List (List ℕ))) (m : MergeFiles) (ids : MergeIds) : Type 0 where
+  pub unspent : spent linked.files name ≡ None
+  pub begun : IsBegun linked.files name before now m ids
+
+-- the file of this name can't be merged, and nothing was drawn
+pub record CantMerge (linked : Linked) (name named : List ℕ) (is_so : List LinkedFile → List ℕ → Type 0) (before now : Option (List (List ℕ))) : Type 0 where
+  pub same : named ≡ name
+  pub unspent : spent linked.files name ≡ None
+  pub so : is_so linked.files name
+  pub undrawn : now ≡ before
+
+abbrev pub HasMergeCause : Linked → List ℕ → Option (List Held) → Option (List (List ℕ)) → Option (List (List ℕ)) → StepsRefusal → Type 0
+HasMergeCause linked name folder before now (steps.Chain refusal) = IsNoRule (meaning_of_chain refusal)
+HasMergeCause linked name folder before now (steps.Spent number) = (spent linked.files name ≡ Some number) × (now ≡ before)
+HasMergeCause linked name folder before now (steps.IdUnfit id) = JudgesMergeIn linked name folder before now (Some id)
+HasMergeCause linked name folder before now steps.ReadOnly = ⊥
+HasMergeCause linked name folder before now (steps.NotInChain other) = CantMerge linked name other HasNone before now
+HasMergeCause linked name folder before now (steps.IsBase other) = CantMerge linked name other HasLast before now
+HasMergeCause linked name folder before now (steps.LeafSource other) = CantMerge linked name other HasFirst before now
+HasMergeCause linked name folder before now (steps.LocatorTooLarge len) = (m : MergeFiles) × (ids : MergeIds) × BeginsMergeIn linked name before now m ids × IsTooLong len m ids
+HasMergeCause linked name folder before now (steps.MetadataFull file) =
+    (m : MergeFiles) × (ids : MergeIds) × BeginsMergeIn linked name before now m ids × AreShort m ids × WhereTold folder (λ f. IsFullIn (contents f) m ids file)
+
+-- a merge where files are only read is refused for that alone
+abbrev pub IsBarred : Option (List (List ℕ)) → Option (List (List ℕ)) → StepsRefusal → Type 0
+IsBarred before now (steps.Chain refusal) = IsNoRule (meaning_of_chain refusal)
+IsBarred before now steps.ReadOnly = now ≡ before
+IsBarred before now other = ⊥
+
+abbrev pub HasCauseIn : Mode → Option (List ℕ) → Linked → Option (List Held) → Option (List (List ℕ)) → Option (List (List ℕ)) → StepsRefusal → Type 0
+HasCauseIn mode None linked folder before now refusal = HasLeafCause linked folder before now refusal
+HasCauseIn Guests (Some name) linked folder before now refusal = HasMergeCause linked name folder before now refusal
+HasCauseIn ReadOnly (Some name) linked folder before now refusal = IsBarred before now refusal
+
+-- P, but where memory ran out and a merge was to start
+abbrev pub UnlessMerging : {R : Type 0} → Option (List ℕ) → Meaning R → Type 0 → Type 0
+UnlessMerging None meaning P = P
+UnlessMerging (Some name) (refuses refusal) P = P
+UnlessMerging (Some name) (host_failed fault) P = P
+UnlessMerging (Some name) (store_failed fault) P = P
+UnlessMerging (Some name) no_memory P = ⊤
+
+-- P, where a rule refuses it
+abbrev pub IfRule : {R : Type 0} → Meaning R → Type 0 → Type 0
+IfRule (refuses refusal) P = P
+IfRule (host_failed fault) P = ⊤
+IfRule (store_failed fault) P = ⊤
+IfRule no_memory P = ⊤
+
+-- the files hold what they held
+abbrev pub StaysAsItWas : Option (List Held) → Option (List Held) → Type 0
+StaysAsItWas old new = WhereTold old (λ folder. WhereTold new (λ after. (name : List ℕ) → contents after name ≡ contents folder name))
 
 -- A script wasn't run over the chain.
-pub record NotRunOver (mode : Mode) (linked : Linked) (old new : Hosted) (before now : Option (List (List ℕ))) (refusal : StepsRefusal) : Type 0 where
+pub record NotRunOver (mode : Mode) (merge : Option (List ℕ)) (linked : Linked) (old new : Hosted) (before now : Option (List (List ℕ))) (refusal : StepsRefusal) : Type 0 where
   pub counts : CountsRefusal old new (meaning_of_steps refusal)
-  pub cause : HasCauseIn linked old.folder before now refusal
+  pub cause : HasCauseIn mode merge linked old.folder before now refusal
   pub undrawn : is_reading mode ≡ true → now ≡ before
-  pub stands : WhereTold old.folder (λ folder. Stands mode linked [] None folder old new)
-  pub rests : UnlessStore (meaning_of_steps refusal) (WhereTold old.folder (λ folder. Rests linked [] folder old new))
+  pub unchanged : IfRule (meaning_of_steps refusal) (StaysAsItWas old.folder new.folder)
+  pub stands : WhereTold old.folder (λ folder. Stands mode merge linked [] None folder old new)
+  pub rests : UnlessStore (meaning_of_steps refusal) (UnlessMerging merge (meaning_of_steps refusal) (WhereTold old.folder (λ folder. Rests linked [] folder old new)))
 
 -- ---- a leaf's name
 
@@ -241,12 +422,12 @@ pub record IsNotFollowed (leaf : List ℕ) (refusal : LinkRefusal) (old new : Ho
   pub left : LeavesBy old new (link.meaning_of refusal)
 
 -- A script was run over the chain to which a leaf's name leads, or it wasn't.
-pub data LeafIsRun (leaf : List ℕ) (mode : Mode) (lines : List Line) (old new : Hosted) (before now : Option (List (List ℕ))) (result : Result ScriptRun StepsRefusal) : Type 0 where
-  no_room : result ≡ Err (steps.Chain chain.NoRoom) → new ≡ old → now ≡ before → LeafIsRun leaf mode lines old new before now result
+pub data LeafIsRun (leaf : List ℕ) (mode : Mode) (merge : Option (List ℕ)) (lines : List Line) (old new : Hosted) (before now : Option (List (List ℕ))) (result : Result ScriptRun StepsRefusal) : Type 0 where
+  no_room : result ≡ Err (steps.Chain chain.NoRoom) → new ≡ old → now ≡ before → LeafIsRun leaf mode merge lines old new before now result
   unlinked : (refusal : LinkRefusal) → result ≡ Err (steps.Chain (chain.Unlinked refusal)) → IsNotFollowed leaf refusal old new → now ≡ before
-      → LeafIsRun leaf mode lines old new before now result
-  over : (mid : Hosted) (linked : Linked) → IsFollowedTo leaf linked old mid → IfOk result (λ run. RunOver mode linked lines run mid new before now)
-      → IfErr result (NotRunOver mode linked mid new before now) → LeafIsRun leaf mode lines old new before now result
+      → LeafIsRun leaf mode merge lines old new before now result
+  over : (mid : Hosted) (linked : Linked) → IsFollowedTo leaf linked old mid → IfOk result (λ run. RunOver mode merge linked lines run mid new before now)
+      → IfErr result (NotRunOver mode merge linked mid new before now) → LeafIsRun leaf mode merge lines old new before now result
 
 -- ---- what is printed
 

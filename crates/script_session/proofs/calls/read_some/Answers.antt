@@ -1,8 +1,4 @@
 use Rattle.std.proofs.Common.{refl, rules}
-use Rattle.guest_model.specs.declared.call.Call.TheVariants as calls
-use Rattle.guest_model.specs.declared.call.Reply.TheVariants as replies
-use Rattle.chain_core.specs.Sessions.{seen}
-use Rattle.script_session.specs.Answers.{Answers}
 use Rattle.script_session.proofs.Seen.{read_answers}
 use Rattle.script_session.proofs.calls.read_some.Goals as goal
 

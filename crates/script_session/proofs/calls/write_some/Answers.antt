@@ -1,5 +1,3 @@
-use Rattle.std.proofs.Common.{ap, rules, ◌∙◌}
-use Rattle.std.specs.Prelude.{replicate}
 use Rattle.script_session.proofs.Seen.{filled_front, write_answers}
 use Rattle.script_session.proofs.calls.write_some.Goals as goal
 

@@ -1,4 +1,4 @@
-use Rattle.script_session.proofs.Telling.{lines_told}
+use Rattle.script_session.proofs.LinesTold.{lines_told}
 use Rattle.script_session.proofs.laws.lines_tell_history.Goals as goal
 
 pub returns : goal.returns

@@ -1,10 +1,11 @@
 use Rattle.std.proofs.Common.{Some, ap, refl, ◌∙◌}
+use Rattle.std.specs.Prelude.{option_map}
 use Rattle.command_line.specs.Words.{help_text, version_text}
 use Rattle.command_line.specs.declared.request.Request.TheVariants.{Dump, Info, Make, Help, Steps, Version}
 use Rattle.vhdx_app.specs.Runs.{no_memory}
 use Rattle.vhdx_app.specs.Worlds.{World, world}
 use Rattle.vhdx_app.specs.declared.status.Status.TheVariants.{Done, NoMemory}
-use Rattle.vhdx_app.proofs.Running.{made_ends, no_memory_runs, followed_ends, follows_first, runs_for, sent_ends, usage_ends}
+use Rattle.vhdx_app.proofs.Running.{made_ends, no_memory_runs, followed_ends, follows_first, merge_ends, runs_for, sent_ends, usage_ends}
 use Rattle.vhdx_app.proofs.Said.{text_sent}
 use Rattle.vhdx_app.proofs.program.run_alone.Goals as goal
 
@@ -81,4 +82,10 @@ returns-in-Err-clause-ends g c = sent_ends _ _ _ _ _ _ _ _ _ c.requires NoMemory
 
 pub returns-in-Ok-Some-Steps-clause-asked : goal.returns-in-Ok-Some-Steps-clause-asked
 returns-in-Ok-Some-Steps-clause-asked g c =
-    runs_for _ _ c.in-Ok-Some-Steps.ensures (Steps c.in-Ok-Some-Steps.leaf c.in-Ok-Some-Steps.read_only) (c.in-Ok-Some-Steps.field-0-is ∙ ap Some c.in-Ok-Some-Steps.field-0-0-is) _ _ _ c.steps.ensures.runs
+    let s = c.in-Ok-Some-Steps in
+    runs_for _ _ s.ensures (Steps s.leaf s.merge s.read_only) (s.field-0-is ∙ ap Some s.field-0-0-is) _ _ _ c.steps.ensures.runs
+
+pub returns-in-Ok-Some-Steps-clause-ends : goal.returns-in-Ok-Some-Steps-clause-ends
+returns-in-Ok-Some-Steps-clause-ends g c =
+    let s = c.in-Ok-Some-Steps in
+    merge_ends _ _ s.ensures s.leaf.now (option_map (λ s. s.now) s.merge) s.read_only (Steps s.leaf s.merge s.read_only) (s.field-0-is ∙ ap Some s.field-0-0-is) refl _ _ _ c.steps.ensures.ends

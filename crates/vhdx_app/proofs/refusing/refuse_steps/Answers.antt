@@ -1,12 +1,43 @@
+use Rattle.std.proofs.Common.{inl}
+use Rattle.vhdx_app.specs.Refusals.{IsBase, LeafSource, MetadataFull, NotInChain}
 use Rattle.vhdx_app.specs.Sessions.{meaning_of_steps}
 use Rattle.vhdx_app.specs.declared.refusal.StepsRefusal.TheVariants as steps
 use Rattle.vhdx_app.specs.declared.status.Status.TheVariants.{Refused}
+use Rattle.vhdx_app.proofs.RuleSaid.{named_said}
 use Rattle.vhdx_app.proofs.Said.{refusal_sent, reports_for}
 use Rattle.vhdx_app.proofs.refusing.refuse_steps.Goals as goal
+
+pub returns-in-ReadOnly : goal.returns-in-ReadOnly
+returns-in-ReadOnly g c = reports_for meaning_of_steps _ _ _ _ _ c.args.refusal steps.ReadOnly c.in-ReadOnly.is (inl c.deliver.ensures)
 
 pub returns-in-Spent : goal.returns-in-Spent
 returns-in-Spent g c =
     reports_for meaning_of_steps _ _ _ _ _ c.args.refusal (steps.Spent c.in-Spent.number) c.in-Spent.is (refusal_sent _ _ _ _ Refused _ _ c.spent_line.result c.spent_line.ensures c.say.ensures)
+
+pub returns-in-NotInChain : goal.returns-in-NotInChain
+returns-in-NotInChain g c =
+    reports_for meaning_of_steps _ _ _ _ _ c.args.refusal (steps.NotInChain c.in-NotInChain.name) c.in-NotInChain.is
+    (named_said _ _ _ _ _ c.not_in_chain_line-line.result NotInChain _ c.in-NotInChain.name c.as_str.ensures c.not_in_chain_line-line.ensures c.say-in-NotInChain.ensures)
+
+pub returns-in-IsBase : goal.returns-in-IsBase
+returns-in-IsBase g c =
+    reports_for meaning_of_steps _ _ _ _ _ c.args.refusal (steps.IsBase c.in-IsBase.name) c.in-IsBase.is
+    (named_said _ _ _ _ _ c.is_base_line-line.result IsBase _ c.in-IsBase.name c.as_str-in-IsBase.ensures c.is_base_line-line.ensures c.say-in-IsBase.ensures)
+
+pub returns-in-LeafSource : goal.returns-in-LeafSource
+returns-in-LeafSource g c =
+    reports_for meaning_of_steps _ _ _ _ _ c.args.refusal (steps.LeafSource c.in-LeafSource.name) c.in-LeafSource.is
+    (named_said _ _ _ _ _ c.leaf_source_line-line.result LeafSource _ c.in-LeafSource.name c.as_str-in-LeafSource.ensures c.leaf_source_line-line.ensures c.say-in-LeafSource.ensures)
+
+pub returns-in-MetadataFull : goal.returns-in-MetadataFull
+returns-in-MetadataFull g c =
+    reports_for meaning_of_steps _ _ _ _ _ c.args.refusal (steps.MetadataFull c.in-MetadataFull.file) c.in-MetadataFull.is
+    (named_said _ _ _ _ _ c.metadata_full_line-line.result MetadataFull _ c.in-MetadataFull.file c.as_str-in-MetadataFull.ensures c.metadata_full_line-line.ensures c.say-in-MetadataFull.ensures)
+
+pub returns-in-LocatorTooLarge : goal.returns-in-LocatorTooLarge
+returns-in-LocatorTooLarge g c =
+    reports_for meaning_of_steps _ _ _ _ _ c.args.refusal (steps.LocatorTooLarge c.in-LocatorTooLarge.len) c.in-LocatorTooLarge.is
+    (refusal_sent _ _ _ _ Refused _ _ c.locator_too_large_line.result c.locator_too_large_line.ensures c.say-in-LocatorTooLarge.ensures)
 
 pub returns-in-IdUnfit : goal.returns-in-IdUnfit
 returns-in-IdUnfit g c =

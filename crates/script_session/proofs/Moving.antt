@@ -1,0 +1,253 @@
+-- What the calls of a merge say of a chain's session.
+use Rattle.std.proofs.Common.{◌≡◌, ◌<◌, ◌≤◌, ◌+◌, ◌^◌, ◌==◌, ◌||◌, ltb-true, ltb-false, List, ℕ, zero, suc, Bool, true, false, cond, Option, Some, None, Result, Ok, Err, refl, sym, ap, subst, ◌∙◌, arith}
+use Rattle.std.specs.Prelude.{if◌then◌else◌, is_some, nat_lt}
+use Rattle.std.proofs.lemmas.Bool.{eq-eqb}
+use Rattle.std.proofs.lemmas.Option.{same_Some}
+use Rattle.store_model.specs.Disk.{Disk}
+use Rattle.guest_model.specs.declared.call.Entry.{Entry}
+use Rattle.guest_model.specs.declared.refusal.ChainRefusal.{ChainRefusal}
+use Rattle.guest_model.specs.declared.refusal.ChainRefusal.TheVariants.{Abandoned, Broken, EmptyRange, FileFull, NoMerge, NoPiece, NoRoom, NoStripe, NotYet, OutOfRange, ReadFault, ReadOnly, Spent, Stale, TooLong}
+use Rattle.chain_model.specs.Merges.{with_mark}
+use Rattle.merge_core.specs.Copied.{marks_of}
+use Rattle.merge_core.specs.declared.piece.Piece.{Piece}
+use Rattle.chain_core.specs.declared.chain.Chain.{Chain}
+use Rattle.chain_core.specs.declared.layers.Underway.{Underway}
+use Rattle.chain_core.specs.Copying.{FetchCause, FetchTold, IfStopped, IsMissing, IsOfStripe, MarksIn, PieceTold, PutCause, TargetRoomIs, fetch_refused, merge_refused, no_merge, put_refused}
+use Rattle.chain_core.specs.Finished.{FinishCause, FinishTold}
+use Rattle.chain_core.specs.Refusing.{counted, or_else, unfit}
+use Rattle.chain_core.specs.Sessions.{IsCounted, IsSound, Session, seen}
+use Rattle.vx_base.specs.declared.parts.Geometry.{Geometry}
+use Rattle.script_session.specs.Answers.{IsSlot}
+use Rattle.script_session.specs.MergeSteps.{AnswersFetch, AnswersFinish, AnswersPut, AnswersTurn, IsUnchanged, KeepsHistory, fetched_and}
+
+-- ---- causes
+
+pub counted_low : (n : ℕ) → counted n ≤ n + 1
+counted_low n = go (nat_lt n (2 ^ 63))
+  where
+    go : (b : Bool) → (if b then n + 1 else n) ≤ n + 1
+    go true = omega arith
+    go false = omega arith
+
+pub first_of : (u m x : Option ChainRefusal) (e : ChainRefusal) → or_else u m ≡ Some e → or_else u (or_else m x) ≡ Some e
+first_of None None x e h = cc
+first_of None (Some y) x e h = h
+first_of (Some y) m x e h = h
+
+pub parts_none : (u m : Option ChainRefusal) → or_else u m ≡ None → (u ≡ None) × (m ≡ None)
+parts_none None m h = (refl, h)
+parts_none (Some y) m h = let bad : ◌≡◌ {A = Option ChainRefusal} (Some y) None = h in absurd (cc)
+
+pub not_none : {P : Type 0} (o : Option ChainRefusal) (e : ChainRefusal) → o ≡ Some e → o ≡ None → P
+not_none o e is none = let bad : ◌≡◌ {A = Option ChainRefusal} (Some e) None = sym is ∙ none in absurd (cc)
+
+-- what was done wasn't refused before it reached the files
+pub ok_reached : {T : Type 0} (P : Type 0) (o : Option ChainRefusal) (x : T) → IfStopped o (Ok x) P → o ≡ None
+ok_reached P None x h = refl
+ok_reached {T} P (Some e) x h = let bad : ◌≡◌ {A = Result T ChainRefusal} (Ok x) (Err e) = h.0 in absurd (cc)
+
+-- where nothing was fetched
+pub unfilled_refused : (s : Session) (piece : Piece) → merge_refused s ≡ None → piece.filled ≡ false → put_refused piece s ≡ Some NoPiece
+unfilled_refused s piece none empty =
+    let both = parts_none (unfit s.events s.broken) (no_merge s.layers) none in
+    rw (both.0, both.1, empty) refl
+
+-- ---- answers
+
+module _ (old new : Session) (piece left : Piece) where
+  cause_left : (x : ChainRefusal) → FetchCause old new piece (Err x) → left.filled ≡ false → FetchCause old new left (Err x)
+  cause_left EmptyRange c empty = absurd c
+  cause_left (OutOfRange first count sectors) c empty = absurd c
+  cause_left (TooLong count limit) c empty = absurd c
+  cause_left ReadOnly c empty = absurd c
+  cause_left (Broken file count) c empty = absurd c
+  cause_left (Spent t) c empty = absurd c
+  cause_left (FileFull next) c empty = absurd c
+  cause_left (ReadFault file count) c empty = (empty, c.1, c.2, c.3)
+  cause_left NoMerge c empty = absurd c
+  cause_left (Stale taken at) c empty = absurd c
+  cause_left (NotYet stripe) c empty = absurd c
+  cause_left (Abandoned file count) c empty = absurd c
+  cause_left (NoStripe stripe stripes) c empty = absurd c
+  cause_left NoPiece c empty = absurd c
+  cause_left NoRoom c empty = absurd c
+
+-- a step that no call of the chain was made for
+pub put_refused_so : (piece : Piece) (s : Session) (e : ChainRefusal) → IsSound s → put_refused piece s ≡ Some e → AnswersPut piece (Err e) s s
+put_refused_so piece s e sound is = record {
+  sound = sound;
+  early = by_cause (put_refused piece s) is;
+  cause = λ none. not_none _ e is none;
+  room = λ none. not_none _ e is none;
+  told = λ none. not_none _ e is none;
+  keeps = record { noted = refl; told = refl; geometry = refl; session = refl };
+  events = omega arith;
+}
+  where
+    by_cause : (o : Option ChainRefusal) → o ≡ Some e → IfStopped {T = Unit {0}} o (Err e) (IsUnchanged s s)
+    by_cause None h = tt
+    by_cause (Some x) h = (ap Err (sym (same_Some x e h)), refl)
+
+pub put_barred : (piece : Piece) (s : Session) (e : ChainRefusal) → IsSound s → merge_refused s ≡ Some e → AnswersPut piece (Err e) s s
+put_barred piece s e sound is = put_refused_so piece s e sound (first_of (unfit s.events s.broken) (no_merge s.layers) _ e is)
+
+module _ {S R T : Type 0} (disk : S → Disk) (noted : R → ℕ) (told : R → Option (List Entry)) (old new : Chain S R T) where
+  abbrev before : Session
+  before = seen disk noted told old
+
+  abbrev after : Session
+  after = seen disk noted told new
+
+  keeps_by : new.layers.geometry ≡ old.layers.geometry → is_some new.layers.leaf ≡ is_some old.layers.leaf → new.recorder ≡ old.recorder → KeepsHistory before after
+  keeps_by geometry session history = record { noted = ap noted history; told = ap told history; geometry = geometry; session = session }
+
+  events_by : new.events ≡ counted old.events → after.events ≤ before.events + 1
+  events_by e = omega (arith, e, counted_low old.events)
+
+  fetch_early : (P : Type 0) (o : Option ChainRefusal) (answer : Result ℕ ChainRefusal) → IfStopped o answer (IsCounted old new × P) → IfStopped o answer (IsUnchanged before after)
+  fetch_early P None answer h = tt
+  fetch_early P (Some e) answer h = (h.0, ap (seen disk noted told) h.1.0)
+
+  put_early : (o : Option ChainRefusal) (answer : Result (Unit {0}) ChainRefusal) → IfStopped o answer (IsCounted old new) → IfStopped o answer (IsUnchanged before after)
+  put_early None answer h = tt
+  put_early (Some e) answer h = (h.0, ap (seen disk noted told) h.1)
+
+  pub fetch_done : (P : Type 0) (stripe stamp : ℕ) (left : Piece) → IsSound before → IfStopped {T = ℕ} (fetch_refused stripe before) (Ok stamp) (IsCounted old new × P) → (fetch_refused stripe before ≡ None → FetchCause before after left (Ok stamp))
+      → IsOfStripe before.layers.geometry stripe left → FetchTold left before after (Ok stamp) → new.events ≡ counted old.events → new.layers.geometry ≡ old.layers.geometry → is_some new.layers.leaf ≡ is_some old.layers.leaf
+      → new.layers.merge ≡ old.layers.merge → new.recorder ≡ old.recorder → AnswersFetch stripe (Ok stamp) before after left
+  fetch_done P stripe stamp left sound early cause taken answers events geometry session merge history = record {
+    sound = sound;
+    early = fetch_early P (fetch_refused stripe before) (Ok stamp) early;
+    cause = cause;
+    taken = taken;
+    emptied = tt;
+    told = λ fit. answers;
+    keeps = keeps_by geometry session history;
+    merge = merge;
+    events = events_by events;
+  }
+
+  pub fetch_failed : (P : Type 0) (stripe : ℕ) (x : ChainRefusal) (piece left : Piece) → left ≡ record piece { filled = false } → IsSound before → IfStopped {T = ℕ} (fetch_refused stripe before) (Err x) (IsCounted old new × P)
+      → (fetch_refused stripe before ≡ None → FetchCause before after piece (Err x))
+      → FetchTold piece before after (Err x) → new.events ≡ counted old.events → new.layers.geometry ≡ old.layers.geometry → is_some new.layers.leaf ≡ is_some old.layers.leaf
+      → new.layers.merge ≡ old.layers.merge → new.recorder ≡ old.recorder → AnswersFetch stripe (Err x) before after left
+  fetch_failed P stripe x piece left is sound early cause answers events geometry session merge history =
+      let empty : left.filled ≡ false = ap (λ (p : Piece). p.filled) is in
+      record {
+        sound = sound;
+        early = fetch_early P (fetch_refused stripe before) (Err x) early;
+        cause = λ fit. cause_left before after piece left x (cause fit) empty;
+        taken = tt;
+        emptied = empty;
+        told = λ fit. answers;
+        keeps = keeps_by geometry session history;
+        merge = merge;
+        events = events_by events;
+      }
+
+  pub put_answers : (piece : Piece) (answer : Result (Unit {0}) ChainRefusal) → IsSound before → IfStopped (put_refused piece before) answer (IsCounted old new) → (put_refused piece before ≡ None → PutCause piece before after answer)
+      → (put_refused piece before ≡ None → TargetRoomIs piece before.layers before.disk answer) → PieceTold piece before after answer → new.events ≡ counted old.events → new.layers.geometry ≡ old.layers.geometry
+      → is_some new.layers.leaf ≡ is_some old.layers.leaf → new.recorder ≡ old.recorder → AnswersPut piece answer before after
+  put_answers piece answer sound early cause room answers events geometry session history = record {
+    sound = sound;
+    early = put_early (put_refused piece before) answer early;
+    cause = cause;
+    room = room;
+    told = λ fit. answers;
+    keeps = keeps_by geometry session history;
+    events = events_by events;
+  }
+
+-- what isn't done says, of one fact, what it says of another that follows from it
+finish_more : (P Q : Type 0) (s end : Session) (answer : Result (Unit {0}) ChainRefusal) → FinishCause s end answer P → (P → Q) → FinishCause s end answer Q
+finish_more P Q s end (Ok done) c f = c
+finish_more P Q s end (Err EmptyRange) c f = absurd c
+finish_more P Q s end (Err (OutOfRange first count sectors)) c f = absurd c
+finish_more P Q s end (Err (TooLong count limit)) c f = absurd c
+finish_more P Q s end (Err ReadOnly) c f = absurd c
+finish_more P Q s end (Err (Broken file count)) c f = c
+finish_more P Q s end (Err (Spent t)) c f = absurd c
+finish_more P Q s end (Err (FileFull next)) c f = absurd c
+finish_more P Q s end (Err (ReadFault file count)) c f = absurd c
+finish_more P Q s end (Err NoMerge) c f = absurd c
+finish_more P Q s end (Err (Stale taken at)) c f = absurd c
+finish_more P Q s end (Err (NotYet stripe)) c f = (c.0, f c.1)
+finish_more P Q s end (Err (Abandoned file count)) c f = absurd c
+finish_more P Q s end (Err (NoStripe stripe stripes)) c f = absurd c
+finish_more P Q s end (Err NoPiece) c f = absurd c
+finish_more P Q s end (Err NoRoom) c f = absurd c
+
+module _ {S R T : Type 0} (disk : S → Disk) (noted : R → ℕ) (told : R → Option (List Entry)) (old new : Chain S R T) where
+  pub finish_answers : (answer : Result (Unit {0}) ChainRefusal) → IsSound (seen disk noted told old) → IfStopped (merge_refused (seen disk noted told old)) answer (IsCounted old new)
+      → (merge_refused (seen disk noted told old) ≡ None → FinishCause (seen disk noted told old) (seen disk noted told new) answer (IsCounted old new)) → FinishTold (seen disk noted told old) (seen disk noted told new) answer
+      → new.events ≡ counted old.events → new.layers.geometry ≡ old.layers.geometry → is_some new.layers.leaf ≡ is_some old.layers.leaf → new.recorder ≡ old.recorder → AnswersFinish answer (seen disk noted told old) (seen disk noted told new)
+  finish_answers answer sound early cause answers events geometry session history = record {
+    sound = sound;
+    early = put_early disk noted told old new (merge_refused (seen disk noted told old)) answer early;
+    cause = λ fit. finish_more _ _ (seen disk noted told old) (seen disk noted told new) answer (cause fit) (ap (seen disk noted told));
+    told = λ fit. answers;
+    keeps = keeps_by disk noted told old new geometry session history;
+    events = events_by disk noted told old new events;
+  }
+
+pub slot_stays : (g h : Geometry) (piece : Piece) → h ≡ g → IsSlot g piece → IsSlot h piece
+slot_stays g h piece same slot = subst (λ k. IsSlot k piece) (sym same) slot
+
+-- ---- marks
+
+-- how many of the first stripes have no mark
+abbrev pub unmarked : ℕ → (ℕ → Bool) → ℕ
+unmarked zero marks = 0
+unmarked (suc n) marks = unmarked n marks + cond (marks n) 0 1
+
+-- and of a merge under way
+abbrev pub left_in : Option Underway → ℕ
+left_in None = 0
+left_in (Some u) = unmarked u.marks.stripes (marks_of u.marks)
+
+one_less : (a b : Bool) → (a ≡ true → b ≡ true) → cond b 0 1 ≤ cond a 0 1
+one_less true true h = omega arith
+one_less false true h = omega arith
+one_less false false h = omega arith
+one_less true false h = let bad : false ≡ true = h refl in absurd (cc)
+
+no_more : (n : ℕ) (a b : ℕ → Bool) → ((t : ℕ) → a t ≡ true → b t ≡ true) → unmarked n b ≤ unmarked n a
+no_more zero a b h = omega arith
+no_more (suc n) a b h = omega (arith, no_more n a b h, one_less (a n) (b n) (h n))
+
+at_place : (n t : ℕ) (a b : ℕ → Bool) → ((t : ℕ) → a t ≡ true → b t ≡ true) → t < suc n → a t ≡ false → b t ≡ true → (t < n → unmarked n b < unmarked n a) → (c : Bool) → nat_lt t n ≡ c → unmarked (suc n) b < unmarked (suc n) a
+at_place n t a b h inside was is below true e = omega (arith, below (ltb-true t n e), one_less (a n) (b n) (h n))
+at_place n t a b h inside was is below false e =
+    let same : t ≡ n = omega (arith, ltb-false t n e, inside) in
+    let first : ◌≡◌ {A = ℕ} (cond (a n) 0 1) 1 = ap (λ x. cond x 0 1) (ap a (sym same) ∙ was) in
+    let last : ◌≡◌ {A = ℕ} (cond (b n) 0 1) 0 = ap (λ x. cond x 0 1) (ap b (sym same) ∙ is) in
+    omega (arith, no_more n a b h, first, last)
+
+fewer : (n t : ℕ) (a b : ℕ → Bool) → ((t : ℕ) → a t ≡ true → b t ≡ true) → t < n → a t ≡ false → b t ≡ true → unmarked n b < unmarked n a
+fewer zero t a b h inside was is = omega (arith, inside)
+fewer (suc n) t a b h inside was is = at_place n t a b h inside was is (λ less. fewer n t a b h less was is) (nat_lt t n) refl
+
+stays_marked : (stripe t : ℕ) (marks : ℕ → Bool) → marks t ≡ true → with_mark stripe marks t ≡ true
+stays_marked stripe t marks h = go (t == stripe)
+  where
+    go : (b : Bool) → (b || marks t) ≡ true
+    go true = refl
+    go false = h
+
+is_marked : (stripe : ℕ) (marks : ℕ → Bool) → with_mark stripe marks stripe ≡ true
+is_marked stripe marks = ap (λ b. b || marks stripe) (eq-eqb stripe stripe refl)
+
+-- a stripe that had no mark has one
+pub fewer_left : (stripe : ℕ) (old new : Option Underway) → IsMissing old (Some stripe) → MarksIn stripe old new → left_in new < left_in old
+fewer_left stripe None new missing marks = let bad : ◌≡◌ {A = Option ℕ} (Some stripe) None = missing in absurd (cc)
+fewer_left stripe (Some u) None missing marks = absurd marks
+fewer_left stripe (Some u) (Some w) missing marks =
+    let more : (t : ℕ) → marks_of u.marks t ≡ true → marks_of w.marks t ≡ true = λ t h. marks.marks_are t ∙ stays_marked stripe t (marks_of u.marks) h in
+    subst (λ n. unmarked n (marks_of w.marks) < unmarked u.marks.stripes (marks_of u.marks)) (sym marks.stripes)
+    (fewer u.marks.stripes stripe (marks_of u.marks) (marks_of w.marks) more missing.there missing.unmarked (marks.marks_are stripe ∙ is_marked stripe (marks_of u.marks)))
+
+-- what a turn that was done marked
+pub turn_marks : (stripe : ℕ) (old new : Session) → AnswersTurn stripe (Ok tt) old new → MarksIn stripe old.layers.merge new.layers.merge
+turn_marks stripe old new (fetched_and _ stamp _ mid _ piece fetched put) =
+    let cause = put.cause (ok_reached _ (put_refused piece mid) tt put.early) in
+    subst (λ n. MarksIn n old.layers.merge new.layers.merge) fetched.taken.stripe_is (subst (λ o. MarksIn piece.stripe o new.layers.merge) fetched.merge cause.0)

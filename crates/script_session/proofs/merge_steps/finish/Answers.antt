@@ -1,0 +1,7 @@
+use Rattle.script_session.proofs.Moving.{finish_answers}
+use Rattle.script_session.proofs.merge_steps.finish.Goals as goal
+
+pub returns-clause-answers : goal.returns-clause-answers
+returns-clause-answers g c =
+    let e = c.finish.ensures in
+    finish_answers g.S.Store.disk g.R.Recorder.noted g.R.Recorder.told c.args.chain.now c.finish.new.self c.finish.result c.requires e.early e.cause e.told e.events e.geometry e.session e.history

@@ -1,0 +1,134 @@
+-- A script over a chain's files, with a merge or without: what the host is left with.
+use Rattle.std.proofs.Common.{◌≡◌, ℕ, ◌<◌, List, [], ◌∷◌, ◌++◌, length, Option, Some, None, Result, Ok, Err, refl, sym, ap, subst, ◌∙◌}
+use Rattle.std.proofs.lemmas.List.{length-map}
+use Rattle.std.specs.Prelude.{All, IfErr, IfOk, option_map}
+use Rattle.store_model.specs.Disk.{Disk as StoreDisk, WhereTold}
+use Rattle.store_model.specs.Folder.{AreAway, HasFailed, Hosted, KeepsStore, RoseWhere, given_back}
+use Rattle.chain_model.specs.Members.{NoneTwice}
+use Rattle.link_rules.specs.Chains.{names_of}
+use Rattle.link_rules.specs.Effects.{IsServed}
+use Rattle.link_rules.specs.Folders.{AllIdle}
+use Rattle.link_rules.specs.Lines.{IsLine}
+use Rattle.link_rules.specs.declared.linked.LinkedFile.{LinkedFile}
+use Rattle.merge_plan.specs.Merging.{MergeFiles, child_place, source_place}
+use Rattle.merge_plan.specs.Planning.{IsFull, Refuses, in_child, in_source}
+use Rattle.merge_plan.specs.declared.drawing.MergeIds.{MergeIds}
+use Rattle.merge_plan.specs.declared.refusal.PrepareRefusal.{PrepareRefusal}
+use Rattle.merge_plan.specs.declared.refusal.PrepareRefusal.TheVariants as plan
+use Rattle.chain_core.specs.MergeStarting.{RefusesMerge, chain_files, is_changed}
+use Rattle.chain_core.specs.Starting.{EachOpensAlike}
+use Rattle.chain_core.specs.declared.merge_start.MergeStartRefusal.{MergeStartRefusal}
+use Rattle.chain_core.specs.declared.merge_start.MergeStartRefusal.TheVariants as start
+use Rattle.chain_core.specs.declared.starting.Mode.{Mode}
+use Rattle.chain_core.specs.declared.starting.Mode.TheVariants.{Guests, ReadOnly}
+use Rattle.script.specs.declared.form.Line.{Line}
+use Rattle.script_session.specs.MergeRunning.{HasRunMerge}
+use Rattle.script_session.specs.declared.session.ScriptRun.{ScriptRun}
+use Rattle.vhdx_app.specs.Commands.{Lends}
+use Rattle.link_rules.specs.declared.linked.Linked.{Linked}
+use Rattle.vhdx_app.specs.Sessions.{CanMerge, HasNotMerged, IsBarredMerge, IsMergeRefusal, PlanHasFile, StartHasFile, not_started, HasNotRunWith, HasRunWith, IsChainIn, NotRunOver, RunOver}
+use Rattle.vhdx_app.specs.declared.refusal.StepsRefusal.{StepsRefusal}
+use Rattle.vhdx_app.specs.declared.refusal.StepsRefusal.TheVariants as steps
+use Rattle.vhdx_app.proofs.MergePlaces.{child_changed, places_within, source_changed}
+use Rattle.vhdx_app.proofs.Over.{back_for, changed_of, not_run_over, run_over}
+use Rattle.vhdx_app.proofs.OverMerge.{left_of_store, may, not_merged, ran_changed, run_merged}
+use Rattle.vhdx_app.proofs.Ran.{back_requires, still_rests, still_stands}
+
+-- ---- before the files come back
+
+module _ (mode : Mode) (retired : List (List ℕ)) (old mid : Hosted) (lent disk : StoreDisk) (before after : Option (List (List ℕ))) (lines : List Line) (idle : WhereTold old.folder AllIdle) where
+  abbrev Away : Type 0
+  Away = WhereTold mid.folder (λ folder. WhereTold disk.told (λ trace. AreAway trace folder))
+
+  pub back_all : (merge : Option (List ℕ)) (files : List LinkedFile) (names : List (List ℕ)) (result : Result ScriptRun StepsRefusal) → names ≡ names_of files → IsLine files → NoneTwice (retired ++ names_of files)
+      → WhereTold old.folder (IsChainIn (record { retired = retired; files = files })) → Lends (names_of files) old mid lent → IfOk result (λ run. HasRunWith mode merge files names lines run lent disk before after)
+      → IfErr result (HasNotRunWith mode merge files lent disk before after) → Away
+  back_all None files names result same line once chain lends ran none =
+      back_for retired files old mid lent disk line idle once chain lends (changed_of mode files names lines lent disk before after result line ran none)
+  back_all (Some name) [] names result same line once chain lends ran none = absurd line
+  back_all (Some name) (leaf ∷ others) names (Ok run) same line once chain lends ran none =
+      let h = subst (λ ns. HasRunMerge (leaf ∷ others) name ns lines run lent disk before after) same ran in
+      back_requires retired leaf others old mid lent idle once chain lends disk (Some name) (is_changed h.m) (may retired leaf others old mid lent disk chain lends before after name lines run h)
+      (ran_changed retired leaf others old mid lent disk chain lends before after name lines run h)
+  back_all (Some name) (leaf ∷ others) names (Err x) same line once chain lends ran none =
+      let left = left_of_store retired leaf others old mid lent disk chain lends before after name x none in
+      back_requires retired leaf others old mid lent idle once chain lends disk (Some name) left.written left.may left.changed
+
+-- ---- and then
+
+module _ (mode : Mode) (retired : List (List ℕ)) (old mid now : Hosted) (lent disk : StoreDisk) (before after : Option (List (List ℕ))) (lines : List Line) (idle : WhereTold old.folder AllIdle) where
+  pub run_all : (merge : Option (List ℕ)) (files : List LinkedFile) (names : List (List ℕ)) (result : Result ScriptRun StepsRefusal) → CanMerge mode merge → names ≡ names_of files → IsLine files → All IsServed files
+      → NoneTwice (retired ++ names_of files) → WhereTold old.folder (IsChainIn (record { retired = retired; files = files })) → Lends (names_of files) old mid lent
+      → WhereTold disk.told (λ trace. now.folder ≡ option_map (given_back trace) mid.folder) → KeepsStore disk mid now → RoseWhere (HasFailed disk) mid.faults now.faults
+      → IfOk result (λ run. HasRunWith mode merge files names lines run lent disk before after) → IfErr result (HasNotRunWith mode merge files lent disk before after)
+      → IfOk result (λ run. RunOver mode merge (record { retired = retired; files = files }) lines run old now before after)
+  run_all None files names result can same line served once chain lends back_is past_is count ran none =
+      run_over mode retired old mid now lent disk before after lines idle files names result same line served once chain lends back_is past_is count (changed_of mode files names lines lent disk before after result line ran none) ran
+  run_all (Some name) [] names result can same line served once chain lends back_is past_is count ran none = absurd line
+  run_all (Some name) (leaf ∷ others) names (Err x) can same line served once chain lends back_is past_is count ran none = tt
+  run_all (Some name) (leaf ∷ others) names (Ok run) can same line served once chain lends back_is past_is count ran none = by_mode mode can
+    where
+      by_mode : (mode : Mode) → CanMerge mode (Some name) → RunOver mode (Some name) (record { retired = retired; files = leaf ∷ others }) lines run old now before after
+      by_mode Guests can =
+          run_merged retired leaf others old mid now lent disk idle served once chain lends back_is past_is count before after name lines run (subst (λ ns. HasRunMerge (leaf ∷ others) name ns lines run lent disk before after) same ran)
+      by_mode ReadOnly can = absurd can
+
+  pub not_run_all : (merge : Option (List ℕ)) (files : List LinkedFile) (names : List (List ℕ)) (result : Result ScriptRun StepsRefusal) → CanMerge mode merge → names ≡ names_of files → IsLine files → All IsServed files
+      → NoneTwice (retired ++ names_of files) → WhereTold old.folder (IsChainIn (record { retired = retired; files = files })) → Lends (names_of files) old mid lent
+      → WhereTold disk.told (λ trace. now.folder ≡ option_map (given_back trace) mid.folder) → KeepsStore disk mid now → RoseWhere (HasFailed disk) mid.faults now.faults
+      → IfOk result (λ run. HasRunWith mode merge files names lines run lent disk before after) → IfErr result (HasNotRunWith mode merge files lent disk before after)
+      → IfErr result (NotRunOver mode merge (record { retired = retired; files = files }) old now before after)
+  not_run_all None files names result can same line served once chain lends back_is past_is count ran none =
+      not_run_over mode retired old mid now lent disk before after lines idle files result line served once chain lends back_is past_is count (changed_of mode files names lines lent disk before after result line ran none) none
+  not_run_all (Some name) [] names result can same line served once chain lends back_is past_is count ran none = absurd line
+  not_run_all (Some name) (leaf ∷ others) names (Ok run) can same line served once chain lends back_is past_is count ran none = tt
+  not_run_all (Some name) (leaf ∷ others) names (Err x) can same line served once chain lends back_is past_is count ran none = by_mode mode can
+    where
+      by_mode : (mode : Mode) → CanMerge mode (Some name) → NotRunOver mode (Some name) (record { retired = retired; files = leaf ∷ others }) old now before after x
+      by_mode Guests can = not_merged retired leaf others old mid now lent disk idle served once chain lends back_is past_is count before after name x none
+      by_mode ReadOnly can = absurd can
+
+-- ---- a merge where files are only read
+
+pub barred : (mode : Mode) (merge : Option (List ℕ)) (linked : Linked) (old : Hosted) (drawn : Option (List (List ℕ))) → WhereTold old.folder AllIdle → IsBarredMerge mode merge → NotRunOver mode merge linked old old drawn drawn steps.ReadOnly
+barred Guests merge linked old drawn idle is = absurd is
+barred ReadOnly None linked old drawn idle is = absurd is
+barred ReadOnly (Some name) linked old drawn idle is = record {
+  counts = refl;
+  cause = refl;
+  undrawn = λ reading. refl;
+  unchanged = λ f told. (still_stands ReadOnly (Some name) linked f old old (idle f told) told refl refl).unchanged refl;
+  stands = λ f told. still_stands ReadOnly (Some name) linked f old old (idle f told) told refl refl;
+  rests = λ f told. still_rests ReadOnly (Some name) linked f old old (idle f told) told refl refl;
+}
+
+-- ---- over the store alone
+
+-- a file of which a refusal tells is one of the chain's
+pub start_has_file : (files : List LinkedFile) (names : List (List ℕ)) (name : List ℕ) (old new : StoreDisk) (before after : Option (List (List ℕ))) (r : MergeStartRefusal) → names ≡ names_of files → RefusesMerge files name old new before after r
+    → StartHasFile (length names) r
+start_has_file files names name old new before after (start.Spent number) same h = tt
+start_has_file files names name old new before after (start.Plan r) same h = by_plan r h.1 where
+  long : length names ≡ length files
+  long = ap length same ∙ length-map files (λ (f : LinkedFile). f.name)
+
+  there : (m : MergeFiles) (ids : MergeIds) (file : ℕ) → files ≡ chain_files m → IsFull old m ids file → file < length names
+  there m ids _ is (in_source lacks) = subst (λ n. source_place m < n) (sym (long ∙ ap length is)) (places_within m (source_place m) (source_changed m))
+  there m ids _ is (in_child has lacks) = subst (λ n. child_place m < n) (sym (long ∙ ap length is)) (places_within m (child_place m) (child_changed m))
+
+  by_plan : (r : PrepareRefusal) → Refuses files name old new before after r → PlanHasFile (length names) r
+  by_plan plan.NotInChain h = tt
+  by_plan plan.IsBase h = tt
+  by_plan plan.LeafSource h = tt
+  by_plan (plan.LocatorTooLarge len) h = tt
+  by_plan (plan.MetadataFull file) h = there h.m h.ids file h.begun.files_are.files_are h.why.0.full
+  by_plan (plan.IdUnfit id) h = tt
+  by_plan (plan.Store fault) h = tt
+  by_plan plan.NoRoom h = tt
+start_has_file files names name old new before after (start.Begin fault) same h = tt
+
+-- a start that is refused, by the store as it was before the files' lengths were read
+pub start_not_merged : (files : List LinkedFile) (names : List (List ℕ)) (name : List ℕ) (old read new : StoreDisk) (before after : Option (List (List ℕ))) (r : MergeStartRefusal) (x : StepsRefusal) → read ≡ old → names ≡ names_of files
+    → RefusesMerge files name read new before after r → EachOpensAlike files read.told new.told → IsMergeRefusal names name r x → HasNotMerged files name old new before after x
+start_not_merged files names name old read new before after r x stays same h alike told =
+    not_started r x (subst (λ d. RefusesMerge files name d new before after r) stays h) (subst (λ (d : StoreDisk). EachOpensAlike files d.told new.told) stays alike) (subst (λ ns. IsMergeRefusal ns name r x) same told)
