@@ -1,14 +1,14 @@
 -- What the calls of a session say of their file, where its content is told.
-use Rattle.std.specs.Prelude.{◌≡◌, ℕ, ◌-◌, ◌^◌, ◌≤◌, Bool, List, All, length, Option}
+use Rattle.std.specs.Prelude.{ℕ, ◌-◌, ◌^◌, ◌≤◌, Bool, List, All, length, Option}
 use Rattle.store_model.specs.Disk.{WhereTold, WhereBothTold}
-use Rattle.store_model.specs.File.{File, seen}
+use Rattle.store_model.specs.File.{seen}
 use Rattle.store_model.specs.Trace.{ChangesOnly, Trace, file_of}
 use Rattle.vx_base.specs.declared.parts.Header.{Header}
 use Rattle.vx_base.specs.Fields.{extended}
 use Rattle.vhdx_format.specs.declared.log_entry.Page.{Page}
 use Rattle.log_write.specs.Laws.{MayWrite}
 use Rattle.log_write.specs.Sessions.{IsOpenFor, IsRunning, LogState, SettlesNear, nowhere}
-use Rattle.log_write.specs.Writing.{HasEnded, IsOfTables}
+use Rattle.log_write.specs.Writing.{HasEnded, HasNextNumber, IsOfTables}
 
 -- R of what a read of the file gives before and after
 abbrev pub OfReads : ℕ → (List ℕ → List ℕ → Type 0) → Option Trace → Option Trace → Type 0
@@ -53,6 +53,12 @@ SettlesWhileGrowing log len told told' =
 abbrev pub RunsBehindGrowth : LogState → LogState → Option Trace → Option Trace → Type 0
 RunsBehindGrowth log new told told' =
     (tables : ℕ → Bool) (least : ℕ) (written : ℕ → Bool)
+    → WhereBothTold (λ before after. IsRunning log tables least written (file_of before log.file) → IsRunning new tables least written (file_of after log.file)) told told'
+
+-- Behind another identifier of its data it runs by the next header.
+abbrev pub RunsBehindIdentifier : LogState → LogState → Option Trace → Option Trace → Type 0
+RunsBehindIdentifier log new told told' =
+    (tables : ℕ → Bool) (least : ℕ) (written : ℕ → Bool) → HasNextNumber log.header
     → WhereBothTold (λ before after. IsRunning log tables least written (file_of before log.file) → IsRunning new tables least written (file_of after log.file)) told told'
 
 -- Behind its end a session's file is, in every image, what a read gives.
