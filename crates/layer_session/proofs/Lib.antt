@@ -29,6 +29,7 @@ mod Placing
 mod Turning
 mod Updated
 mod Updates
+mod Identified
 pub mod PagesTurned
 pub mod Leaving
 mod Chunks

@@ -13,5 +13,6 @@ pub mod Taking
 pub mod ReadOnly
 pub mod FileLayers
 pub mod Updating
+pub mod Identifying
 pub mod Masked
 pub mod Laws

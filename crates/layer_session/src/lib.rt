@@ -5,6 +5,7 @@ mod closing;
 mod file;
 mod file_layer;
 mod geometry;
+mod identifying;
 mod laws;
 mod masked;
 mod planning;
