@@ -180,6 +180,7 @@ module _ (l : Layer) (new : Tables) (disk : Disk) (brings : HasBrought l.tables 
   same_then r = record {
     parts = refl;
     number = refl;
+    header = refl;
     readable = readable_then;
     ready = λ w. record { readable = readable_then; one_file = w.one_file; next = w.next; most = w.most; clear = w.clear; plans = w.plans; told = λ t told. let s = w.told t told in (s.0, serves_on t s.0 told s.1) };
     holds = λ t parts layer told h. holds_on t parts layer told h;

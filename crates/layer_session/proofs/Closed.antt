@@ -1,6 +1,6 @@
 -- A file whose session has ended is read.
-use Rattle.std.proofs.Common.{◌≡◌, ℕ, ◌+◌, ◌%◌, ◌<◌, ◌≤◌, true, All, List, [], length, get_or, refl, sym, ap, subst, ◌∙◌, arith}
-use Rattle.std.specs.Prelude.{Err, IfOk, Ok, Option, Result, Some, None}
+use Rattle.std.proofs.Common.{◌≡◌, ℕ, ◌+◌, ◌<◌, ◌≤◌, List, [], length, get_or, refl, sym, ap, subst, ◌∙◌, arith}
+use Rattle.std.specs.Prelude.{Ok, Option, Some, None}
 use Rattle.vx_base.specs.declared.parts.Header.{Header}
 use Rattle.vx_base.specs.declared.parts.Parts.{Parts}
 use Rattle.vhdx_format.specs.FileParts.{read_parts, shape_of, taken_areas}
@@ -8,12 +8,10 @@ use Rattle.vhdx_format.specs.HeldBlocks.{IsSoundTable}
 use Rattle.vhdx_format.specs.Layers.{Shape, layer_sector}
 use Rattle.vhdx_format.specs.declared.log_entry.Page.{Page}
 use Rattle.store_model.specs.Disk.{Disk, WhereBothTold, WhereTold}
-use Rattle.store_model.specs.File.{seen, is_synced}
+use Rattle.store_model.specs.File.{seen}
 use Rattle.store_model.specs.Plans.{OnlyChanges}
 use Rattle.store_model.specs.Trace.{Trace, file_of}
-use Rattle.store_model.specs.declared.fault.StoreFault.{StoreFault}
-use Rattle.table_pages.specs.Held.{AreTables, HasTables, held}
-use Rattle.table_pages.specs.declared.tables.TableParts.{TableParts}
+use Rattle.table_pages.specs.Held.{AreTables, held}
 use Rattle.table_pages.proofs.Changing.{stand_after_commit, stand_beside_writes}
 use Rattle.table_pages.proofs.Laying.{part_same}
 use Rattle.log_write.specs.Running.{EndsBehind}
@@ -23,8 +21,7 @@ use Rattle.log_write.specs.Writing.{EndsAtEachMoment, KeepsRest}
 use Rattle.log_write.specs.Writing.{HasEnded as HasEndedLog}
 use Rattle.chain_model.specs.Images.{Placed, name_of}
 use Rattle.layer_session.specs.declared.file.Layer.{Layer}
-use Rattle.layer_session.specs.declared.read_layer.ReadLayer.{ReadLayer}
-use Rattle.layer_session.specs.Calls.{HasCommitted, KeepsOver, settled}
+use Rattle.layer_session.specs.Calls.{HasCommitted, settled}
 use Rattle.layer_session.specs.Closes.{HasClosed}
 use Rattle.layer_session.specs.Keeping.{AreOfTables, HoldsLayer, IsLayerOf, IsReady, IsTablePlace, Serves}
 use Rattle.layer_session.specs.ReadOnly.{CanRead, IsRead}

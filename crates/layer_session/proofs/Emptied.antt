@@ -60,4 +60,5 @@ module _ (l mid : Layer) (old : Disk) (ready : IsReady l old) (word first start 
         (λ t u told after k. record { holds = λ file serves. k.holds file (part_served l mid old ready word first start per on_disk m start_at per_is room absent t told file serves) });
     parts = b.parts ∙ m.parts;
     number = b.number ∙ ap (λ (x : Layer). x.log.number) m.only;
+    header = b.header ∙ ap (λ (x : Layer). x.log.header) m.only;
   }

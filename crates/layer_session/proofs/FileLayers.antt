@@ -33,6 +33,7 @@ pub same_session : (old new : Layer) (disk : Disk) → IsSame old new disk → I
 same_session old new disk s = record {
   parts = s.parts;
   number = ap Some s.number;
+  header = ap Some s.header;
   readable = s.readable;
   ready = s.ready;
   holds = λ trace layer told h. (h.0, subst (λ (p : TableParts). IsHeld new h.0 layer (seen (file_of trace p.file))) (sym s.parts) (s.holds trace h.0 layer told h.1));
@@ -43,6 +44,7 @@ pub same_read_file : (old new : ReadLayer) (disk : Disk) → IsSameRead old new 
 same_read_file old new disk s = record {
   parts = s.parts;
   number = refl;
+  header = refl;
   readable = s.readable;
   ready = λ r. s.readable;
   holds = λ trace layer told h. (h.0, (s.reads trace h.0 told h.1.0, h.1.1));

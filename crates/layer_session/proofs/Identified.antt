@@ -1,15 +1,13 @@
 -- The data of a file that a layer serves get another identifier.
-use Rattle.std.proofs.Common.{◌≡◌, ℕ, ◌+◌, ◌*◌, ◌%◌, ◌^◌, ◌-◌, ◌<◌, ◌≤◌, ◌⊎◌, Bool, true, false, All, List, [], length, map, get_or, Option, Some, None, refl, sym, ap, subst, ◌∙◌, arith, inl, inr}
+use Rattle.std.proofs.Common.{◌≡◌, ℕ, ◌+◌, ◌%◌, ◌<◌, ◌≤◌, ◌⊎◌, true, All, List, length, map, get_or, Option, Some, None, refl, sym, ap, subst, ◌∙◌, arith, inl, inr}
 use Rattle.std.specs.Prelude.{Err, IfErr, Ok, OnErr, OnOk, Result}
 use Rattle.vx_base.specs.Fields.{bytes_at}
 use Rattle.vx_base.specs.declared.parts.Header.{Header}
 use Rattle.vx_base.specs.declared.parts.Parts.{Parts}
-use Rattle.vhdx_format.specs.Fields.{megabyte}
 use Rattle.vhdx_format.specs.FileParts.{read_parts, shape_of, taken_areas}
 use Rattle.vhdx_format.specs.HeldBlocks.{Area, HoldsBlock, IsSoundTable}
 use Rattle.vhdx_format.specs.Layers.{Shape}
 use Rattle.vhdx_format.specs.WrittenEntries.{page_update}
-use Rattle.vhdx_format.specs.declared.log_entry.Page.{Page}
 use Rattle.vhdx_format.proofs.SettledBytes.{updated_same}
 use Rattle.store_model.specs.Disk.{Disk, WhereBothTold, WhereTold}
 use Rattle.store_model.specs.File.{seen}
@@ -23,11 +21,10 @@ use Rattle.table_pages.proofs.Laying.{held_len, held_unchanged_any, part_same}
 use Rattle.torn_match.specs.TornMatches.{ChangesUntorn}
 use Rattle.log_write.specs.Running.{OfReads, RunsBehindIdentifier}
 use Rattle.log_write.specs.Sessions.{IsKept as IsPlaceKept}
-use Rattle.log_write.specs.Sessions.{IsRunning, LogState, SettlesNear, nowhere}
-use Rattle.log_write.specs.Writing.{CanCommit, HasNextNumber, IdentifiesAlike, IdentifiesAtEachMoment, KeepsRest, identified_header}
+use Rattle.log_write.specs.Sessions.{IsRunning, LogState, SettlesNear}
+use Rattle.log_write.specs.Writing.{HasNextNumber, IdentifiesAlike, IdentifiesAtEachMoment, KeepsRest, identified_header}
 use Rattle.log_write.specs.Writing.{identified as identified_log}
 use Rattle.log_write.proofs.Committing.{stands_less}
-use Rattle.block_alloc.specs.declared.freed.Freed.{Freed}
 use Rattle.chain_model.specs.Images.{Placed, Shows, metadata_of, name_of}
 use Rattle.chain_model.specs.Layers as chain
 use Rattle.chain_model.specs.Members.{Ties, ties_of}
@@ -35,7 +32,7 @@ use Rattle.chain_model.specs.Sessions.{GoesOver, ShowsFile}
 use Rattle.layer_session.specs.declared.file.Layer.{Layer}
 use Rattle.layer_session.specs.Calls.{HoldsRest}
 use Rattle.layer_session.specs.Identifying.{HasIdentified, IdentifiesOver, identified}
-use Rattle.layer_session.specs.Keeping.{Covers, HasSpace, IsHeld, IsNobodys, IsPlaced, IsReadable, IsReady, IsTablePlace, Serves, area_of}
+use Rattle.layer_session.specs.Keeping.{HasSpace, IsHeld, IsPlaced, IsReadable, IsReady, IsTablePlace, Serves, area_of}
 use Rattle.layer_session.proofs.Alike.{holds_alike, layer_alike, metadata_alike, numbers_alike, places_alike, places_stay, sector_kept, sound_alike}
 use Rattle.layer_session.proofs.Committed.{IsWhole, whole_of}
 use Rattle.layer_session.proofs.Committing.{attached_same, ready_from}

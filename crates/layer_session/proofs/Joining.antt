@@ -174,16 +174,17 @@ put_none l first count h none same (Some t) = record {
     or_false false b e = e
 
 -- a step fails behind others
-pub broken_after : (l mid left : Layer) (first count a n b m : ℕ) → IsOutside first count a n → IsOutside first count b m → (old then_ new : Disk) (fault : LayerFault) → mid.tables.parts ≡ l.tables.parts → mid.log.number ≡ l.log.number
+pub broken_after : (l mid left : Layer) (first count a n b m : ℕ) → IsOutside first count a n → IsOutside first count b m → (old then_ new : Disk) (fault : LayerFault) → mid.tables.parts ≡ l.tables.parts → (mid.log.number ≡ l.log.number) × (mid.log.header ≡ l.log.header)
     → then_ ≡ record old { told = then_.told } → WhereBothTold (Moves l mid a n) old.told then_.told → IsBroken mid left b m then_ new fault → IsBroken l left first count old new fault
-broken_after l mid left first count a n b m one two old behind new fault parts number counts moves br = record {
+broken_after l mid left first count a n b m one two old behind new fault parts same counts moves br = record {
   cause = br.cause;
   written = br.written;
   fails = (fails_from l.tables.parts.file old behind new fault br.cause br.written counts (subst (λ (q : TableParts). Fails q.file behind new fault) parts br.fails));
   readable = br.readable;
   holds = rest_after l mid first count a n b m one two old.told behind.told new.told left moves br.holds;
   parts = br.parts ∙ parts;
-  number = br.number ∙ number;
+  number = br.number ∙ same.0;
+  header = br.header ∙ same.1;
 }
   where
     fails_from : (file : ℕ) (old behind new : Disk) (fault : LayerFault) (cause : StoreFault) → fault ≡ Write cause → behind ≡ record old { told = behind.told } → Fails file behind new fault → Fails file old new fault

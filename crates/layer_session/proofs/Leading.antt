@@ -225,6 +225,7 @@ module _ (l n : Layer) where
   same_planned disk r long = record {
     parts = refl;
     number = refl;
+    header = refl;
     readable = record { there = r.there; sizes = r.sizes; told = r.told };
     ready = λ w. record { readable = record { there = r.there; sizes = r.sizes; told = r.told }; one_file = w.one_file; next = w.next; most = w.most; clear = w.clear; plans = long; told = λ t told. let s = w.told t told in (s.0, serves_planned t s.0 s.1) };
     holds = λ t parts layer told h. h;

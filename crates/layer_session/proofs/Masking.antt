@@ -262,6 +262,7 @@ module _ (l mid : Layer) (first len count at : ℕ) (fits : len ≤ count) (mask
     counts = two.counts ∙ ap (λ (d : Disk). (let x : Disk = record d { told = end.told } in x)) one.counts;
     parts = two.parts ∙ one.parts;
     number = two.number ∙ one.number;
+    header = two.header ∙ one.header;
   }
 
   pub spots_broken : (left : Layer) (end : Disk) (fault : LayerFault) → IsBrokenNamed mid left rest behind end fault → IsBrokenNamed l left all old end fault
@@ -273,6 +274,7 @@ module _ (l mid : Layer) (first len count at : ℕ) (fits : len ≤ count) (mask
     holds = rest_then l mid (is_among first len) rest all both (with_bytes z first len front) agree old.told behind.told end.told put_one left br.holds;
     parts = br.parts ∙ one.parts;
     number = br.number ∙ one.number;
+    header = br.header ∙ one.header;
   }
 
 -- a range fails, of those that are named
@@ -288,6 +290,7 @@ range_broken l left first len count at mask fits set old new fault b = record {
   });
   parts = b.parts;
   number = b.number;
+  header = b.header;
 }
   where
     outside : (s : ℕ) → is_masked first count at mask s ≡ false → is_among first len s ≡ false

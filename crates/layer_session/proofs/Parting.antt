@@ -165,6 +165,7 @@ module _ (l mid : Layer) (old : Disk) (ready : IsReady l old) (word first start 
         (λ t u told then k. record { holds = λ file serves. let h = k.holds file (part_served t told file serves) in (h.0, (h.1.0, h.1.1, λ s off. h.1.2 s (none_among s))) });
     parts = b.parts ∙ m.parts;
     number = b.number ∙ ap (λ (x : Layer). x.log.number) m.only;
+    header = b.header ∙ ap (λ (x : Layer). x.log.header) m.only;
   }
 
   -- ---- its place is taken, and sectors are marked

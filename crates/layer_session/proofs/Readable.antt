@@ -252,6 +252,7 @@ module _ (l : Layer) (new : Tables) (disk : Disk) (reads : HasRead l.tables new 
   same_kept r = record {
     parts = refl;
     number = refl;
+    header = refl;
     readable = record { there = r.there; sizes = r.sizes; told = λ t told. let h = r.told t told in (h.0, (h.1.0, holds_on t h.0 h.1.0 told h.1.1)) };
     ready = λ w. record {
       readable = record { there = r.there; sizes = r.sizes; told = λ t told. let h = r.told t told in (h.0, (h.1.0, holds_on t h.0 h.1.0 told h.1.1)) };
@@ -274,6 +275,7 @@ pub same_then : (a b c : Layer) (disk : Disk) → IsSame a b disk → IsSame b c
 same_then a b c disk h k = record {
   parts = k.parts ∙ h.parts;
   number = k.number ∙ h.number;
+  header = k.header ∙ h.header;
   readable = k.readable;
   ready = λ r. k.ready (h.ready r);
   holds = λ t parts layer told x. of_a t parts layer (k.holds t parts layer told (of_b t parts layer (h.holds t parts layer told x)));
@@ -287,4 +289,4 @@ same_then a b c disk h k = record {
     of_a t parts layer = subst (λ n. IsHeld c parts layer (seen (file_of t n))) (ap (λ (p : TableParts). p.file) h.parts)
 
 pub same_self : (l : Layer) (disk : Disk) → IsReadable l disk → IsSame l l disk
-same_self l disk r = record { parts = refl; number = refl; readable = r; ready = λ w. w; holds = λ t parts layer told h. h; serves = λ t file told s. s }
+same_self l disk r = record { parts = refl; number = refl; header = refl; readable = r; ready = λ w. w; holds = λ t parts layer told h. h; serves = λ t file told s. s }

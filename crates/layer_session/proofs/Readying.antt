@@ -332,6 +332,7 @@ module _ (l : Layer) (old : Disk) (ready : IsReady l old) (plan : Plan) (first c
     holds = both_map (HoldsRest l left 0 0) (HoldsRest l left first count) old.told new.told b.holds (λ t u told after k. record { holds = λ file serves. let h = k.holds file serves in (h.0, (h.1.0, h.1.1, λ s off. h.1.2 s (none_among s))) });
     parts = b.parts;
     number = b.number;
+    header = b.header;
   }
 
   pub part_absent : plan.step ≡ MakePart → WhereTold old.told (λ t. IsAbsent p (held_by l t) first plan.bitmap)

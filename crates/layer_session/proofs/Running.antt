@@ -39,7 +39,7 @@ zeros_all z first count one other same s = by_name (is_among first count s) (sam
 
 -- ---- the block is ready
 
-module _ (l mid : Layer) (old behind new : Disk) (first count place : ℕ) (made : WhereBothTold (IsMade l mid first count place) old.told behind.told) (parts : mid.tables.parts ≡ l.tables.parts) (number : mid.log.number ≡ l.log.number)
+module _ (l mid : Layer) (old behind new : Disk) (first count place : ℕ) (made : WhereBothTold (IsMade l mid first count place) old.told behind.told) (parts : mid.tables.parts ≡ l.tables.parts) (same_log : (mid.log.number ≡ l.log.number) × (mid.log.header ≡ l.log.header))
     (counts : behind ≡ record old { told = behind.told }) where
   moves : WhereBothTold (Moves l mid first count) old.told behind.told
   moves = both_map (IsMade l mid first count place) (Moves l mid first count) old.told behind.told made (λ t u a b m. made_moves l mid first count place t u m)
@@ -58,7 +58,8 @@ module _ (l mid : Layer) (old behind new : Disk) (first count place : ℕ) (made
         ready = done.ready;
         counts = done.counts ∙ ap (λ (d : Disk). (let x : Disk = record d { told = new.told } in x)) counts;
         parts = parts;
-        number = number;
+        number = same_log.0;
+        header = same_log.1;
       }
 
   pub run_others : WhereBothTold (KeepsOthers l mid first) old.told behind.told → WhereBothTold (KeepsEntries mid mid) behind.told new.told → WhereBothTold (KeepsOthers l mid first) old.told new.told
@@ -66,7 +67,7 @@ module _ (l mid : Layer) (old behind new : Disk) (first count place : ℕ) (made
 
   pub run_broken : (fault : LayerFault) → IsBroken mid mid first count behind new fault → IsBroken l mid first count old new fault
   run_broken fault br =
-      broken_after l mid mid first count first count first count (part_outside first count first count (omega arith) (omega arith)) (part_outside first count first count (omega arith) (omega arith)) old behind new fault parts number counts moves br
+      broken_after l mid mid first count first count first count (part_outside first count first count (omega arith) (omega arith)) (part_outside first count first count (omega arith) (omega arith)) old behind new fault parts same_log counts moves br
 
 -- ---- it has no place
 

@@ -56,6 +56,7 @@ module _ (l : Layer) (first count place : ℕ) (bytes : List ℕ) (whole : lengt
         counts = ok ∙ ap (λ o. (let x : Disk = record old { told = o } in x)) (sym (ap (λ (d : Disk). d.told) ok));
         parts = refl;
         number = refl;
+        header = refl;
       }
 
   pub write_stops : (f : StoreFault) → WriteFailed l.log.file place bytes old new f → IsBroken l l first count old new (fault.Write f)
@@ -69,4 +70,5 @@ module _ (l : Layer) (first count place : ℕ) (bytes : List ℕ) (whole : lengt
         holds = b.1;
         parts = refl;
         number = refl;
+        header = refl;
       }

@@ -164,6 +164,7 @@ done_zeros l old new first count n bytes same whole all done =
       counts = d.counts;
       parts = d.parts;
       number = d.number;
+      header = d.header;
     }
 
 -- one call behind another, of whatever layers
@@ -188,10 +189,11 @@ module _ (l mid : Layer) (first len count : ℕ) (fits : len ≤ count) (f : cha
     counts = two.counts ∙ ap (λ (d : Disk). (let x : Disk = record d { told = end.told } in x)) one.counts;
     parts = two.parts ∙ one.parts;
     number = two.number ∙ one.number;
+    header = two.header ∙ one.header;
   }
 
   pub join_broken : (left : Layer) (end : Disk) (fault : LayerFault) → IsBroken mid left (first + len) (count - len) behind end fault → IsBroken l left first count old end fault
-  join_broken left end fault br = broken_after l mid left first count first len (first + len) (count - len) low_part high_part old behind end fault one.parts one.number one.counts moved br
+  join_broken left end fault br = broken_after l mid left first count first len (first + len) (count - len) low_part high_part old behind end fault one.parts (one.number, one.header) one.counts moved br
 
 -- the first of them fails
 pub broken_more : (l left : Layer) (first count a n : ℕ) → IsOutside first count a n → (old new : Disk) (fault : LayerFault) → IsBroken l left a n old new fault → IsBroken l left first count old new fault
@@ -203,6 +205,7 @@ broken_more l left first count a n out old new fault b = record {
   holds = both_map (HoldsRest l left a n) (HoldsRest l left first count) old.told new.told b.holds (λ t u x y k. record { holds = λ file serves. let h = k.holds file serves in (h.0, (h.1.0, h.1.1, λ s off. h.1.2 s (out s off))) });
   parts = b.parts;
   number = b.number;
+  header = b.header;
 }
 
 pub entries_join : (l : Layer) (a b c : Option Trace) → WhereBothTold (KeepsEntries l l) a b → WhereBothTold (KeepsEntries l l) b c → WhereBothTold (KeepsEntries l l) a c

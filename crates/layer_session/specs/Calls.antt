@@ -56,6 +56,7 @@ pub record AddsOwned (layer : chain.Layer) (z first count at : ℕ) (old_mask ne
 pub record IsSame (old new : Layer) (disk : Disk) : Type 0 where
   pub parts : new.tables.parts ≡ old.tables.parts
   pub number : new.log.number ≡ old.log.number
+  pub header : new.log.header ≡ old.log.header
   pub readable : IsReadable new disk
   pub ready : IsReady old disk → IsReady new disk
   pub holds : (trace : Trace) (parts : Parts) (layer : chain.Layer) → disk.told ≡ Some trace → IsHeld old parts layer (own_bytes old trace) → IsHeld new parts layer (own_bytes old trace)

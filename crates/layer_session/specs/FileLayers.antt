@@ -1,7 +1,8 @@
 -- Files of a chain, each in a session or only read.
-use Rattle.std.specs.Prelude.{◌≡◌, ◌≢◌, ◌<◌, ◌≤◌, ⊤, ℕ, true, is_some, List, [], ◌∷◌, Option, Some, None, IfSome, map}
+use Rattle.std.specs.Prelude.{◌≡◌, ◌≢◌, ◌≤◌, ⊤, ℕ, true, is_some, List, [], ◌∷◌, Option, Some, None, IfSome, map}
 use Rattle.std.specs.List.{AllByRecursion}
 use Rattle.vx_base.specs.declared.parts.Geometry.{Geometry}
+use Rattle.vx_base.specs.declared.parts.Header.{Header}
 use Rattle.vx_base.specs.declared.parts.Parts.{Parts}
 use Rattle.store_model.specs.Disk.{Disk, WhereBothTold}
 use Rattle.store_model.specs.File.{is_synced}
@@ -36,6 +37,11 @@ abbrev pub log_number : FileLayer → Option ℕ
 log_number (Session l) = Some l.log.number
 log_number (Read l) = None
 
+-- the header of its session, where it is in one
+abbrev pub log_header : FileLayer → Option Header
+log_header (Session l) = Some l.log.header
+log_header (Read l) = None
+
 -- a file as the chain sees it is served by its session, or read
 abbrev pub HasFile : FileLayer → Trace → Placed → Type 0
 HasFile (Session l) trace file = Serves l trace file
@@ -60,6 +66,7 @@ FileIsReady (Read l) disk = CanRead l disk
 pub record IsSameFile (old new : FileLayer) (disk : Disk) : Type 0 where
   pub parts : table_parts new ≡ table_parts old
   pub number : log_number new ≡ log_number old
+  pub header : log_header new ≡ log_header old
   pub readable : FileCanBeRead new disk
   pub ready : FileIsReady old disk → FileIsReady new disk
   pub holds : (trace : Trace) (layer : chain.Layer) → disk.told ≡ Some trace → Holds old trace layer → Holds new trace layer

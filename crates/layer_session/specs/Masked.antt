@@ -90,6 +90,7 @@ pub record IsDoneNamed (old new : Layer) (named : ℕ → Bool) (change : chain.
   pub counts : after ≡ record before { told = after.told }
   pub parts : new.tables.parts ≡ old.tables.parts
   pub number : new.log.number ≡ old.log.number
+  pub header : new.log.header ≡ old.log.header
 
 -- A change of the file failed: the layer is read on, and outside the named sectors it holds what it held.
 pub record IsBrokenNamed (old new : Layer) (named : ℕ → Bool) (before after : Disk) (fault : LayerFault) : Type 0 where
@@ -100,3 +101,4 @@ pub record IsBrokenNamed (old new : Layer) (named : ℕ → Bool) (before after 
   pub holds : WhereBothTold (HoldsUnnamed old new named) before.told after.told
   pub parts : new.tables.parts ≡ old.tables.parts
   pub number : new.log.number ≡ old.log.number
+  pub header : new.log.header ≡ old.log.header

@@ -71,6 +71,7 @@ pub record IsDone (old new : Layer) (first count : ℕ) (change : chain.Layer �
   pub counts : after ≡ record before { told = after.told }
   pub parts : new.tables.parts ≡ old.tables.parts
   pub number : new.log.number ≡ old.log.number
+  pub header : new.log.header ≡ old.log.header
 
 -- A change of the file failed: nothing else stops it. The layer is read on, and outside these sectors it holds what it held.
 pub record IsBroken (old new : Layer) (first count : ℕ) (before after : Disk) (fault : LayerFault) : Type 0 where
@@ -81,6 +82,7 @@ pub record IsBroken (old new : Layer) (first count : ℕ) (before after : Disk) 
   pub holds : WhereBothTold (HoldsRest old new first count) before.told after.told
   pub parts : new.tables.parts ≡ old.tables.parts
   pub number : new.log.number ≡ old.log.number
+  pub header : new.log.header ≡ old.log.header
 
 -- ---- a place for a block
 

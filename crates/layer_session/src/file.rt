@@ -7,7 +7,7 @@ ghost use Rattle.vx_base.specs.Fields.{zeros};
 ghost use Rattle.vx_base.specs.declared.parts.Parts as declared;
 ghost use Rattle.vhdx_format.specs.Fields.{megabyte};
 ghost use Rattle.vhdx_format.specs.FileParts.{HasNumbers};
-ghost use Rattle.log_write.specs.Writing.{BeginFails, CanCommit};
+ghost use Rattle.log_write.specs.Writing.{BeginFails, CanCommit, session_header};
 ghost use Rattle.table_pages.specs.Held.{IsNew, shape_of};
 ghost use Rattle.block_alloc.specs.Spaces as spaces;
 ghost use Rattle.chain_model.specs.Layers as chain;
@@ -117,6 +117,7 @@ impl Layer {
         ensures served { IfOk result (λ l. WhereBothTold (HasBegun parts.now ids file l) (S.disk store.old).told (S.disk store.new).told) }
         ensures ready { IfOk result (λ l. IsReady l (S.disk store.new)) }
         ensures parts { IfOk result (λ l. IsOf parts.now file l) }
+        ensures header { IfOk result (λ l. l.log.header ≡ session_header parts.now.header ids) }
         ensures empty { IfOk result (λ l. l.tables.pending ≡ []) }
         ensures counts { OnOk result (S.disk store.new ≡ record (S.disk store.old) { told = (S.disk store.new).told }) }
         ensures err { IfErr result (BeginFails file (S.disk store.old) (S.disk store.new)) }
@@ -171,6 +172,7 @@ impl Layer {
         ensures ready { OnOk result (IsReady self.new (S.disk store.new)) }
         ensures empty { OnOk result (self.new.tables.pending ≡ []) }
         ensures number { self.new.log.number ≤ self.old.log.number + 1 }
+        ensures header { self.new.log.header ≡ self.old.log.header }
         ensures parts { self.new.tables.parts ≡ self.old.tables.parts }
         ensures leave { self.new.leave ≡ self.old.leave }
         ensures plans { self.new.plans ≡ self.old.plans }

@@ -1,6 +1,6 @@
 //! A file of a chain, in a session or only read.
 
-ghost use Rattle.std.specs.Prelude.{◌≡◌, ◌+◌, ◌-◌, ◌*◌, ◌^◌, ◌<◌, ◌≤◌, ℕ, List, length, Contains, IfErr, OnOk, OnErr, None, Ok, is_some};
+ghost use Rattle.std.specs.Prelude.{◌≡◌, ◌+◌, ◌-◌, ◌*◌, ◌^◌, ◌<◌, ◌≤◌, ℕ, List, length, Contains, IfErr, OnOk, OnErr, None, Ok, is_some, map};
 ghost use Rattle.store_model.specs.Disk.{ReadFailed, WhereTold, WhereBothTold};
 ghost use Rattle.store_model.specs.Plans.{FailsToChange};
 ghost use Rattle.log_format.specs.PendingPages.{HasOnePageEach};
@@ -10,7 +10,7 @@ ghost use Rattle.chain_model.specs.Layers.{through};
 ghost use Rattle.chain_model.specs.Members.{layers_of};
 ghost use Rattle.layer_session.specs.Calls.{AddsOwned};
 ghost use Rattle.layer_session.specs.ReadOnly.{SomeReadFailed};
-ghost use Rattle.layer_session.specs.FileLayers.{AreReadableFiles, AreSameFiles, FileCanBeRead, FileIsReady, FileLayersStand, HaveFiles, HaveSameNumbers, HasFile, Hold, Holds, IsSameFile, OthersStand, file_numbers, log_number, number_of, table_parts};
+ghost use Rattle.layer_session.specs.FileLayers.{AreReadableFiles, AreSameFiles, FileCanBeRead, FileIsReady, FileLayersStand, HaveFiles, HaveSameNumbers, HasFile, Hold, Holds, IsSameFile, OthersStand, file_numbers, log_header, log_number, number_of, table_parts};
 ghost use Rattle.layer_session.specs.FileLayers.{FileHasCommitted, FileHasEnded, FileHasUpdated, FileHoldsStill, FileKeepsOver, FileTurns, FileUpdatesOver, HasSession, IsNumbered, WaitsForNone};
 
 use crate::file::Layer;
@@ -79,6 +79,7 @@ impl FileLayer {
         ensures ready { OnOk result (FileIsReady self.new (S.disk store.new)) }
         ensures empty { OnOk result (WaitsForNone self.new) }
         ensures number { (most : ℕ) → IsNumbered most self.old → IsNumbered (most + 1) self.new }
+        ensures header { log_header self.new ≡ log_header self.old }
         ensures session { is_some (log_number self.new) ≡ is_some (log_number self.old) }
         ensures parts { table_parts self.new ≡ table_parts self.old }
         ensures readable { OnErr result (FileCanBeRead self.new (S.disk store.new)) }
@@ -109,6 +110,7 @@ impl FileLayer {
         ensures ready { OnOk result (FileIsReady self.new (S.disk store.new)) }
         ensures empty { OnOk result (WaitsForNone self.new) }
         ensures number { (most : ℕ) → IsNumbered most self.old → IsNumbered (most + 1) self.new }
+        ensures header { log_header self.new ≡ log_header self.old }
         ensures session { HasSession self.new }
         ensures parts { table_parts self.new ≡ table_parts self.old }
         ensures readable { OnErr result (FileCanBeRead self.new (S.disk store.new)) }
@@ -161,6 +163,7 @@ pub fn own_files<S: Store>(
     ensures owned { OnOk result ((files : List Placed) → WhereTold (S.disk store.old).told (λ trace. HaveFiles layers.old trace files → AddsOwned (through (layers_of (members_of files))) geometry.sector first count at mask.old mask.new out.old out.new)) }
     ensures same { AreSameFiles geometry layers.old layers.new (S.disk store.old) }
     ensures numbers { HaveSameNumbers layers.old layers.new }
+    ensures headers { map log_header layers.new ≡ map log_header layers.old }
     ensures stays { OnOk result (S.disk store.new ≡ S.disk store.old) }
     ensures err { IfErr result (SomeReadFailed (S.disk store.old) (S.disk store.new)) }
     ensures whose { IfErr result (λ fault. Contains (file_numbers layers.old) fault.file) }

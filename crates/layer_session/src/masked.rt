@@ -90,6 +90,7 @@ impl Layer {
         ensures ready { OnOk result (IsReady self.new (S.disk store.new)) }
         ensures parts { OnOk result (self.new.tables.parts ≡ self.old.tables.parts) }
         ensures number { OnOk result (self.new.log.number ≡ self.old.log.number) }
+        ensures header { OnOk result (self.new.log.header ≡ self.old.log.header) }
         ensures counts { OnOk result (S.disk store.new ≡ record (S.disk store.old) { told = (S.disk store.new).told }) }
         ensures broken { IfErr result (IsBroken self.old self.new 0 0 (S.disk store.old) (S.disk store.new)) }
     {
@@ -239,6 +240,7 @@ impl Layer {
         ensures parts { self.new.tables.parts ≡ self.old.tables.parts }
         // It commits once at most.
         ensures number { self.new.log.number ≤ self.old.log.number + 1 }
+        ensures header { self.new.log.header ≡ self.old.log.header }
         ensures counts { OnOk result (S.disk store.new ≡ record (S.disk store.old) { told = (S.disk store.new).told }) }
         ensures err { IfErr result (Fails self.old.tables.parts.file (S.disk store.old) (S.disk store.new)) }
         // Where the mask names none, nothing is done.

@@ -395,6 +395,7 @@ impl Layer {
         ensures says { OnOk result (WhereBothTold (λ before after. SaysAllSame (shape_of self.old.tables.parts) (held_by self.old before) (held_by self.new after)) (S.disk store.old).told (S.disk store.new).told) }
         ensures fits { OnOk result ((payloads units bitmaps : ℕ) → spaces.fits_in payloads units bitmaps self.old.space ≡ true → spaces.fits_in payloads units bitmaps self.new.space ≡ true) }
         ensures number { self.new.log.number ≤ self.old.log.number + 1 }
+        ensures header { self.new.log.header ≡ self.old.log.header }
     {
         if self.tables.room_for(pages) {
             return Ok(());
@@ -428,6 +429,7 @@ impl Layer {
         ensures space { OnOk result (self.new.space ≡ spaces.grown 1 self.old.space) }
         ensures plans { self.new.plans ≡ self.old.plans }
         ensures number { self.new.log.number ≡ self.old.log.number }
+        ensures header { self.new.log.header ≡ self.old.log.header }
         ensures keeps { (at : ℕ) → has_place at self.old.tables.pending ≡ true → has_place at self.new.tables.pending ≡ true }
         ensures few { length self.new.tables.pending ≤ length self.old.tables.pending + 1 + bit_pages (bits.first % 2 ^ 23) (bits.end - bits.first) }
         ensures at_hand { IfOk result (λ word. AreChanged (word / 2 ^ 20 * megabyte) (bits.first % 2 ^ 23 / 32768) (bit_pages (bits.first % 2 ^ 23) (bits.end - bits.first)) self.new.tables.pending) }
@@ -475,6 +477,7 @@ impl Layer {
         ensures leads { Leads self.old self.new (S.disk store.old) (S.disk store.new) result }
         ensures refused { OnRefused result ⊥ }
         ensures number { self.new.log.number ≡ self.old.log.number }
+        ensures header { self.new.log.header ≡ self.old.log.header }
         ensures space { OnOk result ((self.new.space ≡ self.old.space) ⊎ ((missing ≡ true) × (self.new.space ≡ spaces.grown 1 self.old.space))) }
         ensures keeps { (at : ℕ) → has_place at self.old.tables.pending ≡ true → has_place at self.new.tables.pending ≡ true }
         ensures pages { length self.new.tables.pending ≤ length self.old.tables.pending + (if missing then 1 + spec.most_bit_pages (shape_of self.old.tables.parts) count else 0) }
@@ -560,6 +563,7 @@ impl Layer {
         ensures leads { Leads self.old self.new (S.disk store.old) (S.disk store.new) result }
         ensures never { (next : ℕ) → result ≡ Err (LayerFault.FileFull next) → ⊥ }
         ensures number { self.new.log.number ≤ self.old.log.number + 1 }
+        ensures header { self.new.log.header ≡ self.old.log.header }
         ensures prepared { OnOk result (IsPrepared self.new 0 first count) }
         ensures wants { (trims : Bool) → OnOk result (WhereBothTold (λ before after. ArePlanned (shape_of self.old.tables.parts) (held_by self.old before) trims self.old.plans.items 0 first count → Wants self.new 0 first count trims after) (S.disk store.old).told (S.disk store.new).told) }
     {
@@ -596,6 +600,7 @@ impl Layer {
         ensures leave { self.new.leave ≡ self.old.leave }
         // It commits once at most.
         ensures number { self.new.log.number ≤ self.old.log.number + 1 }
+        ensures header { self.new.log.header ≡ self.old.log.header }
         ensures counts { OnOk result (S.disk store.new ≡ record (S.disk store.old) { told = (S.disk store.new).told }) }
         ensures err { IfErr result (Fails self.old.tables.parts.file (S.disk store.old) (S.disk store.new)) }
         // Refused for want of room exactly where there is none.

@@ -30,6 +30,7 @@ impl Layer {
         ensures ready { OnOk result (IsReady self.new (S.disk store.new)) }
         ensures empty { OnOk result (self.new.tables.pending ≡ []) }
         ensures number { self.new.log.number ≤ self.old.log.number + 1 }
+        ensures header { self.new.log.header ≡ self.old.log.header }
         ensures parts { self.new.tables.parts ≡ self.old.tables.parts }
         ensures leave { self.new.leave ≡ self.old.leave }
         ensures plans { self.new.plans ≡ self.old.plans }

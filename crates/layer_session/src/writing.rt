@@ -42,6 +42,7 @@ impl Layer {
         ensures parts { self.new.tables.parts ≡ self.old.tables.parts }
         // It commits once at most.
         ensures number { self.new.log.number ≤ self.old.log.number + 1 }
+        ensures header { self.new.log.header ≡ self.old.log.header }
         ensures counts { OnOk result (S.disk store.new ≡ record (S.disk store.old) { told = (S.disk store.new).told }) }
         ensures err { IfErr result (Fails self.old.tables.parts.file (S.disk store.old) (S.disk store.new)) }
         // Refused for want of room exactly where there is none.
@@ -76,6 +77,7 @@ impl Layer {
         ensures parts { self.new.tables.parts ≡ self.old.tables.parts }
         // It commits once at most.
         ensures number { self.new.log.number ≤ self.old.log.number + 1 }
+        ensures header { self.new.log.header ≡ self.old.log.header }
         ensures counts { OnOk result (S.disk store.new ≡ record (S.disk store.old) { told = (S.disk store.new).told }) }
         ensures err { IfErr result (Fails self.old.tables.parts.file (S.disk store.old) (S.disk store.new)) }
         // Refused for want of room exactly where there is none.

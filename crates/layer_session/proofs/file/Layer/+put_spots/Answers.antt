@@ -28,6 +28,7 @@ returns-then-count-eq0-clause-done g t c =
       counts = refl;
       parts = refl;
       number = refl;
+      header = refl;
     }
 
 pub put_spots-requires : goal.put_spots-requires

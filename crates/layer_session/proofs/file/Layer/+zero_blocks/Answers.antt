@@ -20,7 +20,7 @@ returns-then-count-eq0-clause-moments g t c =
 
 pub returns-then-count-eq0-clause-done : goal.returns-then-count-eq0-clause-done
 returns-then-count-eq0-clause-done g t c =
-    record { put = put_none c.args.self.now c.args.first c.args.count (with_zeros c.args.self.now.tables.parts.sector c.args.first c.args.count) c.if-count-eq0.true (zeros_nobody c.args.self.now.tables.parts.sector c.args.first c.args.count c.if-count-eq0.true) (g.S.Store.disk c.args.store.now).told; ready = c.requires.ready; counts = refl; parts = refl; number = refl }
+    record { put = put_none c.args.self.now c.args.first c.args.count (with_zeros c.args.self.now.tables.parts.sector c.args.first c.args.count) c.if-count-eq0.true (zeros_nobody c.args.self.now.tables.parts.sector c.args.first c.args.count c.if-count-eq0.true) (g.S.Store.disk c.args.store.now).told; ready = c.requires.ready; counts = refl; parts = refl; number = refl; header = refl }
 
 pub index-plan-requires : goal.index-plan-requires
 index-plan-requires g t c =

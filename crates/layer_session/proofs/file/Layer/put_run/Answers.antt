@@ -33,25 +33,25 @@ pub returns-in-Some-clause-moments : goal.returns-in-Some-clause-moments
 returns-in-Some-clause-moments g c =
     let made : WhereBothTold (IsMade c.args.self.now c.make_ready.new.self c.args.first c.args.count c.in-Some.place) (g.S.Store.disk c.args.store.now).told (g.S.Store.disk c.make_ready.new.store).told = subst (λ (o : Option ℕ). WhereBothTold (IsReadied c.args.self.now c.make_ready.new.self c.args.first c.args.count o) (g.S.Store.disk c.args.store.now).told (g.S.Store.disk c.make_ready.new.store).told) c.in-Some.is c.in_ok-place.ensures.made in
     let n = sectors_of c.args.self.now c.make_ready.new.self c.args.count c.args.bytes.now c.in_ok-place.ensures.leaves.parts c.requires.ready.readable.sizes.sector c.requires.whole in
-    run_moments c.args.self.now c.make_ready.new.self (g.S.Store.disk c.args.store.now) (g.S.Store.disk c.make_ready.new.store) (g.S.Store.disk c.write.new.store) c.args.first c.args.count c.in-Some.place made c.in_ok-place.ensures.leaves.parts (ap (λ (x : LogState). x.number) c.in_ok-place.ensures.leaves.log) c.in_ok-place.ensures.counts c.make_ready.ensures.moments (subst (λ k. WhereBothTold (PutsInto c.make_ready.new.self c.args.first k) (g.S.Store.disk c.make_ready.new.store).told (g.S.Store.disk c.write.new.store).told) n c.write.ensures.moments)
+    run_moments c.args.self.now c.make_ready.new.self (g.S.Store.disk c.args.store.now) (g.S.Store.disk c.make_ready.new.store) (g.S.Store.disk c.write.new.store) c.args.first c.args.count c.in-Some.place made c.in_ok-place.ensures.leaves.parts (ap (λ (x : LogState). x.number) c.in_ok-place.ensures.leaves.log, ap (λ (x : LogState). x.header) c.in_ok-place.ensures.leaves.log) c.in_ok-place.ensures.counts c.make_ready.ensures.moments (subst (λ k. WhereBothTold (PutsInto c.make_ready.new.self c.args.first k) (g.S.Store.disk c.make_ready.new.store).told (g.S.Store.disk c.write.new.store).told) n c.write.ensures.moments)
 
 pub returns-in-Some-clause-done : goal.returns-in-Some-clause-done
 returns-in-Some-clause-done g c =
     let made : WhereBothTold (IsMade c.args.self.now c.make_ready.new.self c.args.first c.args.count c.in-Some.place) (g.S.Store.disk c.args.store.now).told (g.S.Store.disk c.make_ready.new.store).told = subst (λ (o : Option ℕ). WhereBothTold (IsReadied c.args.self.now c.make_ready.new.self c.args.first c.args.count o) (g.S.Store.disk c.args.store.now).told (g.S.Store.disk c.make_ready.new.store).told) c.in-Some.is c.in_ok-place.ensures.made in
     let n = sectors_of c.args.self.now c.make_ready.new.self c.args.count c.args.bytes.now c.in_ok-place.ensures.leaves.parts c.requires.ready.readable.sizes.sector c.requires.whole in
     ok_map c.write.result _ _ (subst (λ k. OnOk c.write.result (IsDone c.make_ready.new.self c.make_ready.new.self c.args.first k (with_bytes c.make_ready.new.self.tables.parts.sector c.args.first k c.args.bytes.now) (g.S.Store.disk c.make_ready.new.store) (g.S.Store.disk c.write.new.store))) n c.write.ensures.done)
-    (run_done c.args.self.now c.make_ready.new.self (g.S.Store.disk c.args.store.now) (g.S.Store.disk c.make_ready.new.store) (g.S.Store.disk c.write.new.store) c.args.first c.args.count c.in-Some.place made c.in_ok-place.ensures.leaves.parts (ap (λ (x : LogState). x.number) c.in_ok-place.ensures.leaves.log) c.in_ok-place.ensures.counts (λ z. with_bytes z c.args.first c.args.count c.args.bytes.now) (λ z. bytes_all z c.args.first c.args.count c.args.bytes.now))
+    (run_done c.args.self.now c.make_ready.new.self (g.S.Store.disk c.args.store.now) (g.S.Store.disk c.make_ready.new.store) (g.S.Store.disk c.write.new.store) c.args.first c.args.count c.in-Some.place made c.in_ok-place.ensures.leaves.parts (ap (λ (x : LogState). x.number) c.in_ok-place.ensures.leaves.log, ap (λ (x : LogState). x.header) c.in_ok-place.ensures.leaves.log) c.in_ok-place.ensures.counts (λ z. with_bytes z c.args.first c.args.count c.args.bytes.now) (λ z. bytes_all z c.args.first c.args.count c.args.bytes.now))
 
 pub returns-in-Some-clause-others : goal.returns-in-Some-clause-others
 returns-in-Some-clause-others g c =
     let made : WhereBothTold (IsMade c.args.self.now c.make_ready.new.self c.args.first c.args.count c.in-Some.place) (g.S.Store.disk c.args.store.now).told (g.S.Store.disk c.make_ready.new.store).told = subst (λ (o : Option ℕ). WhereBothTold (IsReadied c.args.self.now c.make_ready.new.self c.args.first c.args.count o) (g.S.Store.disk c.args.store.now).told (g.S.Store.disk c.make_ready.new.store).told) c.in-Some.is c.in_ok-place.ensures.made in
-    ok_map c.write.result _ _ c.write.ensures.same (run_others c.args.self.now c.make_ready.new.self (g.S.Store.disk c.args.store.now) (g.S.Store.disk c.make_ready.new.store) (g.S.Store.disk c.write.new.store) c.args.first c.args.count c.in-Some.place made c.in_ok-place.ensures.leaves.parts (ap (λ (x : LogState). x.number) c.in_ok-place.ensures.leaves.log) c.in_ok-place.ensures.counts c.in_ok-place.ensures.others)
+    ok_map c.write.result _ _ c.write.ensures.same (run_others c.args.self.now c.make_ready.new.self (g.S.Store.disk c.args.store.now) (g.S.Store.disk c.make_ready.new.store) (g.S.Store.disk c.write.new.store) c.args.first c.args.count c.in-Some.place made c.in_ok-place.ensures.leaves.parts (ap (λ (x : LogState). x.number) c.in_ok-place.ensures.leaves.log, ap (λ (x : LogState). x.header) c.in_ok-place.ensures.leaves.log) c.in_ok-place.ensures.counts c.in_ok-place.ensures.others)
 
 pub returns-in-Some-clause-broken : goal.returns-in-Some-clause-broken
 returns-in-Some-clause-broken g c =
     let made : WhereBothTold (IsMade c.args.self.now c.make_ready.new.self c.args.first c.args.count c.in-Some.place) (g.S.Store.disk c.args.store.now).told (g.S.Store.disk c.make_ready.new.store).told = subst (λ (o : Option ℕ). WhereBothTold (IsReadied c.args.self.now c.make_ready.new.self c.args.first c.args.count o) (g.S.Store.disk c.args.store.now).told (g.S.Store.disk c.make_ready.new.store).told) c.in-Some.is c.in_ok-place.ensures.made in
     let n = sectors_of c.args.self.now c.make_ready.new.self c.args.count c.args.bytes.now c.in_ok-place.ensures.leaves.parts c.requires.ready.readable.sizes.sector c.requires.whole in
-    if_err_map c.write.result _ _ (subst (λ k. IfErr c.write.result (IsBroken c.make_ready.new.self c.make_ready.new.self c.args.first k (g.S.Store.disk c.make_ready.new.store) (g.S.Store.disk c.write.new.store))) n c.write.ensures.broken) (run_broken c.args.self.now c.make_ready.new.self (g.S.Store.disk c.args.store.now) (g.S.Store.disk c.make_ready.new.store) (g.S.Store.disk c.write.new.store) c.args.first c.args.count c.in-Some.place made c.in_ok-place.ensures.leaves.parts (ap (λ (x : LogState). x.number) c.in_ok-place.ensures.leaves.log) c.in_ok-place.ensures.counts)
+    if_err_map c.write.result _ _ (subst (λ k. IfErr c.write.result (IsBroken c.make_ready.new.self c.make_ready.new.self c.args.first k (g.S.Store.disk c.make_ready.new.store) (g.S.Store.disk c.write.new.store))) n c.write.ensures.broken) (run_broken c.args.self.now c.make_ready.new.self (g.S.Store.disk c.args.store.now) (g.S.Store.disk c.make_ready.new.store) (g.S.Store.disk c.write.new.store) c.args.first c.args.count c.in-Some.place made c.in_ok-place.ensures.leaves.parts (ap (λ (x : LogState). x.number) c.in_ok-place.ensures.leaves.log, ap (λ (x : LogState). x.header) c.in_ok-place.ensures.leaves.log) c.in_ok-place.ensures.counts)
 
 pub returns-in-None-clause-done : goal.returns-in-None-clause-done
 returns-in-None-clause-done g c = record {
@@ -62,4 +62,5 @@ returns-in-None-clause-done g c = record {
   counts = c.in_ok-place.ensures.counts;
   parts = c.in_ok-place.ensures.leaves.parts;
   number = ap (λ (x : LogState). x.number) c.in_ok-place.ensures.leaves.log;
+  header = ap (λ (x : LogState). x.header) c.in_ok-place.ensures.leaves.log;
 }

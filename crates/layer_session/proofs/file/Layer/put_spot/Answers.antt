@@ -40,7 +40,7 @@ returns-clause-moments g c =
     let marks : c.args.spot.marks ≡ true = search rules in
     let made = spot_made c.args.self.now (g.S.Store.disk c.args.store.now) c.requires.ready c.args.spot c.args.first c.args.count c.requires.some c.requires.on_disk c.requires.run c.requires.spot marks c.mark.new.self m (search rules) in
     let n = sectors_of c.args.self.now c.mark.new.self c.args.count c.args.bytes.now c.mark.ensures.parts c.requires.ready.readable.sizes.sector c.requires.whole in
-    run_moments c.args.self.now c.mark.new.self (g.S.Store.disk c.args.store.now) (g.S.Store.disk c.args.store.now) (g.S.Store.disk c.write-2.new.store) c.args.first c.args.count c.args.spot.place made c.mark.ensures.parts (ap (λ (x : Layer). x.log.number) c.mark.ensures.only) refl
+    run_moments c.args.self.now c.mark.new.self (g.S.Store.disk c.args.store.now) (g.S.Store.disk c.args.store.now) (g.S.Store.disk c.write-2.new.store) c.args.first c.args.count c.args.spot.place made c.mark.ensures.parts (ap (λ (x : Layer). x.log.number) c.mark.ensures.only, ap (λ (x : Layer). x.log.header) c.mark.ensures.only) refl
     (quiet_now c.args.self.now (g.S.Store.disk c.args.store.now).told) (subst (λ k. WhereBothTold (PutsInto c.mark.new.self c.args.first k) (g.S.Store.disk c.args.store.now).told (g.S.Store.disk c.write-2.new.store).told) n c.write-2.ensures.moments)
 
 pub returns-clause-done : goal.returns-clause-done
@@ -51,7 +51,7 @@ returns-clause-done g c =
     let made = spot_made c.args.self.now (g.S.Store.disk c.args.store.now) c.requires.ready c.args.spot c.args.first c.args.count c.requires.some c.requires.on_disk c.requires.run c.requires.spot marks c.mark.new.self m (search rules) in
     let n = sectors_of c.args.self.now c.mark.new.self c.args.count c.args.bytes.now c.mark.ensures.parts c.requires.ready.readable.sizes.sector c.requires.whole in
     ok_map c.write-2.result _ _ (subst (λ k. OnOk c.write-2.result (IsDone c.mark.new.self c.mark.new.self c.args.first k (with_bytes c.mark.new.self.tables.parts.sector c.args.first k c.args.bytes.now) (g.S.Store.disk c.args.store.now) (g.S.Store.disk c.write-2.new.store))) n c.write-2.ensures.done)
-    (run_done c.args.self.now c.mark.new.self (g.S.Store.disk c.args.store.now) (g.S.Store.disk c.args.store.now) (g.S.Store.disk c.write-2.new.store) c.args.first c.args.count c.args.spot.place made c.mark.ensures.parts (ap (λ (x : Layer). x.log.number) c.mark.ensures.only) refl
+    (run_done c.args.self.now c.mark.new.self (g.S.Store.disk c.args.store.now) (g.S.Store.disk c.args.store.now) (g.S.Store.disk c.write-2.new.store) c.args.first c.args.count c.args.spot.place made c.mark.ensures.parts (ap (λ (x : Layer). x.log.number) c.mark.ensures.only, ap (λ (x : Layer). x.log.header) c.mark.ensures.only) refl
     (λ z. with_bytes z c.args.first c.args.count c.args.bytes.now) (λ z. bytes_all z c.args.first c.args.count c.args.bytes.now))
 
 pub returns-clause-spots : goal.returns-clause-spots
@@ -74,4 +74,4 @@ returns-clause-broken g c =
     let made = spot_made c.args.self.now (g.S.Store.disk c.args.store.now) c.requires.ready c.args.spot c.args.first c.args.count c.requires.some c.requires.on_disk c.requires.run c.requires.spot marks c.mark.new.self m (search rules) in
     let n = sectors_of c.args.self.now c.mark.new.self c.args.count c.args.bytes.now c.mark.ensures.parts c.requires.ready.readable.sizes.sector c.requires.whole in
     if_err_map c.write-2.result _ _ (subst (λ k. IfErr c.write-2.result (IsBroken c.mark.new.self c.mark.new.self c.args.first k (g.S.Store.disk c.args.store.now) (g.S.Store.disk c.write-2.new.store))) n c.write-2.ensures.broken)
-    (run_broken c.args.self.now c.mark.new.self (g.S.Store.disk c.args.store.now) (g.S.Store.disk c.args.store.now) (g.S.Store.disk c.write-2.new.store) c.args.first c.args.count c.args.spot.place made c.mark.ensures.parts (ap (λ (x : Layer). x.log.number) c.mark.ensures.only) refl)
+    (run_broken c.args.self.now c.mark.new.self (g.S.Store.disk c.args.store.now) (g.S.Store.disk c.args.store.now) (g.S.Store.disk c.write-2.new.store) c.args.first c.args.count c.args.spot.place made c.mark.ensures.parts (ap (λ (x : Layer). x.log.number) c.mark.ensures.only, ap (λ (x : Layer). x.log.header) c.mark.ensures.only) refl)

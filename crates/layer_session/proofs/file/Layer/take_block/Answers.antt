@@ -68,4 +68,5 @@ returns-in-Err-write_zeros-clause-broken g c =
       holds = left_holds c.args.self.now (g.S.Store.disk c.args.store.now) (g.S.Store.disk c.write_zeros.new.store) c.requires.ready c.block_units-units.result c.in-Ok.unit c.block_units-units.ensures.is c.block_units-units.ensures.some c.take.new.self from c.place_in-end.result (omega arith) (omega arith) c.place_in.result (omega arith) c.from-bytes.result c.from-bytes.ensures c.in-Err-write_zeros.ensures.broken.1;
       parts = refl;
       number = refl;
+      header = refl;
     }

@@ -29,22 +29,22 @@ zero_run-requires-clause-stand g c some =
 pub returns-in-Some-clause-moments : goal.returns-in-Some-clause-moments
 returns-in-Some-clause-moments g c =
     let made : WhereBothTold (IsMade c.args.self.now c.make_ready.new.self c.args.first c.args.count c.in-Some.place) (g.S.Store.disk c.args.store.now).told (g.S.Store.disk c.make_ready.new.store).told = subst (λ (o : Option ℕ). WhereBothTold (IsReadied c.args.self.now c.make_ready.new.self c.args.first c.args.count o) (g.S.Store.disk c.args.store.now).told (g.S.Store.disk c.make_ready.new.store).told) c.in-Some.is c.in_ok-place.ensures.made in
-    run_moments c.args.self.now c.make_ready.new.self (g.S.Store.disk c.args.store.now) (g.S.Store.disk c.make_ready.new.store) (g.S.Store.disk c.zero_run.new.store) c.args.first c.args.count c.in-Some.place made c.in_ok-place.ensures.leaves.parts (ap (λ (x : LogState). x.number) c.in_ok-place.ensures.leaves.log) c.in_ok-place.ensures.counts c.make_ready.ensures.moments c.zero_run.ensures.moments
+    run_moments c.args.self.now c.make_ready.new.self (g.S.Store.disk c.args.store.now) (g.S.Store.disk c.make_ready.new.store) (g.S.Store.disk c.zero_run.new.store) c.args.first c.args.count c.in-Some.place made c.in_ok-place.ensures.leaves.parts (ap (λ (x : LogState). x.number) c.in_ok-place.ensures.leaves.log, ap (λ (x : LogState). x.header) c.in_ok-place.ensures.leaves.log) c.in_ok-place.ensures.counts c.make_ready.ensures.moments c.zero_run.ensures.moments
 
 pub returns-in-Some-clause-done : goal.returns-in-Some-clause-done
 returns-in-Some-clause-done g c =
     let made : WhereBothTold (IsMade c.args.self.now c.make_ready.new.self c.args.first c.args.count c.in-Some.place) (g.S.Store.disk c.args.store.now).told (g.S.Store.disk c.make_ready.new.store).told = subst (λ (o : Option ℕ). WhereBothTold (IsReadied c.args.self.now c.make_ready.new.self c.args.first c.args.count o) (g.S.Store.disk c.args.store.now).told (g.S.Store.disk c.make_ready.new.store).told) c.in-Some.is c.in_ok-place.ensures.made in
-    ok_map c.zero_run.result _ _ c.zero_run.ensures.done (run_done c.args.self.now c.make_ready.new.self (g.S.Store.disk c.args.store.now) (g.S.Store.disk c.make_ready.new.store) (g.S.Store.disk c.zero_run.new.store) c.args.first c.args.count c.in-Some.place made c.in_ok-place.ensures.leaves.parts (ap (λ (x : LogState). x.number) c.in_ok-place.ensures.leaves.log) c.in_ok-place.ensures.counts (λ z. with_zeros z c.args.first c.args.count) (λ z. zeros_all z c.args.first c.args.count))
+    ok_map c.zero_run.result _ _ c.zero_run.ensures.done (run_done c.args.self.now c.make_ready.new.self (g.S.Store.disk c.args.store.now) (g.S.Store.disk c.make_ready.new.store) (g.S.Store.disk c.zero_run.new.store) c.args.first c.args.count c.in-Some.place made c.in_ok-place.ensures.leaves.parts (ap (λ (x : LogState). x.number) c.in_ok-place.ensures.leaves.log, ap (λ (x : LogState). x.header) c.in_ok-place.ensures.leaves.log) c.in_ok-place.ensures.counts (λ z. with_zeros z c.args.first c.args.count) (λ z. zeros_all z c.args.first c.args.count))
 
 pub returns-in-Some-clause-others : goal.returns-in-Some-clause-others
 returns-in-Some-clause-others g c =
     let made : WhereBothTold (IsMade c.args.self.now c.make_ready.new.self c.args.first c.args.count c.in-Some.place) (g.S.Store.disk c.args.store.now).told (g.S.Store.disk c.make_ready.new.store).told = subst (λ (o : Option ℕ). WhereBothTold (IsReadied c.args.self.now c.make_ready.new.self c.args.first c.args.count o) (g.S.Store.disk c.args.store.now).told (g.S.Store.disk c.make_ready.new.store).told) c.in-Some.is c.in_ok-place.ensures.made in
-    ok_map c.zero_run.result _ _ c.zero_run.ensures.same (run_others c.args.self.now c.make_ready.new.self (g.S.Store.disk c.args.store.now) (g.S.Store.disk c.make_ready.new.store) (g.S.Store.disk c.zero_run.new.store) c.args.first c.args.count c.in-Some.place made c.in_ok-place.ensures.leaves.parts (ap (λ (x : LogState). x.number) c.in_ok-place.ensures.leaves.log) c.in_ok-place.ensures.counts c.in_ok-place.ensures.others)
+    ok_map c.zero_run.result _ _ c.zero_run.ensures.same (run_others c.args.self.now c.make_ready.new.self (g.S.Store.disk c.args.store.now) (g.S.Store.disk c.make_ready.new.store) (g.S.Store.disk c.zero_run.new.store) c.args.first c.args.count c.in-Some.place made c.in_ok-place.ensures.leaves.parts (ap (λ (x : LogState). x.number) c.in_ok-place.ensures.leaves.log, ap (λ (x : LogState). x.header) c.in_ok-place.ensures.leaves.log) c.in_ok-place.ensures.counts c.in_ok-place.ensures.others)
 
 pub returns-in-Some-clause-broken : goal.returns-in-Some-clause-broken
 returns-in-Some-clause-broken g c =
     let made : WhereBothTold (IsMade c.args.self.now c.make_ready.new.self c.args.first c.args.count c.in-Some.place) (g.S.Store.disk c.args.store.now).told (g.S.Store.disk c.make_ready.new.store).told = subst (λ (o : Option ℕ). WhereBothTold (IsReadied c.args.self.now c.make_ready.new.self c.args.first c.args.count o) (g.S.Store.disk c.args.store.now).told (g.S.Store.disk c.make_ready.new.store).told) c.in-Some.is c.in_ok-place.ensures.made in
-    if_err_map c.zero_run.result _ _ c.zero_run.ensures.broken (run_broken c.args.self.now c.make_ready.new.self (g.S.Store.disk c.args.store.now) (g.S.Store.disk c.make_ready.new.store) (g.S.Store.disk c.zero_run.new.store) c.args.first c.args.count c.in-Some.place made c.in_ok-place.ensures.leaves.parts (ap (λ (x : LogState). x.number) c.in_ok-place.ensures.leaves.log) c.in_ok-place.ensures.counts)
+    if_err_map c.zero_run.result _ _ c.zero_run.ensures.broken (run_broken c.args.self.now c.make_ready.new.self (g.S.Store.disk c.args.store.now) (g.S.Store.disk c.make_ready.new.store) (g.S.Store.disk c.zero_run.new.store) c.args.first c.args.count c.in-Some.place made c.in_ok-place.ensures.leaves.parts (ap (λ (x : LogState). x.number) c.in_ok-place.ensures.leaves.log, ap (λ (x : LogState). x.header) c.in_ok-place.ensures.leaves.log) c.in_ok-place.ensures.counts)
 
 pub returns-in-None-clause-done : goal.returns-in-None-clause-done
 returns-in-None-clause-done g c = record {
@@ -52,7 +52,8 @@ returns-in-None-clause-done g c = record {
   ready = c.in_ok-place.ensures.ready;
   counts = c.in_ok-place.ensures.counts;
   parts = c.in_ok-place.ensures.leaves.parts;
-  number = (ap (λ (x : LogState). x.number) c.in_ok-place.ensures.leaves.log);
+  number = ap (λ (x : LogState). x.number) c.in_ok-place.ensures.leaves.log;
+  header = ap (λ (x : LogState). x.header) c.in_ok-place.ensures.leaves.log;
 }
 
 pub returns-in-None-clause-moments : goal.returns-in-None-clause-moments
@@ -85,4 +86,5 @@ returns-then-eq-clause-done g c =
       counts = c.in_ok-make_block.ensures.counts;
       parts = c.in_ok-make_block.ensures.leaves.parts;
       number = ap (λ (x : LogState). x.number) c.in_ok-make_block.ensures.leaves.log;
+      header = ap (λ (x : LogState). x.header) c.in_ok-make_block.ensures.leaves.log;
     }
