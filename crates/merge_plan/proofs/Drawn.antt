@@ -1,8 +1,8 @@
 -- All that is drawn for a merge.
-use Rattle.std.proofs.Common.{◌≡◌, ℕ, List, [], ◌++◌, refl, sym, ap, ◌∙◌, arith}
+use Rattle.std.proofs.Common.{◌≡◌, ℕ, List, [], ◌∷◌, ◌++◌, refl, sym, ap, ◌∙◌, arith}
 use Rattle.std.specs.Prelude.{Option, Some, None, map, option_map}
 use Rattle.std.proofs.lemmas.List.{append-nil, append_assoc, map-append}
-use Rattle.std.proofs.lemmas.List.Elements.{All-append}
+use Rattle.std.proofs.lemmas.List.Elements.{All-append, All-cons, All-nil}
 use Rattle.vx_base.specs.Fields.{IsGuid}
 use Rattle.vhdx_format.specs.Fields.{guid_bytes}
 use Rattle.make_file.specs.Identifiers.{Draws}
@@ -24,3 +24,7 @@ draws_more a b before mid now h k = record {
 pub draws_none : (before : Option (List (List ℕ))) → Draws [] before before
 draws_none None = record { each = λ k d l. absurd (omega arith); told = refl }
 draws_none (Some o) = record { each = λ k d l. absurd (omega arith); told = ap Some (sym (append-nil o)) }
+
+-- one
+pub draws_one : (id : List ℕ) (before now : Option (List (List ℕ))) → IsGuid id → now ≡ option_map (λ drawn. drawn ++ guid_bytes id ∷ []) before → Draws (id ∷ []) before now
+draws_one id before now guid told = record { each = All-cons IsGuid id [] guid (All-nil IsGuid); told = told }

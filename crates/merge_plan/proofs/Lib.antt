@@ -5,3 +5,6 @@ pub mod Lines
 pub mod Drawn
 pub mod Paging
 pub mod Planned
+pub mod RetiredNames
+pub mod LeafPlanned
+pub mod NamesTurned

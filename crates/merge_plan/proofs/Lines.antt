@@ -9,7 +9,8 @@ use Rattle.vhdx_format.proofs.RelinkedRead.{locators_keep, relinked_are_read}
 use Rattle.vhdx_format.proofs.RelinkedValues.{links_twice, relinks}
 use Rattle.link_rules.specs.Lines.{IsFollowedBy, IsLine}
 use Rattle.link_rules.specs.declared.linked.LinkedFile.{LinkedFile}
-use Rattle.merge_plan.specs.Merging.{KeepsLinks, MergeFiles, locator_pairs, pairs_or_none, relinked_pairs, twice_pairs}
+use Rattle.chain_model.specs.Members.{IsParentOf, Member}
+use Rattle.merge_plan.specs.Merging.{HasLocator, IsKnownBy, KeepsLinks, MergeFiles, locator_pairs, pairs_or_none, relinked_pairs, twice_pairs}
 use Rattle.merge_plan.specs.Steps.{AreBytes, AreTyped, HasSoundLocator}
 
 -- the lower part of a line is one
@@ -48,17 +49,52 @@ module _ (file parent : LinkedFile) (f : IsFollowedBy file parent) where
 
 -- ---- with the new ones the links are kept
 
-module _ (m : MergeFiles) (new : List ℕ) (f : AreFollowed m) (typed : AreTyped m.child m.source m.target) (guid : IsGuid new) (nonzero : is_zero_id new ≡ false) where
-  links : LinksTwice m.target.parts.header.data_write new (locator_pairs m.source.parts.locator)
-  links = links_twice m.target.parts.header.data_write new (locator_pairs m.source.parts.locator) (keep m.source m.target f.source).linked typed.id guid nonzero
+-- the pairs of a file that is linked to another by the identifier that was found and by a new one
+abbrev pub both_pairs : LinkedFile → LinkedFile → List ℕ → List Pair
+both_pairs source target new = linked_twice target.parts.header.data_write new (locator_pairs source.parts.locator)
 
+-- a file that is linked twice to the one that it is followed by
+module _ (source target : LinkedFile) (new : List ℕ) (f : IsFollowedBy source target) (item : AreBytes source.parts.locator) (id : IsGuid target.parts.header.data_write) (guid : IsGuid new) (nonzero : is_zero_id new ≡ false) where
+  links : LinksTwice target.parts.header.data_write new (locator_pairs source.parts.locator)
+  links = links_twice target.parts.header.data_write new (locator_pairs source.parts.locator) (keep source target f).linked id guid nonzero
+
+  pub both_read : IsReadBack (both_pairs source target new)
+  both_read =
+      subst (λ (ps : List Pair). IsReadBack (linked_twice target.parts.header.data_write new ps)) (sym (are source target f))
+      (relinked_are_read.twice f.names.item target.parts.header.data_write new f.pairs (bytes source target f item) f.names.read id guid nonzero)
+
+  module _ (read : read_locator (locator_bytes (both_pairs source target new)) ≡ Ok (both_pairs source target new)) where
+    pub by_found : (x y : Member) → HasLocator source (both_pairs source target new) x → IsKnownBy target target.parts.header.data_write y → IsParentOf x y
+    by_found x y l k = record {
+      has = l.parent;
+      item = locator_bytes (both_pairs source target new);
+      locator = l.locator;
+      pairs = both_pairs source target new;
+      read = read;
+      named = links.named ∙ named source target f ∙ ap (λ n. Some n) (sym k.name);
+      linked = inl (links.first ∙ ap (λ i. Some i) (sym k.id_is));
+      geometry = k.geometry ∙ f.geometry ∙ sym l.geometry;
+    }
+
+    pub by_new : (x y : Member) → HasLocator source (both_pairs source target new) x → IsKnownBy target new y → IsParentOf x y
+    by_new x y l k = record {
+      has = l.parent;
+      item = locator_bytes (both_pairs source target new);
+      locator = l.locator;
+      pairs = both_pairs source target new;
+      read = read;
+      named = links.named ∙ named source target f ∙ ap (λ n. Some n) (sym k.name);
+      linked = inr (links.other ∙ ap (λ i. Some i) (sym k.id_is));
+      geometry = k.geometry ∙ f.geometry ∙ sym l.geometry;
+    }
+
+-- source and child of a merge inside a chain
+module _ (m : MergeFiles) (new : List ℕ) (f : AreFollowed m) (typed : AreTyped m.child m.source m.target) (guid : IsGuid new) (nonzero : is_zero_id new ≡ false) where
   relinks_once : Relinks new m.target.name (locator_pairs m.child.parts.locator)
   relinks_once = relinks new m.target.name (locator_pairs m.child.parts.locator) (keep m.child m.source f.child).linked guid typed.name typed.text
 
   pub twice_read : IsReadBack (twice_pairs m new)
-  twice_read =
-      subst (λ (ps : List Pair). IsReadBack (linked_twice m.target.parts.header.data_write new ps)) (sym (are m.source m.target f.source))
-      (relinked_are_read.twice f.source.names.item m.target.parts.header.data_write new f.source.pairs (bytes m.source m.target f.source typed.source_item) f.source.names.read typed.id guid nonzero)
+  twice_read = both_read m.source m.target new f.source typed.source_item typed.id guid nonzero
 
   pub once_read : IsReadBack (relinked_pairs m new)
   once_read =
@@ -67,26 +103,8 @@ module _ (m : MergeFiles) (new : List ℕ) (f : AreFollowed m) (typed : AreTyped
 
   pub keeps_links : read_locator (locator_bytes (twice_pairs m new)) ≡ Ok (twice_pairs m new) → read_locator (locator_bytes (relinked_pairs m new)) ≡ Ok (relinked_pairs m new) → KeepsLinks m new
   keeps_links twice once = record {
-    found = λ source target l k. record {
-      has = l.parent;
-      item = locator_bytes (twice_pairs m new);
-      locator = l.locator;
-      pairs = twice_pairs m new;
-      read = twice;
-      named = links.named ∙ named m.source m.target f.source ∙ ap (λ n. Some n) (sym k.name);
-      linked = inl (links.first ∙ ap (λ i. Some i) (sym k.id_is));
-      geometry = k.geometry ∙ f.source.geometry ∙ sym l.geometry;
-    };
-    renewed = λ source target l k. record {
-      has = l.parent;
-      item = locator_bytes (twice_pairs m new);
-      locator = l.locator;
-      pairs = twice_pairs m new;
-      read = twice;
-      named = links.named ∙ named m.source m.target f.source ∙ ap (λ n. Some n) (sym k.name);
-      linked = inr (links.other ∙ ap (λ i. Some i) (sym k.id_is));
-      geometry = k.geometry ∙ f.source.geometry ∙ sym l.geometry;
-    };
+    found = by_found m.source m.target new f.source typed.source_item typed.id guid nonzero twice;
+    renewed = by_new m.source m.target new f.source typed.source_item typed.id guid nonzero twice;
     past = λ child target l k. record {
       has = l.parent;
       item = locator_bytes (relinked_pairs m new);

@@ -63,11 +63,11 @@ can_plan files disk m can is =
 
 -- ---- identifiers that are fit
 
-passed : {A : Type 0} (b : Bool) (x : A) (rest : Option A) → cond b (Some x) rest ≡ None → (b ≡ false) × (rest ≡ None)
+pub passed : {A : Type 0} (b : Bool) (x : A) (rest : Option A) → cond b (Some x) rest ≡ None → (b ≡ false) × (rest ≡ None)
 passed true x rest h = absurd (let never : ◌≡◌ {A = Option _} (Some x) None = h in cc)
 passed false x rest h = (refl, h)
 
-all_fit : (known ids : List (List ℕ)) → first_unfit known ids ≡ None → All (λ id. is_zero_id id ≡ false) ids
+pub all_fit : (known ids : List (List ℕ)) → first_unfit known ids ≡ None → All (λ id. is_zero_id id ≡ false) ids
 all_fit known [] h k d l = absurd (omega (arith, l))
 all_fit known (id ∷ ids) h zero d l = (or_parts (is_zero_id id) _ (passed (is_unfit known id) id (first_unfit (id ∷ known) ids) h).0).0
 all_fit known (id ∷ ids) h (suc k) d l = all_fit (id ∷ known) ids (passed (is_unfit known id) id (first_unfit (id ∷ known) ids) h).1 k d (omega (arith, l))
@@ -171,10 +171,10 @@ module _ (files : List LinkedFile) (m : MergeFiles) (ids : MergeIds) (twice once
       second_room : HasRoom m.child.parts (child_place m) old (relinked_pairs m ids.target.data_write)
       second_room = room_as m.child.parts old (place - 1) (child_place m) once (relinked_pairs m ids.target.data_write) more above l.once_is second
 
-      pub judge_stops : (mid new : Disk) (refusal : PrepareRefusal) → mid ≡ old → JudgeRefuses files ids mid new refusal → Stops files old new m ids refusal
-      judge_stops mid new refusal same h = go refusal (subst (λ (d : Disk). JudgeRefuses files ids d new refusal) same h)
+      pub judge_stops : (mid new : Disk) (refusal : PrepareRefusal) → mid ≡ old → JudgeRefuses files (merge_ids ids) mid new refusal → Stops files old new m ids refusal
+      judge_stops mid new refusal same h = go refusal (subst (λ (d : Disk). JudgeRefuses files (merge_ids ids) d new refusal) same h)
         where
-          go : (r : PrepareRefusal) → JudgeRefuses files ids old new r → Stops files old new m ids r
+          go : (r : PrepareRefusal) → JudgeRefuses files (merge_ids ids) old new r → Stops files old new m ids r
           go refusals.NotInChain h = absurd h
           go refusals.IsBase h = absurd h
           go refusals.LeafSource h = absurd h

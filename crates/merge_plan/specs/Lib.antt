@@ -4,3 +4,6 @@ pub mod Merging
 pub mod Converting
 pub mod Planning
 pub mod Steps
+pub mod LeafMerging
+pub mod LeafPlanning
+pub mod LeafSteps

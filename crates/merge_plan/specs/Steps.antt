@@ -9,9 +9,8 @@ use Rattle.vhdx_format.specs.declared.locator.Pair.{Pair}
 use Rattle.vhdx_format.specs.Locators.{read_locator}
 use Rattle.layer_session.specs.ReadOnly.{SomeReadFailed}
 use Rattle.link_rules.specs.declared.linked.LinkedFile.{LinkedFile}
-use Rattle.merge_plan.specs.Drawing.{JudgesDrawn, merge_ids}
+use Rattle.merge_plan.specs.Drawing.{JudgesDrawn}
 use Rattle.merge_plan.specs.Merging.{AreOf, HasFirst, HasLast, HasNone, LacksRoom, MergeFiles, source_place}
-use Rattle.merge_plan.specs.declared.drawing.MergeIds.{MergeIds}
 use Rattle.merge_plan.specs.declared.finding.Found.{Found}
 use Rattle.merge_plan.specs.declared.refusal.PrepareRefusal.{PrepareRefusal}
 use Rattle.merge_plan.specs.declared.refusal.PrepareRefusal.TheVariants.{NotInChain, IsBase, LeafSource, LocatorTooLarge, MetadataFull, IdUnfit, Store, NoRoom}
@@ -90,12 +89,12 @@ UpdateFails parts number old new pairs NoRoom = new ≡ old
 -- ---- identifiers
 
 -- one is unfit; or a read failed, or memory ran out
-abbrev pub JudgeRefuses : List LinkedFile → MergeIds → Disk → Disk → PrepareRefusal → Type 0
-JudgeRefuses files ids old new NotInChain = ⊥
-JudgeRefuses files ids old new IsBase = ⊥
-JudgeRefuses files ids old new LeafSource = ⊥
-JudgeRefuses files ids old new (LocatorTooLarge len) = ⊥
-JudgeRefuses files ids old new (MetadataFull file) = ⊥
-JudgeRefuses files ids old new (IdUnfit id) = JudgesDrawn files old (merge_ids ids) (Some id) × (new ≡ old)
-JudgeRefuses files ids old new (Store fault) = SomeReadFailed old new fault
-JudgeRefuses files ids old new NoRoom = new ≡ old
+abbrev pub JudgeRefuses : List LinkedFile → List (List ℕ) → Disk → Disk → PrepareRefusal → Type 0
+JudgeRefuses files drawn old new NotInChain = ⊥
+JudgeRefuses files drawn old new IsBase = ⊥
+JudgeRefuses files drawn old new LeafSource = ⊥
+JudgeRefuses files drawn old new (LocatorTooLarge len) = ⊥
+JudgeRefuses files drawn old new (MetadataFull file) = ⊥
+JudgeRefuses files drawn old new (IdUnfit id) = JudgesDrawn files old drawn (Some id) × (new ≡ old)
+JudgeRefuses files drawn old new (Store fault) = SomeReadFailed old new fault
+JudgeRefuses files drawn old new NoRoom = new ≡ old

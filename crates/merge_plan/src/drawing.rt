@@ -54,7 +54,7 @@ fn id_of(bytes: [u8; 16]) -> Guid
 }
 
 // Draws one.
-fn draw<I: Ids>(ids: &mut I) -> Guid
+pub(crate) fn draw<I: Ids>(ids: &mut I) -> Guid
     ensures id { IsGuid result }
     ensures told { I.drawn ids.new ≡ option_map (λ drawn. drawn ++ guid_bytes result ∷ []) (I.drawn ids.old) }
 {
@@ -165,7 +165,7 @@ fn is_unfit(known: &[Guid], before: &[Guid], id: Guid) -> bool
 // The first of identifiers, in the order in which they were drawn, that is zero, stands before among them, or is one of those that
 // are known.
 #[tactic(auto, using(crate::proofs::Judging::none_judged, crate::proofs::Judging::one_judged, crate::proofs::Judging::one_unfit, crate::proofs::Judging::all_judged))]
-fn first_unfit(known: &[Guid], drawn: &[Guid]) -> Option<Guid>
+pub(crate) fn first_unfit(known: &[Guid], drawn: &[Guid]) -> Option<Guid>
     ensures { result ≡ identifiers.first_unfit known.now drawn.now }
 {
     for (place, id) in drawn.iter().enumerate() {

@@ -27,7 +27,7 @@ fn are_bytes(bytes: &[u8])
     ensures { IsBytes bytes.now }
 {}
 
-fn are_items(locator: &Option<Bytes>)
+pub(crate) fn are_items(locator: &Option<Bytes>)
     ensures { AreBytes locator.now }
 {
     if let Some(item) = locator {
@@ -62,7 +62,7 @@ fn pairs_of(alloc: Global, file: &LinkedFile) -> Result<Locator, NoRoom>
 }
 
 // The source's, once it is linked to the target by its present identifier and by this one.
-fn source_locator(
+pub(crate) fn source_locator(
     alloc: Global,
     source: &LinkedFile,
     target: &LinkedFile,

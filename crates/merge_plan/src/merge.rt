@@ -39,7 +39,7 @@ pub struct Merge {
 
 // Metadata in whose region a locator can be changed.
 #[tactic(auto, using(crate::proofs::Paging::has_metadata))]
-fn has_metadata(parts: &Parts)
+pub(crate) fn has_metadata(parts: &Parts)
     requires { HasNumbers parts.now }
     ensures { HasMetadata parts.now }
 {
@@ -47,7 +47,7 @@ fn has_metadata(parts: &Parts)
 }
 
 // The pages that give a file of the store another locator.
-fn update<S: Store>(
+pub(crate) fn update<S: Store>(
     alloc: Global,
     store: &mut S,
     number: u32,
@@ -77,7 +77,7 @@ fn judge<S: Store>(
     requires { CanStart files.now (S.disk store.old) }
     ensures fit { OnOk result (JudgesDrawn files.now (S.disk store.old) (merge_ids ids.now) None) }
     ensures stays { OnOk result (S.disk store.new ≡ S.disk store.old) }
-    ensures err { IfErr result (JudgeRefuses files.now ids.now (S.disk store.old) (S.disk store.new)) }
+    ensures err { IfErr result (JudgeRefuses files.now (merge_ids ids.now) (S.disk store.old) (S.disk store.new)) }
 {
     let known = all_shown(alloc, store, files)?;
     match ids.first_unfit(known.as_slice()) {
