@@ -47,8 +47,8 @@ use Rattle.chain_core.specs.Starting.{AreReadOf, EachOpensAlike, IsOfDisk, Judge
 use Rattle.chain_core.specs.Starting.{HasBegun as HasBegunSession, IsRead as IsReadOnly}
 use Rattle.merge_plan.specs.declared.drawing.NewIds.{NewIds}
 use Rattle.chain_core.specs.declared.starting.StartRefusal.{StartRefusal}
-use Rattle.chain_core.specs.Sessions.{AreApart, AreReady, CanRelink, IsLow, IsMergeOf, IsReadyLeaf}
-use Rattle.chain_core.specs.States.{AreHeld, AreWritten, IsCourse, IsServing, plain, seen_in, WasSynced}
+use Rattle.chain_core.specs.Sessions.{AreApart, AreReady, AtMostOne, CanRelink, CanRetire, HasNoMerge, IsLow, IsMergeOf, IsReadyLeaf, IsRetiringOf, leaf_number}
+use Rattle.chain_core.specs.States.{AreHeld, AreWritten, IsCourse, IsRetiring, IsServing, WasSynced, plain, seen_in}
 use Rattle.chain_core.proofs.Steps.{phase_others, still_once, still_read}
 
 -- ---- lists
@@ -262,13 +262,14 @@ module _ (trace : Trace) (leaf : LinkedFile) (others : List LinkedFile) (attache
   opens_at_rest = EachMoment-now (EachOpens leaf.name (λ s. false) opening) trace rests
 
   -- a chain that is only read
-  pub reads_from : (layers : Layers) → layers.geometry ≡ leaf.parts.geometry → layers.leaf ≡ None → layers.merge ≡ None → HaveFiles layers.below.items trace chain → IsServing layers (started trace leaf others leaf.parts) trace
+  pub reads_from : (layers : Layers) → layers.geometry ≡ leaf.parts.geometry → layers.leaf ≡ None → HasNoMerge layers → HaveFiles layers.below.items trace chain → IsServing layers (started trace leaf others leaf.parts) trace
   reads_from layers geometry none no_merge read = record {
     once = attached.once;
     geometry = geometry;
     served = served;
     loose = tight (is_dirty z []);
-    course = subst (λ o. IsCourse z (λ n. n == 0) layers o top (plain rest)) (sym no_merge) tt;
+    course = subst (λ o. IsCourse z (λ n. n == 0) layers o top (plain rest)) (sym no_merge.0) tt;
+    leaving = subst (λ o. IsRetiring z (λ n. n == 0) [] layers o top (plain rest)) (sym no_merge.1) tt;
     held = subst (λ o. AreHeld o layers.below.items trace top rest) (sym none) ((λ s. refl), read);
     whole = whole;
     synced = all_synced (λ n. n == 0) trace 0 (leaf ∷ others) attached.each;
@@ -297,14 +298,15 @@ module _ (trace : Trace) (leaf : LinkedFile) (others : List LinkedFile) (attache
     pub rest_read : (below : List FileLayer) → AreReadOf 1 others below → HaveFiles below now rest
     rest_read below of = still_read 0 Goes trace now over.phase below rest (placed_apart trace 1 others (omega arith)) (all_read trace 1 others below of attached.each.1)
 
-    pub serves_from : (layers : Layers) (l : Layer) → layers.geometry ≡ leaf.parts.geometry → layers.leaf ≡ Some l → layers.merge ≡ None → AreReadOf 1 others layers.below.items → HaveFiles layers.below.items now rest → Serves l now next
+    pub serves_from : (layers : Layers) (l : Layer) → layers.geometry ≡ leaf.parts.geometry → layers.leaf ≡ Some l → HasNoMerge layers → AreReadOf 1 others layers.below.items → HaveFiles layers.below.items now rest → Serves l now next
         → IsServing layers (started trace leaf others (in_session leaf.parts ids)) now
     serves_from layers l geometry is no_merge of read serves = record {
       once = still_once 0 Goes trace now over.phase attached.once;
       geometry = geometry;
       served = goes.served (layers_are_kept l now next serves).shows;
       loose = ((λ s out. refl), none_loose_in trace 1 others);
-      course = subst (λ o. IsCourse z (λ n. n == 0) layers o next (plain rest)) (sym no_merge) tt;
+      course = subst (λ o. IsCourse z (λ n. n == 0) layers o next (plain rest)) (sym no_merge.0) tt;
+      leaving = subst (λ o. IsRetiring z (λ n. n == 0) [] layers o next (plain rest)) (sym no_merge.1) tt;
       held = subst (λ o. AreHeld o layers.below.items now next rest) (sym is) (serves, read);
       whole = whole;
       synced = all_synced (λ n. n == 0) trace 0 (leaf ∷ others) attached.each;
@@ -347,7 +349,7 @@ begun_moments leaf others ids before after can over = by_told before.told after.
     by_told (Some x) None attached over = over
     by_told (Some x) (Some y) attached over = opens_on x leaf others (attached x refl) can.line can.once can.few (by_recursion IsServed (leaf ∷ others) can.served) ids y over
 
-pub begun_serving : (leaf : LinkedFile) (others : List LinkedFile) (ids : SessionIds) (layers : Layers) (l : Layer) (before after : Disk) → CanStart (leaf ∷ others) before → layers.geometry ≡ leaf.parts.geometry → layers.leaf ≡ Some l → layers.merge ≡ None
+pub begun_serving : (leaf : LinkedFile) (others : List LinkedFile) (ids : SessionIds) (layers : Layers) (l : Layer) (before after : Disk) → CanStart (leaf ∷ others) before → layers.geometry ≡ leaf.parts.geometry → layers.leaf ≡ Some l → HasNoMerge layers
     → AreReadOf 1 others layers.below.items → WhereBothTold (BeginsOver leaf.parts ids 0) before.told after.told → WhereBothTold (HasBegun leaf.parts ids 0 l) before.told after.told
     → StartsWith (λ parts. in_session parts ids) (leaf ∷ others) layers before.told after.told
 begun_serving leaf others ids layers l before after can geometry is no_merge of over begun = by_told before.told after.told can.told over begun
@@ -362,7 +364,7 @@ begun_serving leaf others ids layers l before after can geometry is no_merge of 
         serves_from x leaf others (attached x refl) can.line can.once can.few numbered ids y over layers l geometry is no_merge of
         (rest_read x leaf others (attached x refl) can.line can.once can.few numbered ids y over layers.below.items of) begun
 
-pub begun_ready : (leaf : LinkedFile) (others : List LinkedFile) (ids : SessionIds) (layers : Layers) (l : Layer) (before after : Disk) → CanStart (leaf ∷ others) before → layers.geometry ≡ leaf.parts.geometry → layers.leaf ≡ Some l → layers.merge ≡ None
+pub begun_ready : (leaf : LinkedFile) (others : List LinkedFile) (ids : SessionIds) (layers : Layers) (l : Layer) (before after : Disk) → CanStart (leaf ∷ others) before → layers.geometry ≡ leaf.parts.geometry → layers.leaf ≡ Some l → HasNoMerge layers
     → AreReadOf 1 others layers.below.items → WhereBothTold (BeginsOver leaf.parts ids 0) before.told after.told → IsReady l after → IsOf leaf.parts 0 l → after ≡ record before { told = after.told } → AreReady layers after
 begun_ready leaf others ids layers l before after can geometry is no_merge of over ready parts counts =
     let numbered = by_recursion IsServed (leaf ∷ others) can.served in
@@ -370,18 +372,20 @@ begun_ready leaf others ids layers l before after can geometry is no_merge of ov
     let there : 1 + length others ≤ after.files = let t : length (leaf ∷ others) ≤ before.files = can.there in omega arith in
     let made : IsReadyLeaf layers.geometry layers.below.items after l = record {
       ready = ready;
-      number = parts.number;
       sector = parts.sector ∙ ap (λ (g : Geometry). g.sector) (sym geometry);
       sectors = parts.sectors ∙ ap (λ (g : Geometry). g.sectors) (sym geometry);
-      apart = layers_apart 1 others layers.below.items (omega arith) of;
+      apart = subst (λ (n : ℕ). AreOthers n layers.below.items) (sym parts.number) (layers_apart 1 others layers.below.items (omega arith) of);
     } in
     record {
       sector = ap (λ (g : Geometry). g.sector) geometry ∙ numbered.0.sector;
       leaf = subst (λ o. IfSome o (IsReadyLeaf layers.geometry layers.below.items after)) (sym is) made;
       below = all_readable layers.geometry after 1 others layers.below.items of there (one_geometry leaf others layers.geometry (sym geometry) can.line).1 (readers before.told after.told can.told over);
       apart = all_apart 1 others layers.below.items of;
-      merge = subst (λ o. IfSome o (IsMergeOf layers.geometry layers.leaf layers.below.items)) (sym no_merge) tt;
-      relink = subst (λ o. IfSome o (CanRelink layers.leaf layers.below.items after)) (sym no_merge) tt;
+      merge = subst (λ o. IfSome o (IsMergeOf layers.geometry layers.leaf layers.below.items)) (sym no_merge.0) tt;
+      relink = subst (λ o. IfSome o (CanRelink layers.leaf layers.below.items after)) (sym no_merge.0) tt;
+      one = subst (λ o. AtMostOne o layers.retiring) (sym no_merge.0) tt;
+      retiring = subst (λ o. IfSome o (IsRetiringOf layers.geometry layers.leaf layers.below.items)) (sym no_merge.1) tt;
+      retires = subst (λ o. IfSome o (CanRetire layers.leaf layers.below.items after)) (sym no_merge.1) tt;
     }
   where
     readers : (a b : Option Trace) → ((t : Trace) → a ≡ Some t → AreAttached (leaf ∷ others) t) → WhereBothTold (BeginsOver leaf.parts ids 0) a b
@@ -398,7 +402,7 @@ begun_ready leaf others ids layers l before after can geometry is no_merge of ov
 
 -- ---- a chain that is only read
 
-pub read_serving : (leaf : LinkedFile) (others : List LinkedFile) (layers : Layers) (disk : Disk) → CanStart (leaf ∷ others) disk → layers.geometry ≡ leaf.parts.geometry → layers.leaf ≡ None → layers.merge ≡ None
+pub read_serving : (leaf : LinkedFile) (others : List LinkedFile) (layers : Layers) (disk : Disk) → CanStart (leaf ∷ others) disk → layers.geometry ≡ leaf.parts.geometry → layers.leaf ≡ None → HasNoMerge layers
     → AreReadOf 0 (leaf ∷ others) layers.below.items → StartsWith (λ parts. parts) (leaf ∷ others) layers disk.told disk.told
 read_serving leaf others layers disk can geometry none no_merge of = by_told disk.told can.told
   where
@@ -408,7 +412,7 @@ read_serving leaf others layers disk can geometry none no_merge of = by_told dis
         let o = attached t refl in
         reads_from t leaf others o can.line can.once can.few (by_recursion IsServed (leaf ∷ others) can.served) layers geometry none no_merge (all_read t 0 (leaf ∷ others) layers.below.items of o.each)
 
-pub read_ready : (leaf : LinkedFile) (others : List LinkedFile) (layers : Layers) (disk : Disk) → CanStart (leaf ∷ others) disk → layers.geometry ≡ leaf.parts.geometry → layers.leaf ≡ None → layers.merge ≡ None
+pub read_ready : (leaf : LinkedFile) (others : List LinkedFile) (layers : Layers) (disk : Disk) → CanStart (leaf ∷ others) disk → layers.geometry ≡ leaf.parts.geometry → layers.leaf ≡ None → HasNoMerge layers
     → AreReadOf 0 (leaf ∷ others) layers.below.items → AreReady layers disk
 read_ready leaf others layers disk can geometry none no_merge of =
     let numbered = by_recursion IsServed (leaf ∷ others) can.served in
@@ -419,8 +423,11 @@ read_ready leaf others layers disk can geometry none no_merge of =
       below = all_readable layers.geometry disk 0 (leaf ∷ others) layers.below.items of there (one_geometry leaf others layers.geometry (sym geometry) can.line)
           (λ t e. (placed_from t 0 (leaf ∷ others), all_read t 0 (leaf ∷ others) layers.below.items of (can.told t e).each));
       apart = all_apart 0 (leaf ∷ others) layers.below.items of;
-      merge = subst (λ o. IfSome o (IsMergeOf layers.geometry layers.leaf layers.below.items)) (sym no_merge) tt;
-      relink = subst (λ o. IfSome o (CanRelink layers.leaf layers.below.items disk)) (sym no_merge) tt;
+      merge = subst (λ o. IfSome o (IsMergeOf layers.geometry layers.leaf layers.below.items)) (sym no_merge.0) tt;
+      relink = subst (λ o. IfSome o (CanRelink layers.leaf layers.below.items disk)) (sym no_merge.0) tt;
+      one = subst (λ o. AtMostOne o layers.retiring) (sym no_merge.0) tt;
+      retiring = subst (λ o. IfSome o (IsRetiringOf layers.geometry layers.leaf layers.below.items)) (sym no_merge.1) tt;
+      retires = subst (λ o. IfSome o (CanRetire layers.leaf layers.below.items disk)) (sym no_merge.1) tt;
     }
 
 -- ---- layers, one after the other
@@ -448,7 +455,7 @@ parted (f ∷ files) d some =
     let whole : take (length (f ∷ files) - 1) (drop 1 (f ∷ files)) ≡ files = grind (arith, common_steps) in ap (λ (rest : List LinkedFile). f ∷ rest) (sym whole)
 
 -- a chain that is only read has started
-pub reading_started : (files : List LinkedFile) (layers : Layers) (disk : Disk) (drawn : Option (List (List ℕ))) → CanStart files disk → IsOfDisk files layers.geometry → layers.leaf ≡ None → layers.merge ≡ None → AreReadOf 0 files layers.below.items
+pub reading_started : (files : List LinkedFile) (layers : Layers) (disk : Disk) (drawn : Option (List (List ℕ))) → CanStart files disk → IsOfDisk files layers.geometry → layers.leaf ≡ None → HasNoMerge layers → AreReadOf 0 files layers.below.items
     → IsReadOnly files layers disk disk drawn drawn
 reading_started [] layers disk drawn can geometry none no_merge of = absurd can.line
 reading_started (leaf ∷ others) layers disk drawn can geometry none no_merge of = record {
@@ -458,7 +465,7 @@ reading_started (leaf ∷ others) layers disk drawn can geometry none no_merge o
   same = refl;
 }
 
-pub reading_ready : (files : List LinkedFile) (layers : Layers) (disk : Disk) → CanStart files disk → IsOfDisk files layers.geometry → layers.leaf ≡ None → layers.merge ≡ None → AreReadOf 0 files layers.below.items → AreReady layers disk
+pub reading_ready : (files : List LinkedFile) (layers : Layers) (disk : Disk) → CanStart files disk → IsOfDisk files layers.geometry → layers.leaf ≡ None → HasNoMerge layers → AreReadOf 0 files layers.below.items → AreReady layers disk
 reading_ready [] layers disk can geometry none no_merge of = absurd can.line
 reading_ready (leaf ∷ others) layers disk can geometry none no_merge of = read_ready leaf others layers disk can geometry none no_merge of
 
@@ -468,26 +475,27 @@ files_rest (leaf ∷ others) disk can = rest_moments leaf others disk can
 
 -- the leaf's session has begun
 pub session_begun : (files : List LinkedFile) (leaf : LinkedFile) (others : List LinkedFile) (ids : NewIds) (layers : Layers) (old mid new : Disk) (before now : Option (List (List ℕ))) → files ≡ leaf ∷ others → mid ≡ old
-    → JudgesIds files old before now None ids → is_some layers.leaf ≡ true → StartsWith (under ids) (leaf ∷ others) layers mid.told new.told → new ≡ record mid { told = new.told }
+    → JudgesIds files old before now None ids → is_some layers.leaf ≡ true → leaf_number layers ≡ 0 → StartsWith (under ids) (leaf ∷ others) layers mid.told new.told → new ≡ record mid { told = new.told }
     → HasBegunSession files layers old new before now
-session_begun files leaf others ids layers old mid new before now is same fit session serving counts =
+session_begun files leaf others ids layers old mid new before now is same fit session number_is serving counts =
     let from : StartsWith (under ids) (leaf ∷ others) layers old.told new.told =
     subst (λ (d : Disk). StartsWith (under ids) (leaf ∷ others) layers d.told new.told) same serving in
     record {
       ids = ids;
       fit = fit;
       session = session;
+      leaf = number_is;
       serving = subst (λ (fs : List LinkedFile). StartsWith (under ids) fs layers old.told new.told) (sym is) from;
       counts = subst (λ (d : Disk). new ≡ record d { told = new.told }) same counts;
     }
 
 -- so it answers
 pub session_answers : (files : List LinkedFile) (leaf : LinkedFile) (others : List LinkedFile) (ids : NewIds) (result : Result Layers StartRefusal) (old mid new : Disk) (before now : Option (List (List ℕ))) → files ≡ leaf ∷ others → mid ≡ old
-    → JudgesIds files old before now None ids → IfOk result (λ layers. is_some layers.leaf ≡ true)
+    → JudgesIds files old before now None ids → IfOk result (λ layers. is_some layers.leaf ≡ true) → IfOk result (λ layers. leaf_number layers ≡ 0)
     → IfOk result (λ layers. StartsWith (under ids) (leaf ∷ others) layers mid.told new.told) → OnOk result (new ≡ record mid { told = new.told })
     → IfOk result (λ layers. HasBegunSession files layers old new before now)
-session_answers files leaf others ids (Ok layers) old mid new before now is same fit session serving counts = session_begun files leaf others ids layers old mid new before now is same fit session serving counts
-session_answers files leaf others ids (Err e) old mid new before now is same fit session serving counts = tt
+session_answers files leaf others ids (Ok layers) old mid new before now is same fit session number_is serving counts = session_begun files leaf others ids layers old mid new before now is same fit session number_is serving counts
+session_answers files leaf others ids (Err e) old mid new before now is same fit session number_is serving counts = tt
 
 pub of_disk : (files : List LinkedFile) (leaf : LinkedFile) (others : List LinkedFile) (result : Result Layers StartRefusal) → files ≡ leaf ∷ others → IfOk result (λ layers. layers.geometry ≡ leaf.parts.geometry)
     → IfOk result (λ layers. IsOfDisk files layers.geometry)

@@ -24,7 +24,7 @@ use Rattle.layer_session.proofs.Standing.{layers_stand}
 use Rattle.chain_core.specs.declared.layers.Layers.{Layers}
 use Rattle.chain_core.specs.declared.layers.Underway.{Underway}
 use Rattle.chain_core.specs.Answering.{EachOpensNow, HasEnded}
-use Rattle.chain_core.specs.States.{AreHeld, AreWritten, IsCourse, IsServing, IsUnder, Merging, Relinks, State, WasSynced, child_of, child_parts, dirty_now, merging, sector_of}
+use Rattle.chain_core.specs.States.{AreHeld, AreWritten, IsCourse, IsRetiring, IsServing, IsUnder, Merging, Relinks, State, WasSynced, child_of, child_parts, dirty_now, merging, sector_of}
 use Rattle.chain_core.proofs.Putting.{apart_around, have_all, have_parts}
 use Rattle.chain_core.proofs.Replaced.{written_at}
 use Rattle.chain_core.proofs.Rests.{leaf_survives}
@@ -98,9 +98,9 @@ module _ (v : State) (top : Placed) (pre : List Placed) (child source target : P
       (λ s. refl) refl serving.loose serving.loose).moments
 
   pub child_settled : (new : Layers) (u : Underway) (leaf : Layer) (a b : List FileLayer) (l next : Layer) → layers.leaf ≡ Some leaf → layers.merge ≡ Some u → layers.below.items ≡ a ++ Session l ∷ b → length a ≡ length pre
-      → new.geometry ≡ layers.geometry → new.leaf ≡ Some leaf → new.merge ≡ Some u → new.below.items ≡ a ++ Session next ∷ b → next.tables.parts ≡ l.tables.parts → Serves next now (settled child)
+      → new.geometry ≡ layers.geometry → new.retiring ≡ None → new.leaf ≡ Some leaf → new.merge ≡ Some u → new.below.items ≡ a ++ Session next ∷ b → next.tables.parts ≡ l.tables.parts → Serves next now (settled child)
       → EachOpensNow here trace now × IsServing new (record v { top = top; rest = merging (pre ++ settled child ∷ []) source target below m }) now
-  child_settled new u leaf a b l next is merge was place geometry leaf_now merge_now items parts_are serves =
+  child_settled new u leaf a b l next is merge was place geometry none_now leaf_now merge_now items parts_are serves =
       let z : ℕ = sector_of here in
       let after : Placed = settled child in
       let rest : List Placed = source ∷ target ∷ below in
@@ -145,6 +145,7 @@ module _ (v : State) (top : Placed) (pre : List Placed) (child source target : P
         served = on.served (layers_are_kept next now after serves).shows;
         loose = tight;
         course = subst (λ o. IsCourse z v.writes new o top (merging (pre ++ after ∷ []) source target below m)) (sym merge_now) under_then;
+        leaving = subst (λ o. IsRetiring z v.writes v.history new o top (merging (pre ++ after ∷ []) source target below m)) (sym none_now) tt;
         held = subst (λ o. AreHeld o new.below.items now top ((pre ++ after ∷ []) ++ rest)) (sym leaf_now) (top_stands, stand);
         whole = λ s inside. subst (λ (c : List SectorLayer). is_some (through (top.member.layer ∷ c) s) ≡ true) (sym (same_layers pre child after rest refl)) (serving.whole s inside);
         synced = (serving.synced.0, all_but (WasSynced v.writes v.since) pre child after rest (λ h. h) serving.synced.1);

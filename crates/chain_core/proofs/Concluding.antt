@@ -18,7 +18,7 @@ use Rattle.layer_session.specs.declared.file.Layer.{Layer}
 use Rattle.layer_session.specs.declared.file.LayerFault.{LayerFault}
 use Rattle.layer_session.specs.declared.file.LayerFault.TheVariants as layer
 use Rattle.chain_core.specs.declared.layers.Layers.{Layers}
-use Rattle.chain_core.specs.States.{State, IsServing, entry, files_of, sector_of, wide}
+use Rattle.chain_core.specs.States.{State, IsNextPlace, IsServing, entry, files_of, sector_of, wide}
 use Rattle.chain_core.specs.Answering.{Answers, FailsByChange, LayerAnswers, LayerRoomIs, LayerTold, NeedsNoRoom, RoomIs, answer_of, as_change}
 use Rattle.chain_core.proofs.Steps.{all_right, at_rest, failed}
 
@@ -34,9 +34,9 @@ pub same_told : {T : Type 0} (P : T → T → Type 0) (o : Option T) → ((a : T
 same_told P None h = tt
 same_told P (Some a) h = h a
 
--- what a session answers of a call, from these layers and this disk to those
-abbrev pub SessionTold : Entry → Layers → Layers → Disk → Disk → Result ℕ ChainRefusal → Type 0
-SessionTold e old new before after result = WhereBothTold (λ trace now. (v : State) → IsServing old v trace → Answers e v new trace now result) before.told after.told
+-- what a session answers of the call of this place, from these layers and this disk to those
+abbrev pub SessionTold : ℕ → Entry → Layers → Layers → Disk → Disk → Result ℕ ChainRefusal → Type 0
+SessionTold place e old new before after result = WhereBothTold (λ trace now. (v : State) → IsServing old v trace → IsNextPlace place v → Answers e v new trace now result) before.told after.told
 
 -- ---- a call that reached the layers
 
@@ -47,19 +47,19 @@ layer_answered e v layers trace now place (Err (layer.FileFull next)) is = is
 layer_answered e v layers trace now place (Err (layer.Write fault)) is = is
 
 -- From the session before it (0), once its event was counted (1), behind the layers' call (2), to the end (3).
-pub answered : (who : Caller) (call : Call) (place : ℕ) (layers0 layers1 layers2 layers3 : Layers) (disk0 disk1 disk2 disk3 : Disk) (answer : Result (Unit {0}) LayerFault) (result : Result ℕ ChainRefusal)
-    → layers1 ≡ layers0 → disk1 ≡ disk0 → layers3 ≡ layers2 → disk3 ≡ disk2 → result ≡ answer_of place answer → LayerTold call layers1 layers2 disk1 disk2 answer
-    → SessionTold (entry who call) layers0 layers3 disk0 disk3 result
-answered who call place layers0 layers1 layers2 layers3 disk0 disk1 disk2 disk3 answer result l1 d1 l3 d3 is told =
-    let a = subst (λ (l : Layers). LayerTold call l layers2 disk1 disk2 answer) l1 told in
-    let b = subst (λ (d : Disk). LayerTold call layers0 layers2 d disk2 answer) d1 a in
-    let done : SessionTold (entry who call) layers0 layers2 disk0 disk2 (answer_of place answer) =
-    both_told (λ trace now. (who : Caller) (v : State) → IsServing layers0 v trace → LayerAnswers (entry who call) v layers2 trace now answer)
-    (λ trace now. (v : State) → IsServing layers0 v trace → Answers (entry who call) v layers2 trace now (answer_of place answer)) disk0.told disk2.told
-    (λ trace now each v serving. layer_answered (entry who call) v layers2 trace now place answer (each who v serving)) b in
-    let to_layers = subst (λ (l : Layers). SessionTold (entry who call) layers0 l disk0 disk2 (answer_of place answer)) (sym l3) done in
-    let to_disk = subst (λ (d : Disk). SessionTold (entry who call) layers0 layers3 disk0 d (answer_of place answer)) (sym d3) to_layers in
-    subst (λ r. SessionTold (entry who call) layers0 layers3 disk0 disk3 r) (sym is) to_disk
+pub answered : (who : Caller) (call : Call) (next place : ℕ) (layers0 layers1 layers2 layers3 : Layers) (disk0 disk1 disk2 disk3 : Disk) (answer : Result (Unit {0}) LayerFault) (result : Result ℕ ChainRefusal)
+    → layers1 ≡ layers0 → disk1 ≡ disk0 → layers3 ≡ layers2 → disk3 ≡ disk2 → result ≡ answer_of place answer → LayerTold next call layers1 layers2 disk1 disk2 answer
+    → SessionTold next (entry who call) layers0 layers3 disk0 disk3 result
+answered who call next place layers0 layers1 layers2 layers3 disk0 disk1 disk2 disk3 answer result l1 d1 l3 d3 is told =
+    let a = subst (λ (l : Layers). LayerTold next call l layers2 disk1 disk2 answer) l1 told in
+    let b = subst (λ (d : Disk). LayerTold next call layers0 layers2 d disk2 answer) d1 a in
+    let done : SessionTold next (entry who call) layers0 layers2 disk0 disk2 (answer_of place answer) =
+    both_told (λ trace now. (who : Caller) (v : State) → IsServing layers0 v trace → IsNextPlace next v → LayerAnswers (entry who call) v layers2 trace now answer)
+    (λ trace now. (v : State) → IsServing layers0 v trace → IsNextPlace next v → Answers (entry who call) v layers2 trace now (answer_of place answer)) disk0.told disk2.told
+    (λ trace now each v serving next_is. layer_answered (entry who call) v layers2 trace now place answer (each who v serving next_is)) b in
+    let to_layers = subst (λ (l : Layers). SessionTold next (entry who call) layers0 l disk0 disk2 (answer_of place answer)) (sym l3) done in
+    let to_disk = subst (λ (d : Disk). SessionTold next (entry who call) layers0 layers3 disk0 d (answer_of place answer)) (sym d3) to_layers in
+    subst (λ r. SessionTold next (entry who call) layers0 layers3 disk0 disk3 r) (sym is) to_disk
 
 -- ---- a call that didn't
 
@@ -93,14 +93,14 @@ refused_so e v layers trace (NoStripe a b) serving = at_rest v layers trace serv
 refused_so e v layers trace NoPiece serving = at_rest v layers trace serving
 refused_so e v layers trace NoRoom serving = at_rest v layers trace serving
 
-pub unanswered : (e : Entry) (old new : Layers) (before after : Disk) (x : ChainRefusal) → new ≡ old → after ≡ before → SessionTold e old new before after (Err x)
-unanswered e old new before after x l d =
-    let rested : SessionTold e old old before before (Err x) = same_told (λ trace now. (v : State) → IsServing old v trace → Answers e v old trace now (Err x)) before.told (λ trace v serving. refused_so e v old trace x serving) in
-    subst (λ (a : Disk). SessionTold e old new before a (Err x)) (sym d) (subst (λ (n : Layers). SessionTold e old n before before (Err x)) (sym l) rested)
+pub unanswered : (next : ℕ) (e : Entry) (old new : Layers) (before after : Disk) (x : ChainRefusal) → new ≡ old → after ≡ before → SessionTold next e old new before after (Err x)
+unanswered next e old new before after x l d =
+    let rested : SessionTold next e old old before before (Err x) = same_told (λ trace now. (v : State) → IsServing old v trace → IsNextPlace next v → Answers e v old trace now (Err x)) before.told (λ trace v serving next_is. refused_so e v old trace x serving) in
+    subst (λ (a : Disk). SessionTold next e old new before a (Err x)) (sym d) (subst (λ (n : Layers). SessionTold next e old n before before (Err x)) (sym l) rested)
 
-pub refused_told : (e : Entry) (old new : Layers) (before after : Disk) (result : Result ℕ ChainRefusal) → IsErr result → new ≡ old → after ≡ before → SessionTold e old new before after result
-refused_told e old new before after (Ok place) err l d = absurd (cc)
-refused_told e old new before after (Err x) err l d = unanswered e old new before after x l d
+pub refused_told : (next : ℕ) (e : Entry) (old new : Layers) (before after : Disk) (result : Result ℕ ChainRefusal) → IsErr result → new ≡ old → after ≡ before → SessionTold next e old new before after result
+refused_told next e old new before after (Ok place) err l d = absurd (cc)
+refused_told next e old new before after (Err x) err l d = unanswered next e old new before after x l d
 
 -- ---- room in the leaf
 

@@ -32,7 +32,7 @@ use Rattle.chain_core.specs.declared.layers.Layers.{Layers}
 use Rattle.chain_core.specs.Answering.{EachOpensNow, EndsTold, HasClosed, HasEnded, HasEndedWhole}
 use Rattle.chain_core.specs.Ending.{AreAllReady, AreNumbered, EndsOn, EndsOnTold, HasEndedFile, IsEnding, IsInSession, SomeChangeFailed}
 use Rattle.chain_core.specs.Sessions.{AreApart, AreReady, IsLow}
-use Rattle.chain_core.specs.States.{AreHeld, AreWritten, IsLoose, IsServing, Rest, State, dirty_now, disk_now, files_of, is_session, merging, others_of, plain, sector_of, WasSynced}
+use Rattle.chain_core.specs.States.{AreHeld, AreWritten, IsLoose, IsServing, Rest, State, WasSynced, dirty_now, disk_now, files_of, is_session, merging, others_of, plain, retiring, sector_of}
 use Rattle.chain_core.proofs.Concluding.{both_told, same_told}
 use Rattle.chain_core.proofs.Links.{served_links}
 use Rattle.chain_core.proofs.Putting.{apart_around}
@@ -140,6 +140,7 @@ opens_by : (z : ℕ) (opening : GuestDisk) (h : History) (leaf : List ℕ) (amon
 opens_by z opening h leaf among retired top (plain others) old once served loose = opens_settled leaf among retired (top ∷ others) (replay z opening h) old once served.linked loose served.disk
 opens_by z opening h leaf among retired top (merging above source target below m) old once served loose =
     opens_merging leaf among retired (top ∷ above) source target below (replay z opening h) old once served.linked loose served.disk
+opens_by z opening h leaf among retired top (retiring target below first before) old once served loose = opens_merging leaf among retired [] top target below (replay z opening h) old once served.linked loose served.disk
 
 shows_now : (f : Placed) (old new : Trace) → IsPhase f.number (ShowsFile f) old new → HasGoneOver f new
 shows_now f old new phase = subst (λ t. HasGoneOver f t) (at_moment-now new) (phase.each (moment new) phase.later (omega arith)).images
@@ -445,7 +446,7 @@ module _ (layers : Layers) (leaf : Layer) (leaf_is : layers.leaf ≡ Some leaf) 
     loose = serving.loose;
     files = sym (append-nil (others_of v.rest));
     have = (held_parts v trace serving).1;
-    tight = tight_others (sector_of v) v.writes (dirty_now v) layers layers.merge v.top v.rest serving.course serving.loose;
+    tight = tight_others (sector_of v) v.writes (dirty_now v) v.history layers layers.merge layers.retiring v.top v.rest serving.course serving.leaving serving.loose;
     written = (written_parts v trace serving).1;
     ended = tt;
     still = serving.still;
@@ -537,21 +538,21 @@ failed_here layers x items fault old new split ready some fails = record {
 
 -- ---- what a session's end asks
 
-numbered : (x : Option ℕ) → IfSome x (λ n. n ≤ 2 ^ 63 + 3) → IfSome x (λ n. n ≤ 2 ^ 64 - 2 ^ 32)
+numbered : (x : Option ℕ) → IfSome x (λ n. n ≤ 2 ^ 63 + 4) → IfSome x (λ n. n ≤ 2 ^ 64 - 2 ^ 32)
 numbered None low = tt
 numbered (Some n) low = omega (arith, low)
 
-all_numbered : (layers : List FileLayer) → AllByRecursion (λ number. IfSome number (λ n. n ≤ 2 ^ 63 + 3)) (map log_number layers) → AreNumbered layers
+all_numbered : (layers : List FileLayer) → AllByRecursion (λ number. IfSome number (λ n. n ≤ 2 ^ 63 + 4)) (map log_number layers) → AreNumbered layers
 all_numbered [] low = tt
 all_numbered (l ∷ layers) low = (numbered (log_number l) low.0, all_numbered layers low.1)
 
-pub below_numbered : (layers : Layers) → IsLow (2 ^ 63 + 3) layers → AreNumbered layers.below.items
+pub below_numbered : (layers : Layers) → IsLow (2 ^ 63 + 4) layers → AreNumbered layers.below.items
 below_numbered layers low = all_numbered layers.below.items low.1
 
 module _ (layers : Layers) (leaf : Layer) (old : Disk) (leaf_is : layers.leaf ≡ Some leaf) (ready : AreReady layers old) where
   -- none of the other files is the leaf
   pub leaf_apart : AreOthers (own_file leaf) layers.below.items
-  leaf_apart = (let r = leaf_of layers leaf old leaf_is ready in subst (λ n. AreOthers n layers.below.items) (sym r.number) r.apart)
+  leaf_apart = (leaf_of layers leaf old leaf_is ready).apart
 
   -- which can be written still once they are ended
   pub leaf_ready : (mid : Disk) → mid.files ≡ old.files → WhereBothTold (IsBeside (own_file leaf)) old.told mid.told → IsReady leaf mid

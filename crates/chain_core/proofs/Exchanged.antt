@@ -16,17 +16,18 @@ use Rattle.layer_session.specs.declared.file.Layer.{Layer}
 use Rattle.layer_session.specs.declared.file_layer.FileLayer.{FileLayer}
 use Rattle.layer_session.specs.declared.file_layer.FileLayer.TheVariants.{Session}
 use Rattle.layer_session.proofs.FileLayers.{others_stand}
+use Rattle.table_pages.specs.declared.tables.TableParts.{TableParts}
 use Rattle.chain_core.specs.declared.layers.Layers.{Layers}
 use Rattle.chain_core.specs.declared.layers.Underway.{Underway}
-use Rattle.chain_core.specs.Copying.{target_number}
+use Rattle.chain_core.specs.Copying.{number_below, target_number}
 use Rattle.chain_core.specs.Ending.{SomeChangeFailed}
 use Rattle.chain_core.specs.Finished.{ChildIsSettled, IsExchanged, IsTargetOrChild, IsSessionOf, at_leaf, at_lower, number_above}
-use Rattle.chain_core.specs.Sessions.{AreReady, CanRelink, IsLow, IsMergeOf, child_layer, is_session_at}
+use Rattle.chain_core.specs.Sessions.{AreReady, CanRelink, IsLow, IsMergeOf, child_layer, is_session_at, leaf_number, number_of_leaf}
 use Rattle.chain_core.specs.States.{child_parts}
-use Rattle.chain_core.proofs.Places.{IsAt, merge_of}
+use Rattle.chain_core.proofs.Places.{IsAt, alone, merge_of}
 use Rattle.chain_core.proofs.Replaced.{AreParts, all_low, both_at, index_at, leaf_parts_then, low_at, more_low, numbers_at, parts_of, parts_then, replaced_own, replaced_ready}
 use Rattle.chain_core.proofs.Standing.{leaf_of, ready_on}
-use Rattle.chain_core.proofs.Turning.{KeepsTies}
+use Rattle.chain_core.proofs.Turning.{KeepsTies, alike_same}
 
 -- ---- numbers
 
@@ -114,12 +115,12 @@ module _ (place : ℕ) (was now : Layer) (old new : Layers) (u : Underway) (befo
       (subst (λ (g : Geometry). AreParts g old.leaf (r.above ++ Session now ∷ r.below) after) (sym geometry)
       (parts_then old.geometry old.leaf r.above r.below was now before after parts (subst (λ (c : List FileLayer). AreParts old.geometry old.leaf c before) r.was_there (parts_of old before ready)) others files is_ready)))
 
-  pub still_ready : IsExchanged place was now old new → new.merge ≡ old.merge → WhereBothTold (LeavesOthers (own_file was)) before.told after.told → after.files ≡ before.files → IsReady now after
+  pub still_ready : IsExchanged place was now old new → new.merge ≡ old.merge → new.retiring ≡ old.retiring → WhereBothTold (LeavesOthers (own_file was)) before.told after.told → after.files ≡ before.files → IsReady now after
       → WhereBothTold (KeepsTies was now) before.told after.told → AreReady new after
-  still_ready (at_leaf at is leaf_now below) merge others files is_ready keeps =
-      ready_on old new was now before after (record { geometry = geometry; below = below; merge = merge; parts = parts; was = is; now = leaf_now }) parts ready others files is_ready keeps
-  still_ready (at_lower at e leaf_is r) merge others files is_ready keeps =
-      replaced_ready old new u before after merge_is ready geometry leaf_is r.above r.below was now r.was_there r.now_there parts others files is_ready keeps u (merge ∙ merge_is) refl refl refl
+  still_ready (at_leaf at is leaf_now below) merge kept others files is_ready keeps =
+      ready_on old new was now before after (record { geometry = geometry; below = below; merge = merge; parts = parts; was = is; now = leaf_now }) (alike_same old.retiring new.retiring kept) parts ready others files is_ready keeps
+  still_ready (at_lower at e leaf_is r) merge kept others files is_ready keeps =
+      replaced_ready old new u before after merge_is ready geometry leaf_is r.above r.below was now r.was_there r.now_there parts others files is_ready keeps u (merge ∙ merge_is) refl refl refl (kept ∙ alone old u before merge_is ready)
 
   pub settling_leaves : IsExchanged place was now old new → WhereBothTold (KeepsOver was) before.told after.told → WhereBothTold (LeavesOthers (own_file was)) before.told after.told
   settling_leaves x over = others_stand.kept was before after (was_ready x) over
@@ -148,19 +149,24 @@ is_target was now old new u merge_is (at_lower at e leaf_is r) =
 
 pub is_child : (was now : Layer) (old new : Layers) (u : Underway) (before : Disk) → old.merge ≡ Some u → AreReady old before → IsExchanged u.source was now old new → IsTargetOrChild old (own_file was)
 is_child was now old new u before merge_is ready (at_leaf at is leaf_now below) =
-    inr ((leaf_of old was before is ready).number ∙ sym (ap (number_above (file_numbers old.below.items)) merge_is ∙ ap (λ n. cond (n == 0) 0 (get_or (file_numbers old.below.items) (n - 1) 0)) at))
+    inr (sym (ap number_of_leaf is) ∙ sym (ap (number_above old) merge_is ∙ ap (λ n. cond (n == 0) (leaf_number old) (get_or (file_numbers old.below.items) (n - 1) 0)) at))
 is_child was now old new u before merge_is ready (at_lower at e leaf_is r) =
-    inr (sym (ap (number_above (file_numbers old.below.items)) merge_is ∙ ap (λ n. cond (n == 0) 0 (get_or (file_numbers old.below.items) (n - 1) 0)) e
-    ∙ ap (λ (z : Bool). cond z 0 (get_or (file_numbers old.below.items) (at + 1 - 1) 0)) (not_first at) ∙ ap (λ n. get_or (file_numbers old.below.items) n 0) (one_less at ∙ sym r.place)
+    inr (sym (ap (number_above old) merge_is ∙ ap (λ n. cond (n == 0) (leaf_number old) (get_or (file_numbers old.below.items) (n - 1) 0)) e
+    ∙ ap (λ (z : Bool). cond z (leaf_number old) (get_or (file_numbers old.below.items) (at + 1 - 1) 0)) (not_first at) ∙ ap (λ n. get_or (file_numbers old.below.items) n 0) (one_less at ∙ sym r.place)
     ∙ ap (λ (c : List FileLayer). get_or (file_numbers c) (length r.above) 0) r.was_there ∙ index_at r.above r.below (Session was)))
 
-pub finishing_before : (old new : Layers) → file_numbers new.below.items ≡ file_numbers old.below.items → new.merge ≡ old.merge → (n : ℕ) → IsTargetOrChild new n → IsTargetOrChild old n
-finishing_before old new numbers merge n (inl t) = inl (t ∙ ap (λ m. target_number (record new { merge = m })) merge ∙ by_numbers old.merge)
+pub finishing_before : (old new : Layers) → file_numbers new.below.items ≡ file_numbers old.below.items → leaf_number new ≡ leaf_number old → new.merge ≡ old.merge → (n : ℕ) → IsTargetOrChild new n → IsTargetOrChild old n
+finishing_before old new numbers top merge n (inl t) = inl (t ∙ ap (number_below (file_numbers new.below.items)) merge ∙ ap (λ (l : List ℕ). number_below l old.merge) numbers)
+finishing_before old new numbers top merge n (inr c) = inr (c ∙ ap (number_above new) merge ∙ by_merge old.merge)
   where
-    by_numbers : (m : Option Underway) → target_number (record new { merge = m }) ≡ target_number (record old { merge = m })
-    by_numbers None = refl
-    by_numbers (Some u) = ap (λ (c : List ℕ). get_or c (u.source + 1) 0) numbers
-finishing_before old new numbers merge n (inr c) = inr (c ∙ ap (λ (m : Option Underway). number_above (file_numbers new.below.items) m) merge ∙ ap (λ (l : List ℕ). number_above l old.merge) numbers)
+    by_merge : (m : Option Underway) → number_above new m ≡ number_above old m
+    by_merge None = top
+    by_merge (Some u) = ap (λ n. cond (u.source == 0) n (get_or (file_numbers new.below.items) (u.source - 1) 0)) top ∙ ap (λ (l : List ℕ). cond (u.source == 0) (leaf_number old) (get_or l (u.source - 1) 0)) numbers
+
+-- the leaf is the same file still
+pub exchanged_leaf : (place : ℕ) (was now : Layer) (old new : Layers) → IsExchanged place was now old new → now.tables.parts ≡ was.tables.parts → leaf_number new ≡ leaf_number old
+exchanged_leaf place was now old new (at_leaf at is leaf_now below) parts = ap number_of_leaf leaf_now ∙ ap (λ (p : TableParts). p.file) parts ∙ sym (ap number_of_leaf is)
+exchanged_leaf place was now old new (at_lower at e leaf_is r) parts = ap number_of_leaf leaf_is
 
 pub change_failed : (was : Layer) (old : Layers) (before after : Disk) (r : Result (Unit {0}) StoreFault) → IsTargetOrChild old (own_file was) → IsReady was before → IfErr r (FailsToChange (own_file was) before after)
     → IfErr r (SomeChangeFailed (IsTargetOrChild old) before after)

@@ -7,6 +7,7 @@ use Rattle.std.specs.Int.{bit_at}
 use Rattle.std.proofs.lemmas.List.{nil_from_length, take-append-drop, drop-drop, drop_more, length-drop, get_or-replicate, length-map}
 use Rattle.std.proofs.lemmas.Nat.Bits.{bit_at-zero}
 use Rattle.vx_base.specs.declared.parts.Geometry.{Geometry}
+use Rattle.vx_base.specs.declared.parts.Header.{Header}
 use Rattle.vx_base.specs.declared.parts.Parts.{Parts}
 use Rattle.vx_base.specs.Fields.{bytes_at, zeros}
 use Rattle.vhdx_format.specs.SectorBitmaps.{bit_of}
@@ -28,17 +29,20 @@ use Rattle.layer_session.specs.declared.file_layer.FileLayer.{FileLayer}
 use Rattle.layer_session.specs.Calls.{AddsOwned, IsBeside, IsSame, own_bytes, own_file}
 use Rattle.layer_session.specs.Keeping.{IsHeld, Serves}
 use Rattle.layer_session.specs.ReadOnly.{SomeReadFailed}
-use Rattle.layer_session.specs.FileLayers.{AreReadyFiles, AreSameFiles, HaveFiles, HaveSameNumbers, file_numbers, log_number, number_of, table_parts}
+use Rattle.layer_session.specs.FileLayers.{AreReadyFiles, AreSameFiles, HaveFiles, HaveSameNumbers, file_numbers, log_header, log_number, number_of, table_parts}
 use Rattle.layer_session.proofs.Standing.{layers_stand}
 use Rattle.chain_core.specs.declared.layers.Layers.{Layers}
 use Rattle.chain_core.specs.Reading.{AddsPart, HasOnlyRead, of_read, of_session}
 use Rattle.chain_core.specs.declared.layers.Underway.{Underway}
-use Rattle.chain_core.specs.Sessions.{AreApart, AreReady, CanRelink, IsMergeOf, IsReadyLeaf}
-use Rattle.chain_core.specs.States.{AreHeld, State, IsServing, disk_now, files_of, sector_of, seen_in, others_of, AreWritten, IsCourse, Rest, child_parts, merging, plain}
+use Rattle.chain_core.specs.Sessions.{AreApart, AreReady, AtMostOne, CanRelink, CanRetire, IsMergeOf, IsReadyLeaf, IsRetiringOf, is_session_at, number_of_leaf}
+use Rattle.chain_core.specs.States.{AreHeld, State, IsRetiring, IsServing, disk_now, files_of, sector_of, seen_in, others_of, AreWritten, IsCourse, Rest, child_parts, merging, plain, retiring, target_parts}
+use Rattle.chain_core.specs.declared.layers.Retiring.{Retiring}
+use Rattle.layer_session.specs.FileLayers.{AreOthers}
+use Rattle.guest_model.specs.History.{History}
 use Rattle.layer_session.proofs.FileLayers.{file_layers_stand}
-use Rattle.chain_core.proofs.Steps.{LeafStep, written_on, course_on}
-use Rattle.chain_core.proofs.Standing.{leaf_of, merge_on, relink_on}
-use Rattle.chain_core.proofs.Turning.{all_read, all_resting, relink_same, top_resting, turn_read}
+use Rattle.chain_core.proofs.Steps.{LeafStep, written_on, course_on, leaving_on}
+use Rattle.chain_core.proofs.Standing.{leaf_of, merge_on, relink_on, retires_on, retiring_on}
+use Rattle.chain_core.proofs.Turning.{alike_same, all_read, all_resting, relink_same, retires_alike, retiring_alike, top_resting, turn_read}
 
 -- ---- the store stays but for its counts of failed reads
 
@@ -77,7 +81,6 @@ ready_moved g (l ∷ below) before after s all = (
 leaf_moved : (g : Geometry) (below : List FileLayer) (leaf : Layer) (before after : Disk) → Stays before after → IsReadyLeaf g below before leaf → IsReadyLeaf g below after leaf
 leaf_moved g below leaf before after s l = record {
   ready = layers_stand.ready leaf before after l.ready s.files (same_beside (own_file leaf) before.told after.told s.told);
-  number = l.number;
   sector = l.sector;
   sectors = l.sectors;
   apart = l.apart;
@@ -85,13 +88,14 @@ leaf_moved g below leaf before after s l = record {
 
 -- ---- the layers serve what they served
 
-swapped : (old new : Layers) (v : State) (trace : Trace) → new.geometry ≡ old.geometry → IsCourse (sector_of v) v.writes new new.merge v.top v.rest → IfSome new.leaf (λ leaf. (v.writes v.top.number ≡ true) × AreWritten v.writes new.below.items) → AreHeld new.leaf new.below.items trace v.top (others_of v.rest) → IsServing old v trace → IsServing new v trace
-swapped old new v trace g course written held s = record {
+swapped : (old new : Layers) (v : State) (trace : Trace) → new.geometry ≡ old.geometry → IsCourse (sector_of v) v.writes new new.merge v.top v.rest → IsRetiring (sector_of v) v.writes v.history new new.retiring v.top v.rest → IfSome new.leaf (λ leaf. (v.writes v.top.number ≡ true) × AreWritten v.writes new.below.items) → AreHeld new.leaf new.below.items trace v.top (others_of v.rest) → IsServing old v trace → IsServing new v trace
+swapped old new v trace g course leaving written held s = record {
   once = s.once;
   geometry = g ∙ s.geometry;
   served = s.served;
   loose = s.loose;
   course = course;
+  leaving = leaving;
   held = held;
   whole = s.whole;
   synced = s.synced;
@@ -101,17 +105,16 @@ swapped old new v trace g course written held s = record {
 }
 
 -- the leaf was read
-pub leaf_reads : (old new : Layers) (leaf next : Layer) (file : ℕ) (before after : Disk) (answer : Result (Unit {0}) StoreFault) → LeafStep old new leaf next → IsSame leaf next before
+pub leaf_reads : (old new : Layers) (leaf next : Layer) (file : ℕ) (before after : Disk) (answer : Result (Unit {0}) StoreFault) → LeafStep old new leaf next → new.retiring ≡ old.retiring → IsSame leaf next before
     → OnOk answer (after ≡ before) → IfErr answer (ReadFailed file before after) → AreReady old before → HasOnlyRead old new before after
-leaf_reads old new leaf next file before after answer step same done failed ready =
+leaf_reads old new leaf next file before after answer step kept same done failed ready =
     let s = stays_by before after answer done (its_own file before after answer failed) in
     let l = leaf_of old leaf before step.was ready in
     let made : IsReadyLeaf old.geometry old.below.items before next = record {
       ready = same.ready l.ready;
-      number = ap (λ (p : TableParts). p.file) same.parts ∙ l.number;
       sector = ap (λ (p : TableParts). p.sector) same.parts ∙ l.sector;
       sectors = ap (λ (p : TableParts). p.sectors) same.parts ∙ l.sectors;
-      apart = l.apart;
+      apart = subst (λ (n : ℕ). AreOthers n old.below.items) (sym (ap (λ (p : TableParts). p.file) same.parts)) l.apart;
     } in
     let moved = leaf_moved old.geometry old.below.items next before after s made in
     let there : IsReadyLeaf new.geometry new.below.items after next = subst (λ b. IsReadyLeaf new.geometry b.items after next) (sym step.below) (subst (λ (g : Geometry). IsReadyLeaf g old.below.items after next) (sym step.geometry) moved) in
@@ -122,18 +125,23 @@ leaf_reads old new leaf next file before after answer step same done failed read
           ∙ sym (ap (λ (o : Option Layer). option_map (λ (l : Layer). l.log.number) o ∷ map log_number new.below.items) step.was)
           ∙ ap (λ b. option_map (λ (l : Layer). l.log.number) old.leaf ∷ map log_number b.items) step.below;
       merge = step.merge;
+      retiring = kept;
+      leaf = ap number_of_leaf step.now ∙ ap (λ (p : TableParts). p.file) same.parts ∙ sym (ap number_of_leaf step.was);
       ready = record {
         sector = ap (λ (g : Geometry). g.sector) step.geometry ∙ ready.sector;
         leaf = subst (λ o. IfSome o (IsReadyLeaf new.geometry new.below.items after)) (sym step.now) there;
         below = subst (λ b. AreReadyFiles new.geometry after b.items) (sym step.below) (subst (λ (g : Geometry). AreReadyFiles g after old.below.items) (sym step.geometry) below);
         apart = subst (λ b. AreApart (file_numbers b.items)) (sym step.below) ready.apart;
         merge = merge_on old new leaf next step ready.merge;
+        one = subst (λ o. AtMostOne o new.retiring) (sym step.merge) (subst (λ o. AtMostOne old.merge o) (sym kept) ready.one);
+        retiring = retiring_on old new leaf next step (alike_same old.retiring new.retiring kept) ready.retiring;
+        retires = retires_on old new leaf next before after step (alike_same old.retiring new.retiring kept) (turn_read before after leaf next s.told same) (all_resting before after old.below.items s.told) ready.retires;
         relink = relink_on old new leaf next before after step (turn_read before after leaf next s.told same) (all_resting before after old.below.items s.told) ready.relink;
       };
       serves = λ trace is v serving.
           let held : Serves leaf trace v.top × HaveFiles old.below.items trace (others_of v.rest) = subst (λ o. AreHeld o old.below.items trace v.top (others_of v.rest)) step.was serving.held in
           let rest : HaveFiles new.below.items trace (others_of v.rest) = subst (λ b. HaveFiles b.items trace (others_of v.rest)) (sym step.below) held.1 in
-          swapped old new v trace step.geometry (course_on (sector_of v) old new leaf next v.writes v.top v.top v.rest step refl refl refl refl serving.course) (written_on old new leaf next v step serving) (subst (λ o. AreHeld o new.below.items trace v.top (others_of v.rest)) (sym step.now) (same.serves trace v.top is held.0, rest)) serving;
+          swapped old new v trace step.geometry (course_on (sector_of v) old new leaf next v.writes v.top v.top v.rest step refl refl refl refl serving.course) (leaving_on (sector_of v) v.history old new leaf next v.writes v.top v.top v.rest step kept refl refl refl serving.leaving) (written_on old new leaf next v step serving) (subst (λ o. AreHeld o new.below.items trace v.top (others_of v.rest)) (sym step.now) (same.serves trace v.top is held.0, rest)) serving;
       told = s.told;
     }
 
@@ -176,7 +184,7 @@ leaf_beside : (o : Option Layer) (g : Geometry) (was now : List FileLayer) (befo
     → IfSome o (IsReadyLeaf g was before) → IfSome o (IsReadyLeaf g now after)
 leaf_beside None g was now before after s same leaf = tt
 leaf_beside (Some leaf) g was now before after s same l =
-    leaf_moved g now leaf before after s (record { ready = l.ready; number = l.number; sector = l.sector; sectors = l.sectors; apart = same_numbers (λ n k. n ≢ 0) was now same.parts same.logs l.apart })
+    leaf_moved g now leaf before after s (record { ready = l.ready; sector = l.sector; sectors = l.sectors; apart = same_numbers (λ n k. n ≢ own_file leaf) was now same.parts same.logs l.apart })
 
 held_beside : (o : Option Layer) (was now : List FileLayer) (trace : Trace) (v : State) → ((files : List Placed) → HaveFiles was trace files → HaveFiles now trace files) → AreHeld o was trace v.top (others_of v.rest) → AreHeld o now trace v.top (others_of v.rest)
 held_beside None was now trace v reads held = (held.0, reads (files_of v) held.1)
@@ -196,7 +204,9 @@ course_beside z old new now writes top rest same l m n course = subst (λ o. IsC
     by_rest : (o : Option Underway) (rest : Rest) → IsCourse z writes old o top rest → IsCourse z writes new o top rest
     by_rest None (plain others) is = tt
     by_rest None (merging above source target below m) is = absurd is
+    by_rest None (retiring target below first before) is = tt
     by_rest (Some u) (plain others) is = absurd is
+    by_rest (Some u) (retiring target below first before) is = absurd is
     by_rest (Some u) (merging above source target below m) is = record {
       place = is.place;
       written = is.written;
@@ -206,6 +216,30 @@ course_beside z old new now writes top rest same l m n course = subst (λ o. IsC
           ∙ ap (λ (o : Option TableParts). cond (u.source == 0) (option_map (λ (l : Layer). l.tables.parts) old.leaf) o) (parts_same old.below.items now (u.source - 1) same.parts) ∙ is.goes_by;
       relinks = is.relinks;
       marks = is.marks;
+      under_way = is.under_way;
+    }
+
+leaving_beside : (z : ℕ) (h : History) (old new : Layers) (now : List FileLayer) (writes : ℕ → Bool) (top : Placed) (rest : Rest) → HaveSameNumbers old.below.items now → new.leaf ≡ old.leaf → new.retiring ≡ old.retiring → new.below.items ≡ now
+    → IsRetiring z writes h old old.retiring top rest → IsRetiring z writes h new new.retiring top rest
+leaving_beside z h old new now writes top rest same l m n leaving = subst (λ o. IsRetiring z writes h new o top rest) (sym m) (by_rest old.retiring rest leaving)
+  where
+    by_rest : (o : Option Retiring) (rest : Rest) → IsRetiring z writes h old o top rest → IsRetiring z writes h new o top rest
+    by_rest None (plain others) is = tt
+    by_rest None (merging above source target below m) is = tt
+    by_rest None (retiring target below first before) is = absurd is
+    by_rest (Some r) (plain others) is = absurd is
+    by_rest (Some r) (merging above source target below m) is = absurd is
+    by_rest (Some r) (retiring target below first before) is = record {
+      some = is.some;
+      written = is.written;
+      parts = is.parts;
+      goes_by = ap (option_map (λ (l : Layer). l.tables.parts)) l ∙ is.goes_by;
+      retires = is.retires;
+      lower = is.lower;
+      lower_goes_by = ap target_parts n ∙ parts_same old.below.items now 0 same.parts ∙ is.lower_goes_by;
+      clears = is.clears;
+      each = is.each;
+      stamps = is.stamps;
       under_way = is.under_way;
     }
 
@@ -219,9 +253,9 @@ written_beside old new now v same l n written =
     by_leaf None h = tt
     by_leaf (Some leaf) h = (h.0, same_numbers (λ n k. v.writes n ≡ is_some k) old.below.items now same.parts same.logs h.1)
 
-pub below_reads : (old new : Layers) (was now : List FileLayer) (before after : Disk) (answer : Result (Unit {0}) StoreFault) → was ≡ old.below.items → new.geometry ≡ old.geometry → new.leaf ≡ old.leaf → new.merge ≡ old.merge → new.below.items ≡ now
-    → AreSameFiles old.geometry was now before → HaveSameNumbers was now → OnOk answer (after ≡ before) → IfErr answer (SomeReadFailed before after) → AreReady old before → HasOnlyRead old new before after
-below_reads old new was now before after answer w g l m n same numbers done failed ready =
+pub below_reads : (old new : Layers) (was now : List FileLayer) (before after : Disk) (answer : Result (Unit {0}) StoreFault) → was ≡ old.below.items → new.geometry ≡ old.geometry → new.leaf ≡ old.leaf → new.merge ≡ old.merge → new.retiring ≡ old.retiring → new.below.items ≡ now
+    → AreSameFiles old.geometry was now before → HaveSameNumbers was now → map log_header now ≡ map log_header was → OnOk answer (after ≡ before) → IfErr answer (SomeReadFailed before after) → AreReady old before → HasOnlyRead old new before after
+below_reads old new was now before after answer w g l m q n same numbers headers done failed ready =
     let s = stays_by before after answer done (of_some before after answer failed) in
     let same' : AreSameFiles old.geometry old.below.items now before = subst (λ (b : List FileLayer). AreSameFiles old.geometry b now before) w same in
     let numbers' : HaveSameNumbers old.below.items now = subst (λ (b : List FileLayer). HaveSameNumbers b now) w numbers in
@@ -235,6 +269,8 @@ below_reads old new was now before after answer w g l m n same numbers done fail
       numbers = ap (λ (o : Option Layer). option_map (λ (l : Layer). l.log.number) o ∷ map log_number new.below.items) l
           ∙ ap (λ (logs : List (Option ℕ)). option_map (λ (l : Layer). l.log.number) old.leaf ∷ logs) (ap (map log_number) n ∙ numbers'.logs);
       merge = m;
+      retiring = q;
+      leaf = ap number_of_leaf l;
       ready = record {
         sector = ap (λ (k : Geometry). k.sector) g ∙ ready.sector;
         leaf = leaf';
@@ -244,6 +280,17 @@ below_reads old new was now before after answer w g l m n same numbers done fail
             (subst (λ (k : Geometry). IfSome old.merge (IsMergeOf k new.leaf new.below.items)) (sym g)
             (subst (λ o. IfSome old.merge (IsMergeOf old.geometry o new.below.items)) (sym l)
             (subst (λ (b : List FileLayer). IfSome old.merge (IsMergeOf old.geometry old.leaf b)) (sym n) (merge_same old.geometry old.leaf old.below.items now old.merge numbers' ready.merge))));
+        one = subst (λ o. AtMostOne o new.retiring) (sym m) (subst (λ o. AtMostOne old.merge o) (sym q) ready.one);
+        retiring = subst (λ (k : Geometry). IfSome new.retiring (IsRetiringOf k new.leaf new.below.items)) (sym g)
+            (subst (λ (b : List FileLayer). IfSome new.retiring (IsRetiringOf old.geometry new.leaf b)) (sym n)
+            (retiring_alike old.geometry old.leaf new.leaf old.below.items now old.retiring new.retiring (alike_same old.retiring new.retiring q) (ap is_some l)
+            (λ some. let long : length now ≡ length old.below.items = simp length-map at (ap length numbers'.parts) in omega (arith, long, some))
+            (ap (λ (logs : List (Option ℕ)). is_some (get_or logs 0 None)) numbers'.logs)
+            (ap (λ (hs : List (Option Header)). get_or hs 0 None) (headers ∙ ap (map log_header) w)) ready.retiring));
+        retires = subst (λ o. IfSome new.retiring (CanRetire o new.below.items after)) (sym l)
+            (subst (λ (b : List FileLayer). IfSome new.retiring (CanRetire old.leaf b after)) (sym n)
+            (retires_alike before after old.leaf old.leaf old.below.items now old.retiring new.retiring (alike_same old.retiring new.retiring q) (top_resting before after old.leaf s.told)
+            (all_read old.geometry before after old.below.items now numbers'.parts s.told ready.below (λ t files is. same'.have t files is)) ready.retires));
         relink = subst (λ o. IfSome o (CanRelink new.leaf new.below.items after)) (sym m)
             (subst (λ o. IfSome old.merge (CanRelink o new.below.items after)) (sym l)
             (subst (λ (b : List FileLayer). IfSome old.merge (CanRelink old.leaf b after)) (sym n)
@@ -252,7 +299,7 @@ below_reads old new was now before after answer w g l m n same numbers done fail
       };
       serves = λ trace is v serving.
           let held : AreHeld old.leaf now trace v.top (others_of v.rest) = held_beside old.leaf old.below.items now trace v (λ files. same'.have trace files is) serving.held in
-          swapped old new v trace g (course_beside (sector_of v) old new now v.writes v.top v.rest numbers' l m n serving.course) (written_beside old new now v numbers' l n serving.written) (subst (λ o. AreHeld o new.below.items trace v.top (others_of v.rest)) (sym l) (subst (λ (b : List FileLayer). AreHeld old.leaf b trace v.top (others_of v.rest)) (sym n) held)) serving;
+          swapped old new v trace g (course_beside (sector_of v) old new now v.writes v.top v.rest numbers' l m n serving.course) (leaving_beside (sector_of v) v.history old new now v.writes v.top v.rest numbers' l q n serving.leaving) (written_beside old new now v numbers' l n serving.written) (subst (λ o. AreHeld o new.below.items trace v.top (others_of v.rest)) (sym l) (subst (λ (b : List FileLayer). AreHeld old.leaf b trace v.top (others_of v.rest)) (sym n) held)) serving;
       told = s.told;
     }
 

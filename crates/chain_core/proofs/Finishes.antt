@@ -24,15 +24,15 @@ use Rattle.layer_session.specs.Updating.{HasUpdated, UpdatesOver}
 use Rattle.chain_core.specs.declared.layers.Layers.{Layers}
 use Rattle.chain_core.specs.declared.layers.Underway.{Underway}
 use Rattle.chain_core.specs.Answering.{EachOpensNow, HasEnded}
-use Rattle.chain_core.specs.Finished.{ChangesFile, Finishes, FinishesTo, IsAllMarked, IsExchanged, IsTargetOrChild, IsReplaced, Settles, UpdatesBy, at_leaf, at_lower, look_of, numbers_left}
-use Rattle.chain_core.specs.Sessions.{AreReady, CanRelink, IsLow, IsMergeOf}
-use Rattle.chain_core.specs.States.{AreHeld, AreWritten, IsCourse, IsServing, IsUnder, Merging, Relinks, Rest, State, child_of, child_parts, dirty_now, disk_now, merging, plain, sector_of}
+use Rattle.chain_core.specs.Finished.{ChangesFile, Finishes, FinishesTo, IsAllMarked, IsExchanged, IsFinished, IsReplaced, IsTargetOrChild, LeavesBy, Settles, UpdatesBy, at_leaf, at_lower, leaf_left, look_of, numbers_left}
+use Rattle.chain_core.specs.Sessions.{AreReady, AtMostOne, CanRelink, CanRetire, IsLow, IsMergeOf, IsRetiringOf, leaf_number, number_of_leaf}
+use Rattle.chain_core.specs.States.{AreHeld, AreWritten, IsCourse, IsServing, IsUnder, Merging, Relinks, Rest, State, child_of, child_parts, dirty_now, disk_now, merging, plain, retiring, sector_of}
 use Rattle.chain_core.proofs.Children.{child_failed, child_settled, ended_by, last_child, leaf_failed, target_failed}
 use Rattle.chain_core.proofs.Concluding.{both_told}
 use Rattle.chain_core.proofs.Ending.{both_then, failed_later}
-use Rattle.chain_core.proofs.Exchanged.{change_failed, child_turned, exchanged_low, exchanged_numbers, exchanged_session, finishing_before, is_child, is_target, parts_stay, parts_was, relinking_leaves, settling_leaves, still_ready, was_ready}
+use Rattle.chain_core.proofs.Exchanged.{change_failed, child_turned, exchanged_leaf, exchanged_low, exchanged_numbers, exchanged_session, finishing_before, is_child, is_target, parts_stay, parts_was, relinking_leaves, settling_leaves, still_ready, was_ready}
 use Rattle.chain_core.proofs.Relinked.{child_relinked, into_spelled, leaf_relinked, relinked_child, relinks_then, with_locator}
-use Rattle.chain_core.proofs.Places.{IsAt, at_place, merge_of, some_leaf}
+use Rattle.chain_core.proofs.Places.{IsAt, alone, at_place, merge_of, some_leaf}
 use Rattle.chain_core.proofs.Putting.{have_parts, serves_target, target_settled}
 use Rattle.chain_core.proofs.Replaced.{AreParts, parts_without, written_at}
 use Rattle.chain_core.proofs.Steps.{leaf_settled, names_behind}
@@ -125,7 +125,7 @@ once_names v layers top above source target below m trace serving =
 -- ---- the steps, for one state
 
 module _ (v : State) (top : Placed) (above : List Placed) (source target : Placed) (below : List Placed) (m : Merging) (old new : Layers) (u : Underway) (disk : Disk) (x y : Trace) (merge_is : old.merge ≡ Some u) (ready : AreReady old disk)
-    (geometry : new.geometry ≡ old.geometry) (merge : new.merge ≡ old.merge) (was now : Layer) (parts : now.tables.parts ≡ was.tables.parts) (serving : IsServing old (record v { top = top; rest = merging above source target below m }) x) (over : KeepsOver was x y) where
+    (geometry : new.geometry ≡ old.geometry) (merge : new.merge ≡ old.merge) (kept : new.retiring ≡ old.retiring) (was now : Layer) (parts : now.tables.parts ≡ was.tables.parts) (serving : IsServing old (record v { top = top; rest = merging above source target below m }) x) (over : KeepsOver was x y) where
   abbrev here : State
   here = record v { top = top; rest = merging above source target below m }
 
@@ -144,7 +144,7 @@ module _ (v : State) (top : Placed) (above : List Placed) (source target : Place
   target_ok (at_lower at e leaf_is r) has =
       let place : length r.above ≡ length above + 1 = (let p : u.source ≡ length above = under.place in omega (arith, e, r.place, p)) in
       let serves : Serves was x target = serves_target v top above source target below m old the_leaf.0 x serving the_leaf.1 r.above was r.below r.was_there place in
-      target_settled v top above source target below m old the_leaf.0 x serving the_leaf.1 r.above was r.below r.was_there place new u now y geometry (leaf_is ∙ the_leaf.1) merge_is (merge ∙ merge_is) r.now_there parts
+      target_settled v top above source target below m old the_leaf.0 x serving the_leaf.1 r.above was r.below r.was_there place new u now y geometry (kept ∙ alone old u disk merge_is ready) (leaf_is ∙ the_leaf.1) merge_is (merge ∙ merge_is) r.now_there parts
       (subst (AreWritten v.writes) (sym r.now_there) (written_at was now parts v.writes r.above r.below (subst (AreWritten v.writes) r.was_there written.1))) (over.over target serves) (has.serves target serves)
 
   pub target_err : IsExchanged (u.source + 2) was now old new → HasEnded here x y
@@ -160,7 +160,7 @@ module _ (v : State) (top : Placed) (above : List Placed) (source target : Place
 
   pub leaf_ok : old.leaf ≡ Some was → new.leaf ≡ Some now → new.below ≡ old.below → HasCommitted was now x y → EachOpensNow here x y × IsServing new (record v { top = settled top; rest = merging above source target below m }) y
   leaf_ok is leaf_now same has =
-      leaf_settled here old new was now x y (record { geometry = geometry; below = same; merge = merge; parts = parts; was = is; now = leaf_now }) serving (over.over top (serves_top is)) (has.serves top (serves_top is))
+      leaf_settled here old new was now x y (record { geometry = geometry; below = same; merge = merge; parts = parts; was = is; now = leaf_now }) kept serving (over.over top (serves_top is)) (has.serves top (serves_top is))
 
   pub leaf_err : old.leaf ≡ Some was → HasEnded here x y
   leaf_err is = leaf_failed here old x y serving written.0 (over.over top (serves_top is))
@@ -184,10 +184,10 @@ module _ (v : State) (top : Placed) (pre : List Placed) (child source target : P
   pub writes_child : v.writes child.number ≡ true
   writes_child = ap (λ (p : Placed). v.writes p.number) (sym (last_child top pre child)) ∙ lower_under.child_written
 
-  pub lower_ok : new.geometry ≡ old.geometry → new.merge ≡ old.merge → new.leaf ≡ old.leaf → new.below.items ≡ a ++ Session now ∷ b → now.tables.parts ≡ was.tables.parts → KeepsOver was x y → HasCommitted was now x y
+  pub lower_ok : new.geometry ≡ old.geometry → new.merge ≡ old.merge → new.retiring ≡ old.retiring → new.leaf ≡ old.leaf → new.below.items ≡ a ++ Session now ∷ b → now.tables.parts ≡ was.tables.parts → KeepsOver was x y → HasCommitted was now x y
       → EachOpensNow (record v { top = top; rest = merging (pre ++ child ∷ []) source target below m }) x y × IsServing new (record v { top = top; rest = merging (pre ++ settled child ∷ []) source target below m }) y
-  lower_ok geometry merge leaf_is now_there parts over has =
-      child_settled v top pre child source target below m old x y serving (over.over child serves_child) new u lower_leaf.0 a b was now lower_leaf.1 merge_is was_there place geometry (leaf_is ∙ lower_leaf.1) (merge ∙ merge_is) now_there parts
+  lower_ok geometry merge kept leaf_is now_there parts over has =
+      child_settled v top pre child source target below m old x y serving (over.over child serves_child) new u lower_leaf.0 a b was now lower_leaf.1 merge_is was_there place geometry (kept ∙ alone old u disk merge_is ready) (leaf_is ∙ lower_leaf.1) (merge ∙ merge_is) now_there parts
       (has.serves child serves_child)
 
   pub lower_err : KeepsOver was x y → HasEnded (record v { top = top; rest = merging (pre ++ child ∷ []) source target below m }) x y
@@ -197,7 +197,7 @@ module _ (v : State) (top : Placed) (pre : List Placed) (child source target : P
 
 -- what is known of a merge whose stripes are all marked
 module _ (v : State) (top : Placed) (above : List Placed) (source target : Placed) (below : List Placed) (m : Merging) (old : Layers) (u : Underway) (disk : Disk) (x : Trace) (merge_is : old.merge ≡ Some u) (ready : AreReady old disk)
-    (serving : IsServing old (record v { top = top; rest = merging above source target below m }) x) (marked : IsAllMarked u) where
+    (serving : IsServing old (record v { top = top; rest = merging above source target below m }) x) (marked : IsAllMarked u.marks) where
   abbrev course_of : IsUnder top.member.ties.geometry.sector v.writes old u top above source target m
   course_of = subst (λ o. IsCourse top.member.ties.geometry.sector v.writes old o top (merging above source target below m)) merge_is serving.course
 
@@ -221,7 +221,7 @@ module _ (v : State) (top : Placed) (above : List Placed) (source target : Place
 
 -- the leaf is the child
 module _ (v : State) (top source target : Placed) (below : List Placed) (m : Merging) (old : Layers) (u : Underway) (disk : Disk) (x y : Trace) (merge_is : old.merge ≡ Some u) (ready : AreReady old disk)
-    (serving : IsServing old (record v { top = top; rest = merging [] source target below m }) x) (marked : IsAllMarked u) (tight : (s : ℕ) → target.is_loose s ≡ false) (was now : Layer) (is : old.leaf ≡ Some was)
+    (serving : IsServing old (record v { top = top; rest = merging [] source target below m }) x) (marked : IsAllMarked u.marks) (tight : (s : ℕ) → target.is_loose s ≡ false) (was now : Layer) (is : old.leaf ≡ Some was)
     (goes : child_parts old.leaf old.below.items u.source ≡ Some was.tables.parts) (over : UpdatesOver was u.relink x y) where
   abbrev top_relinks : Relinks was.tables.parts.bat_len u.relink top target
   top_relinks = relinks_by v top [] source target below m old u disk x merge_is ready serving marked was.tables.parts goes
@@ -232,10 +232,10 @@ module _ (v : State) (top source target : Placed) (below : List Placed) (m : Mer
   top_over : GoesOver top (relinked_child was.tables.parts.bat_len u.relink top target top_relinks) x y
   top_over = over.over top (with_locator top.member.ties top_relinks.ties) top_relinks.region top_serves (into_spelled was.tables.parts.bat_len u.relink top target top_relinks)
 
-  pub top_ok : (new : Layers) (next : FileLayer) (rest : List FileLayer) → old.below.items ≡ next ∷ rest → new.geometry ≡ old.geometry → new.leaf ≡ Some now → new.merge ≡ None → new.below.items ≡ rest → HasUpdated was now u.relink x y
+  pub top_ok : (new : Layers) (next : FileLayer) (rest : List FileLayer) → old.below.items ≡ next ∷ rest → new.geometry ≡ old.geometry → new.leaf ≡ Some now → new.merge ≡ None → new.retiring ≡ None → new.below.items ≡ rest → HasUpdated was now u.relink x y
       → EachOpensNow (record v { top = top; rest = merging [] source target below m }) x y × IsServing new (record v { top = relinked_child was.tables.parts.bat_len u.relink top target top_relinks; rest = plain (target ∷ below) }) y
-  top_ok new next rest items_were geometry leaf_now no_merge items has =
-      leaf_relinked v top source target below m old new u was now next rest x y serving is merge_is items_were geometry leaf_now no_merge items tight (some_stripe v top [] source target below m old u disk x merge_is ready serving marked)
+  top_ok new next rest items_were geometry leaf_now no_merge none_now items has =
+      leaf_relinked v top source target below m old new u was now next rest x y serving is merge_is items_were geometry leaf_now no_merge none_now items tight (some_stripe v top [] source target below m old u disk x merge_is ready serving marked)
       (all_marked v top [] source target below m old u disk x merge_is ready serving marked) was.tables.parts.bat_len top_relinks top_over
       (has.serves top (with_locator top.member.ties top_relinks.ties) top_relinks.region top_serves (into_spelled was.tables.parts.bat_len u.relink top target top_relinks))
 
@@ -251,7 +251,7 @@ module _ (v : State) (top source target : Placed) (below : List Placed) (m : Mer
 
 -- the child stands below the leaf
 module _ (v : State) (top : Placed) (pre : List Placed) (child source target : Placed) (below : List Placed) (m : Merging) (old : Layers) (u : Underway) (disk : Disk) (x y : Trace) (merge_is : old.merge ≡ Some u) (ready : AreReady old disk)
-    (serving : IsServing old (record v { top = top; rest = merging (pre ++ child ∷ []) source target below m }) x) (marked : IsAllMarked u) (tight : (s : ℕ) → target.is_loose s ≡ false) (was now : Layer) (a b : List FileLayer)
+    (serving : IsServing old (record v { top = top; rest = merging (pre ++ child ∷ []) source target below m }) x) (marked : IsAllMarked u.marks) (tight : (s : ℕ) → target.is_loose s ≡ false) (was now : Layer) (a b : List FileLayer)
     (was_there : old.below.items ≡ a ++ Session was ∷ b) (place : length a ≡ length pre) (goes : child_parts old.leaf old.below.items u.source ≡ Some was.tables.parts) (over : UpdatesOver was u.relink x y) where
   lower_top : (l : Layer) × (old.leaf ≡ Some l)
   lower_top = some_leaf old.leaf (merge_of old u disk merge_is ready).session
@@ -269,11 +269,11 @@ module _ (v : State) (top : Placed) (pre : List Placed) (child source target : P
   child_writes : v.writes child.number ≡ true
   child_writes = writes_child v top pre child source target below m old old u disk x y merge_is ready was now serving a b was_there place
 
-  pub child_ok : (new : Layers) (next : FileLayer) (rest : List FileLayer) → b ≡ next ∷ rest → new.geometry ≡ old.geometry → new.leaf ≡ old.leaf → new.merge ≡ None → new.below.items ≡ a ++ Session now ∷ rest → HasUpdated was now u.relink x y
+  pub child_ok : (new : Layers) (next : FileLayer) (rest : List FileLayer) → b ≡ next ∷ rest → new.geometry ≡ old.geometry → new.leaf ≡ old.leaf → new.merge ≡ None → new.retiring ≡ None → new.below.items ≡ a ++ Session now ∷ rest → HasUpdated was now u.relink x y
       → EachOpensNow (record v { top = top; rest = merging (pre ++ child ∷ []) source target below m }) x y
       × IsServing new (record v { top = top; rest = plain (pre ++ relinked_child was.tables.parts.bat_len u.relink child target child_relinks ∷ target ∷ below) }) y
-  child_ok new next rest behind geometry leaf_is no_merge items has =
-      child_relinked v top pre child source target below m old new u lower_top.0 a was now next rest x y serving lower_top.1 merge_is (was_there ∙ ap (λ (c : List FileLayer). a ++ Session was ∷ c) behind) place geometry (leaf_is ∙ lower_top.1) no_merge items
+  child_ok new next rest behind geometry leaf_is no_merge none_now items has =
+      child_relinked v top pre child source target below m old new u lower_top.0 a was now next rest x y serving lower_top.1 merge_is (was_there ∙ ap (λ (c : List FileLayer). a ++ Session was ∷ c) behind) place geometry (leaf_is ∙ lower_top.1) no_merge none_now items
       tight (some_stripe v top (pre ++ child ∷ []) source target below m old u disk x merge_is ready serving marked) (all_marked v top (pre ++ child ∷ []) source target below m old u disk x merge_is ready serving marked) was.tables.parts.bat_len
       child_relinks child_writes child_over
       (has.serves child (with_locator child.member.ties child_relinks.ties) child_relinks.region child_serves (into_spelled was.tables.parts.bat_len u.relink child target child_relinks))
@@ -307,7 +307,7 @@ joined v x y z first second = EachMoment-join (EachOpens v.leaf (dirty_now v) (d
 -- a step that commits leaves the layers ready
 pub settled_ready : (place : ℕ) (old new : Layers) (u : Underway) (before after : Disk) → old.merge ≡ Some u → AreReady old before → ChangesFile Settles place old new before after (Ok tt) → AreReady new after
 settled_ready place old new u before after merge_is ready c =
-    still_ready place c.was c.now old new u before after merge_is ready c.geometry c.changed.parts c.exchanged c.merge (settling_leaves place c.was c.now old new u before after merge_is ready c.geometry c.changed.parts c.exchanged c.changed.moments)
+    still_ready place c.was c.now old new u before after merge_is ready c.geometry c.changed.parts c.exchanged c.merge c.retiring (settling_leaves place c.was c.now old new u before after merge_is ready c.geometry c.changed.parts c.exchanged c.changed.moments)
     (ap (λ (d : Disk). d.files) c.changed.counts) c.changed.ready (commit_ties c.was c.now before.told after.told c.changed.has)
 
 module _ (L0 L1 : Layers) (u : Underway) (d0 d1 : Disk) (merge_is : L0.merge ≡ Some u) (ready : AreReady L0 d0) where
@@ -315,19 +315,21 @@ module _ (L0 L1 : Layers) (u : Underway) (d0 d1 : Disk) (merge_is : L0.merge ≡
   module _ (fault : StoreFault) (t : ChangesFile Settles (u.source + 2) L0 L1 d0 d1 (Err fault)) where
     target_broken : (v : State) (rest : Rest) (x y : Trace) → IsServing L0 (record v { rest = rest }) x → KeepsOver t.was x y → HasEnded (record v { rest = rest }) x y
     target_broken v (plain others) x y serving over = absurd (let never : IsCourse (sector_of v) v.writes L0 (Some u) v.top (plain others) = subst (λ o. IsCourse (sector_of v) v.writes L0 o v.top (plain others)) merge_is serving.course in never)
+    target_broken v (retiring lower rest l k) x y serving over = absurd (let never : IsCourse (sector_of v) v.writes L0 (Some u) v.top (retiring lower rest l k) = subst (λ o. IsCourse (sector_of v) v.writes L0 o v.top (retiring lower rest l k)) merge_is serving.course in never)
     target_broken v (merging above source target below m) x y serving over =
-        target_err v v.top above source target below m L0 L1 u d0 x y merge_is ready t.geometry t.merge t.was t.now t.changed.parts serving over t.exchanged
+        target_err v v.top above source target below m L0 L1 u d0 x y merge_is ready t.geometry t.merge t.retiring t.was t.now t.changed.parts serving over t.exchanged
 
     pub finish_stopped_first : Finishes L0 L1 d0 d1 (Err fault)
     finish_stopped_first = record {
-      told = both_told (KeepsOver t.was) (λ trace now. (v : State) → IsServing L0 v trace → FinishesTo v L1 trace now (Err fault)) d0.told d1.told (λ x y over v serving. target_broken v v.rest x y serving over) t.changed.moments;
+      told = both_told (KeepsOver t.was) (λ trace now. (v : State) → IsServing L0 v trace → FinishesTo L0.retiring v L1 trace now (Err fault)) d0.told d1.told (λ x y over v serving. target_broken v v.rest x y serving over) t.changed.moments;
       ready = tt;
       low = tt;
       session = exchanged_session (u.source + 2) t.was t.now L0 L1 t.exchanged;
       geometry = t.geometry;
       merge = tt;
       files = tt;
-      stays = t.merge;
+      leaf = tt;
+      stays = (t.merge, t.retiring);
       counts = tt;
       err = change_failed t.was L0 d0 d1 (Err fault) (is_target t.was t.now L0 L1 u merge_is t.exchanged) (was_ready (u.source + 2) t.was t.now L0 L1 u d0 d1 merge_is ready t.geometry t.changed.parts t.exchanged) t.changed.err;
     }
@@ -343,6 +345,9 @@ module _ (L0 L1 : Layers) (u : Underway) (d0 d1 : Disk) (merge_is : L0.merge ≡
     numbers_then : file_numbers L1.below.items ≡ file_numbers L0.below.items
     numbers_then = exchanged_numbers (u.source + 2) t.was t.now L0 L1 t.exchanged t.changed.parts
 
+    leaf_then : leaf_number L1 ≡ leaf_number L0
+    leaf_then = exchanged_leaf (u.source + 2) t.was t.now L0 L1 t.exchanged t.changed.parts
+
     abbrev Told : Trace → Trace → Type 0
     Told x y = KeepsOver t.was x y × HasCommitted t.was t.now x y
 
@@ -353,14 +358,15 @@ module _ (L0 L1 : Layers) (u : Underway) (d0 d1 : Disk) (merge_is : L0.merge ≡
     module _ (fault : StoreFault) (c : ChangesFile Settles u.source L1 L2 d1 d2 (Err fault)) where
       child_broken : (v : State) (rest : Rest) (x y z : Trace) → IsServing L0 (record v { rest = rest }) x → Told x y → KeepsOver c.was y z → HasEnded (record v { rest = rest }) x z
       child_broken v (plain others) x y z serving first over = absurd (let never : IsCourse (sector_of v) v.writes L0 (Some u) v.top (plain others) = subst (λ o. IsCourse (sector_of v) v.writes L0 o v.top (plain others)) merge_is serving.course in never)
+      child_broken v (retiring lower rest l k) x y z serving first over = absurd (let never : IsCourse (sector_of v) v.writes L0 (Some u) v.top (retiring lower rest l k) = subst (λ o. IsCourse (sector_of v) v.writes L0 o v.top (retiring lower rest l k)) merge_is serving.course in never)
       child_broken v (merging above source target below m) x y z serving first over =
-          let one = target_ok v v.top above source target below m L0 L1 u d0 x y merge_is ready t.geometry t.merge t.was t.now t.changed.parts serving first.0 t.exchanged first.1 in
+          let one = target_ok v v.top above source target below m L0 L1 u d0 x y merge_is ready t.geometry t.merge t.retiring t.was t.now t.changed.parts serving first.0 t.exchanged first.1 in
           let two : HasEnded (record v { rest = merging above source (settled target) below m }) y z = by_place above target one.1 c.exchanged in
           record { moments = joined (record v { rest = merging above source target below m }) x y z one.0 two.moments; still = two.still; past = two.past }
         where
           by_place : (above : List Placed) (target : Placed) → IsServing L1 (record v { rest = merging above source (settled target) below m }) y → IsExchanged u.source c.was c.now L1 L2 → HasEnded (record v { rest = merging above source (settled target) below m }) y z
           by_place above target serving (at_leaf at is leaf_now same) =
-              leaf_err v v.top above source (settled target) below m L1 L2 u d1 y z merge_then ready_then c.geometry c.merge c.was c.now c.changed.parts serving over is
+              leaf_err v v.top above source (settled target) below m L1 L2 u d1 y z merge_then ready_then c.geometry c.merge c.retiring c.was c.now c.changed.parts serving over is
           by_place above target serving (at_lower at e leaf_is r) =
               let under : IsUnder (sector_of v) v.writes L1 u v.top above source (settled target) m = subst (λ o. IsCourse (sector_of v) v.writes L1 o v.top (merging above source (settled target) below m)) merge_then serving.course in
               let s = snoc above at (sym under.place ∙ e) in
@@ -369,7 +375,7 @@ module _ (L0 L1 : Layers) (u : Underway) (d0 d1 : Disk) (merge_is : L0.merge ≡
 
       pub finish_stopped_second : Finishes L0 L2 d0 d2 (Err fault)
       finish_stopped_second = record {
-        told = both_then Told (KeepsOver c.was) (λ trace now. (v : State) → IsServing L0 v trace → FinishesTo v L2 trace now (Err fault)) d0.told d1.told d2.told told_first c.changed.moments
+        told = both_then Told (KeepsOver c.was) (λ trace now. (v : State) → IsServing L0 v trace → FinishesTo L0.retiring v L2 trace now (Err fault)) d0.told d1.told d2.told told_first c.changed.moments
             (λ x y z first over v serving. child_broken v v.rest x y z serving first over);
         ready = tt;
         low = tt;
@@ -377,14 +383,15 @@ module _ (L0 L1 : Layers) (u : Underway) (d0 d1 : Disk) (merge_is : L0.merge ≡
         geometry = c.geometry ∙ t.geometry;
         merge = tt;
         files = tt;
-        stays = c.merge ∙ t.merge;
+        leaf = tt;
+        stays = (c.merge ∙ t.merge, c.retiring ∙ t.retiring);
         counts = tt;
-        err = failed_later (IsTargetOrChild L1) (IsTargetOrChild L0) d0 d1 d2 (Err fault) (finishing_before L0 L1 numbers_then t.merge) t.changed.counts
+        err = failed_later (IsTargetOrChild L1) (IsTargetOrChild L0) d0 d1 d2 (Err fault) (finishing_before L0 L1 numbers_then leaf_then t.merge) t.changed.counts
             (change_failed c.was L1 d1 d2 (Err fault) (is_child c.was c.now L1 L2 u d1 merge_then ready_then c.exchanged) (was_ready u.source c.was c.now L1 L2 u d1 d2 merge_then ready_then c.geometry c.changed.parts c.exchanged) c.changed.err);
       }
 
     -- once the child is committed too
-    module _ (L3 : Layers) (d3 : Disk) (c : ChangesFile Settles u.source L1 L2 d1 d2 (Ok tt)) (marked : IsAllMarked u) where
+    module _ (L3 : Layers) (d3 : Disk) (c : ChangesFile Settles u.source L1 L2 d1 d2 (Ok tt)) (marked : IsAllMarked u.marks) where
       pub merge_now : L2.merge ≡ Some u
       merge_now = c.merge ∙ merge_then
 
@@ -393,6 +400,9 @@ module _ (L0 L1 : Layers) (u : Underway) (d0 d1 : Disk) (merge_is : L0.merge ≡
 
       numbers_now : file_numbers L2.below.items ≡ file_numbers L0.below.items
       numbers_now = exchanged_numbers u.source c.was c.now L1 L2 c.exchanged c.changed.parts ∙ numbers_then
+
+      leaf_now_is : leaf_number L2 ≡ leaf_number L0
+      leaf_now_is = exchanged_leaf u.source c.was c.now L1 L2 c.exchanged c.changed.parts ∙ leaf_then
 
       abbrev Both : Trace → Trace → Trace → Type 0
       Both x y z = Told x y × (KeepsOver c.was y z × HasCommitted c.was c.now y z)
@@ -412,10 +422,10 @@ module _ (L0 L1 : Layers) (u : Underway) (d0 d1 : Disk) (merge_is : L0.merge ≡
       module _ (v : State) (source target : Placed) (below : List Placed) (m : Merging) (x y z : Trace) (serving : IsServing L0 (record v { rest = merging [] source target below m }) x) (both : Both x y z) (is : L1.leaf ≡ Some c.was) (leaf_now : L2.leaf ≡ Some c.now)
           (same : L2.below ≡ L1.below) where
         abbrev leaf_first : EachOpensNow (record v { rest = merging [] source target below m }) x y × IsServing L1 (record v { rest = merging [] source (settled target) below m }) y
-        leaf_first = target_ok v v.top [] source target below m L0 L1 u d0 x y merge_is ready t.geometry t.merge t.was t.now t.changed.parts serving both.0.0 t.exchanged both.0.1
+        leaf_first = target_ok v v.top [] source target below m L0 L1 u d0 x y merge_is ready t.geometry t.merge t.retiring t.was t.now t.changed.parts serving both.0.0 t.exchanged both.0.1
 
         pub leaf_second : EachOpensNow (record v { rest = merging [] source (settled target) below m }) y z × IsServing L2 (record v { top = settled v.top; rest = merging [] source (settled target) below m }) z
-        leaf_second = leaf_ok v v.top [] source (settled target) below m L1 L2 u d1 y z merge_then ready_then c.geometry c.merge c.was c.now c.changed.parts leaf_first.1 both.1.0 is leaf_now same both.1.1
+        leaf_second = leaf_ok v v.top [] source (settled target) below m L1 L2 u d1 y z merge_then ready_then c.geometry c.merge c.retiring c.was c.now c.changed.parts leaf_first.1 both.1.0 is leaf_now same both.1.1
 
         pub leaf_moments : EachOpensNow (record v { rest = merging [] source target below m }) x z
         leaf_moments = joined (record v { rest = merging [] source target below m }) x y z leaf_first.0 leaf_second.0
@@ -425,11 +435,11 @@ module _ (L0 L1 : Layers) (u : Underway) (d0 d1 : Disk) (merge_is : L0.merge ≡
       module _ (v : State) (pre : List Placed) (child source target : Placed) (below : List Placed) (m : Merging) (x y z : Trace) (serving : IsServing L0 (record v { rest = merging (pre ++ child ∷ []) source target below m }) x) (both : Both x y z)
           (at : ℕ) (long : length pre ≡ at) (leaf_is : L2.leaf ≡ L1.leaf) (r : IsReplaced at c.was c.now L1.below.items L2.below.items) where
         abbrev lower_first : EachOpensNow (record v { rest = merging (pre ++ child ∷ []) source target below m }) x y × IsServing L1 (record v { rest = merging (pre ++ child ∷ []) source (settled target) below m }) y
-        lower_first = target_ok v v.top (pre ++ child ∷ []) source target below m L0 L1 u d0 x y merge_is ready t.geometry t.merge t.was t.now t.changed.parts serving both.0.0 t.exchanged both.0.1
+        lower_first = target_ok v v.top (pre ++ child ∷ []) source target below m L0 L1 u d0 x y merge_is ready t.geometry t.merge t.retiring t.was t.now t.changed.parts serving both.0.0 t.exchanged both.0.1
 
         pub lower_second : EachOpensNow (record v { rest = merging (pre ++ child ∷ []) source (settled target) below m }) y z × IsServing L2 (record v { rest = merging (pre ++ settled child ∷ []) source (settled target) below m }) z
         lower_second =
-            lower_ok v v.top pre child source (settled target) below m L1 L2 u d1 y z merge_then ready_then c.was c.now lower_first.1 r.above r.below r.was_there (r.place ∙ sym long) c.geometry c.merge leaf_is r.now_there c.changed.parts both.1.0 both.1.1
+            lower_ok v v.top pre child source (settled target) below m L1 L2 u d1 y z merge_then ready_then c.was c.now lower_first.1 r.above r.below r.was_there (r.place ∙ sym long) c.geometry c.merge c.retiring leaf_is r.now_there c.changed.parts both.1.0 both.1.1
 
         pub lower_moments : EachOpensNow (record v { rest = merging (pre ++ child ∷ []) source target below m }) x z
         lower_moments = joined (record v { rest = merging (pre ++ child ∷ []) source target below m }) x y z lower_first.0 lower_second.0
@@ -469,6 +479,7 @@ module _ (L0 L1 : Layers) (u : Underway) (d0 d1 : Disk) (merge_is : L0.merge ≡
 
         unlinked : (v : State) (rest : Rest) (x y z w : Trace) → IsServing L0 (record v { rest = rest }) x → Both x y z → UpdatesOver k.was u.relink z w → HasEnded (record v { rest = rest }) x w
         unlinked v (plain others) x y z w serving both over = absurd (let never : IsCourse (sector_of v) v.writes L0 (Some u) v.top (plain others) = subst (λ o. IsCourse (sector_of v) v.writes L0 o v.top (plain others)) merge_is serving.course in never)
+        unlinked v (retiring lower rest l k) x y z w serving both over = absurd (let never : IsCourse (sector_of v) v.writes L0 (Some u) v.top (retiring lower rest l k) = subst (λ o. IsCourse (sector_of v) v.writes L0 o v.top (retiring lower rest l k)) merge_is serving.course in never)
         unlinked v (merging [] source target below m) x y z w serving both over = leaf_unlinked v source target below m x y z w serving both over c.exchanged k.exchanged
         unlinked v (merging (f ∷ above) source target below m) x y z w serving both over =
             let under : IsUnder (sector_of v) v.writes L0 u v.top (f ∷ above) source target m = subst (λ o. IsCourse (sector_of v) v.writes L0 o v.top (merging (f ∷ above) source target below m)) merge_is serving.course in
@@ -479,42 +490,47 @@ module _ (L0 L1 : Layers) (u : Underway) (d0 d1 : Disk) (merge_is : L0.merge ≡
 
         pub finish_stopped_third : Finishes L0 L3 d0 d3 (Err fault)
         finish_stopped_third = record {
-          told = through (UpdatesOver k.was u.relink) (λ trace now. (v : State) → IsServing L0 v trace → FinishesTo v L3 trace now (Err fault)) k.changed.moments (λ x y z w both over v serving. unlinked v v.rest x y z w serving both over);
+          told = through (UpdatesOver k.was u.relink) (λ trace now. (v : State) → IsServing L0 v trace → FinishesTo L0.retiring v L3 trace now (Err fault)) k.changed.moments (λ x y z w both over v serving. unlinked v v.rest x y z w serving both over);
           ready = tt;
           low = tt;
           session = exchanged_session u.source k.was k.now L2 L3 k.exchanged ∙ exchanged_session u.source c.was c.now L1 L2 c.exchanged ∙ exchanged_session (u.source + 2) t.was t.now L0 L1 t.exchanged;
           geometry = k.geometry ∙ c.geometry ∙ t.geometry;
           merge = tt;
           files = tt;
-          stays = k.merge ∙ c.merge ∙ t.merge;
+          leaf = tt;
+          stays = (k.merge ∙ c.merge ∙ t.merge, k.retiring ∙ c.retiring ∙ t.retiring);
           counts = tt;
-          err = failed_later (IsTargetOrChild L2) (IsTargetOrChild L0) d0 d2 d3 (Err fault) (finishing_before L0 L2 numbers_now (c.merge ∙ t.merge)) (c.changed.counts ∙ ap (λ (d : Disk). record d { told = d2.told }) t.changed.counts)
+          err = failed_later (IsTargetOrChild L2) (IsTargetOrChild L0) d0 d2 d3 (Err fault) (finishing_before L0 L2 numbers_now leaf_now_is (c.merge ∙ t.merge)) (c.changed.counts ∙ ap (λ (d : Disk). record d { told = d2.told }) t.changed.counts)
               (change_failed k.was L2 d2 d3 (Err fault) (is_child k.was k.now L2 L3 u d2 merge_now ready_now k.exchanged) (was_ready u.source k.was k.now L2 L3 u d2 d3 merge_now ready_now k.geometry k.changed.parts k.exchanged) k.changed.err);
         }
 
       -- ---- it is done, and the source leaves
 
-      module _ (L4 : Layers) (k : ChangesFile (UpdatesBy u.relink) u.source L2 L3 d2 d3 (Ok tt)) (geometry : L4.geometry ≡ L3.geometry) (leaf_is : L4.leaf ≡ L3.leaf) (no_merge : L4.merge ≡ None) (items : L4.below.items ≡ remove L3.below.items u.source) where
+      module _ (L4 : Layers) (k : ChangesFile (UpdatesBy u.relink) u.source L2 L3 d2 d3 (Ok tt)) (geometry : L4.geometry ≡ L3.geometry) (leaf_is : L4.leaf ≡ L3.leaf) (no_merge : L4.merge ≡ None) (none_now : L4.retiring ≡ None) (items : L4.below.items ≡ remove L3.below.items u.source) where
         room : u.source + 1 < length L2.below.items
         room = (merge_of L2 u d2 merge_now ready_now).there
 
+        -- no merge of the leaf was under way
+        by_none : (v : State) (layers : Layers) (now : Trace) → IsFinished v layers now → LeavesBy L0.retiring v layers now
+        by_none v layers now is = subst (λ o. LeavesBy o v layers now) (sym (alone L0 u d0 merge_is ready)) is
+
         -- the leaf is the child
         leaf_finished : (v : State) (source target : Placed) (below : List Placed) (m : Merging) (x y z w : Trace) → IsServing L0 (record v { rest = merging [] source target below m }) x → Both x y z → UpdatesOver k.was u.relink z w × HasUpdated k.was k.now u.relink z w
-            → IsExchanged u.source c.was c.now L1 L2 → IsExchanged u.source k.was k.now L2 L3 → FinishesTo (record v { rest = merging [] source target below m }) L4 x w (Ok tt)
+            → IsExchanged u.source c.was c.now L1 L2 → IsExchanged u.source k.was k.now L2 L3 → FinishesTo L0.retiring (record v { rest = merging [] source target below m }) L4 x w (Ok tt)
         leaf_finished v source target below m x y z w serving both last (at_leaf at is leaf_now same) (at_leaf at' is' leaf_then same') =
             let second = leaf_second v source target below m x y z serving both is leaf_now same in
             let next = next_of L2.below.items (omega (arith, room)) in
             let left : L4.below.items ≡ next.rest = items ∙ ap (λ b. remove b.items u.source) same' ∙ ap (remove L2.below.items) at ∙ ap (λ (l : List FileLayer). remove l 0) next.is in
             let third = top_ok v (settled v.top) source (settled target) below m L2 u d2 z w merge_now ready_now second.1 marked (λ s. refl) k.was k.now is' (parts_was u.source k.was k.now L2 L3 k.exchanged) last.0
-            L4 next.next next.rest next.is (geometry ∙ k.geometry) (leaf_is ∙ leaf_then) no_merge left last.1 in (
+            L4 next.next next.rest next.is (geometry ∙ k.geometry) (leaf_is ∙ leaf_then) no_merge none_now left last.1 in (
               joined (record v { rest = merging [] source target below m }) x z w (leaf_moments v source target below m x y z serving both is leaf_now same) third.0,
-              record {
+              by_none (record v { rest = merging [] source target below m }) L4 w (record {
                 top = _;
                 others = settled target ∷ below;
                 files = refl;
                 gone = once_names v L0 v.top [] source target below m x serving;
                 serving = third.1;
-              },
+              }),
             )
         leaf_finished v source target below m x y z w serving both last (at_leaf at is leaf_now same) (at_lower at' e leaf_is' r) = absurd (omega (arith, at, e))
         leaf_finished v source target below m x y z w serving both last (at_lower at e leaf_is' r) other =
@@ -524,7 +540,7 @@ module _ (L0 L1 : Layers) (u : Underway) (d0 d1 : Disk) (merge_is : L0.merge ≡
         -- the child stands below the leaf
         lower_finished : (v : State) (pre : List Placed) (child source target : Placed) (below : List Placed) (m : Merging) (x y z w : Trace) → IsServing L0 (record v { rest = merging (pre ++ child ∷ []) source target below m }) x → Both x y z
             → UpdatesOver k.was u.relink z w × HasUpdated k.was k.now u.relink z w → u.source ≡ length pre + 1 → IsExchanged u.source c.was c.now L1 L2 → IsExchanged u.source k.was k.now L2 L3
-            → FinishesTo (record v { rest = merging (pre ++ child ∷ []) source target below m }) L4 x w (Ok tt)
+            → FinishesTo L0.retiring (record v { rest = merging (pre ++ child ∷ []) source target below m }) L4 x w (Ok tt)
         lower_finished v pre child source target below m x y z w serving both last place (at_leaf at is leaf_now same) other = absurd (omega (arith, place, at))
         lower_finished v pre child source target below m x y z w serving both last place (at_lower at e leaf_is' r) (at_leaf at' is' leaf_then same') = absurd (omega (arith, place, at'))
         lower_finished v pre child source target below m x y z w serving both last place (at_lower at e leaf_is' r) (at_lower at' e' leaf_is'' r') =
@@ -540,29 +556,30 @@ module _ (L0 L1 : Layers) (u : Underway) (d0 d1 : Disk) (merge_is : L0.merge ≡
             let items_then : L4.below.items ≡ remove ((r'.above ++ Session k.now ∷ []) ++ next.next ∷ next.rest) u.source = items ∙ ap (λ (l : List FileLayer). remove l u.source) split in
             let left : L4.below.items ≡ r'.above ++ Session k.now ∷ next.rest = items_then ∙ dropped ∙ append_assoc r'.above (Session k.now ∷ []) next.rest in
             let third = child_ok v v.top pre (settled child) source (settled target) below m L2 u d2 z w merge_now ready_now second.1 marked (λ s. refl) k.was k.now r'.above r'.below r'.was_there place' (parts_was u.source k.was k.now L2 L3 k.exchanged) last.0
-            L4 next.next next.rest next.is (geometry ∙ k.geometry) (leaf_is ∙ leaf_is'') no_merge left last.1 in
+            L4 next.next next.rest next.is (geometry ∙ k.geometry) (leaf_is ∙ leaf_is'') no_merge none_now left last.1 in
             let relinks = child_relinks v v.top pre (settled child) source (settled target) below m L2 u d2 z w merge_now ready_now second.1 marked (λ s. refl) k.was k.now r'.above r'.below r'.was_there place' (parts_was u.source k.was k.now L2 L3 k.exchanged) last.0 in
             let linked : Placed = relinked_child k.was.tables.parts.bat_len u.relink (settled child) (settled target) relinks in
             let looks = looks_below pre child linked target (settled target) below refl refl in
             let alike = ap (λ l. look_of v.top ∷ l) looks in (
               joined (record v { rest = merging (pre ++ child ∷ []) source target below m }) x z w (lower_moments v pre child source target below m x y z serving both at long leaf_is' r) third.0,
-              record {
+              by_none (record v { rest = merging (pre ++ child ∷ []) source target below m }) L4 w (record {
                 top = v.top;
                 others = pre ++ linked ∷ settled target ∷ below;
                 files = alike;
                 gone = lacks_alike source.member.name (v.top ∷ (pre ++ linked ∷ settled target ∷ below)) (v.top ∷ ((pre ++ child ∷ []) ++ target ∷ below)) alike (once_names v L0 v.top (pre ++ child ∷ []) source target below m x serving);
                 serving = third.1;
-              },
+              }),
             )
 
-        finished : (v : State) (rest : Rest) (x y z w : Trace) → IsServing L0 (record v { rest = rest }) x → Both x y z → UpdatesOver k.was u.relink z w × HasUpdated k.was k.now u.relink z w → FinishesTo (record v { rest = rest }) L4 x w (Ok tt)
+        finished : (v : State) (rest : Rest) (x y z w : Trace) → IsServing L0 (record v { rest = rest }) x → Both x y z → UpdatesOver k.was u.relink z w × HasUpdated k.was k.now u.relink z w → FinishesTo L0.retiring (record v { rest = rest }) L4 x w (Ok tt)
         finished v (plain others) x y z w serving both last = absurd (let never : IsCourse (sector_of v) v.writes L0 (Some u) v.top (plain others) = subst (λ o. IsCourse (sector_of v) v.writes L0 o v.top (plain others)) merge_is serving.course in never)
+        finished v (retiring lower rest l k) x y z w serving both last = absurd (let never : IsCourse (sector_of v) v.writes L0 (Some u) v.top (retiring lower rest l k) = subst (λ o. IsCourse (sector_of v) v.writes L0 o v.top (retiring lower rest l k)) merge_is serving.course in never)
         finished v (merging [] source target below m) x y z w serving both last = leaf_finished v source target below m x y z w serving both last c.exchanged k.exchanged
         finished v (merging (f ∷ above) source target below m) x y z w serving both last =
             let under : IsUnder (sector_of v) v.writes L0 u v.top (f ∷ above) source target m = subst (λ o. IsCourse (sector_of v) v.writes L0 o v.top (merging (f ∷ above) source target below m)) merge_is serving.course in
             let s = snoc (f ∷ above) (length above) (omega arith) in
             let place : u.source ≡ length s.pre + 1 = (let p : u.source ≡ suc (length above) = under.place in omega (arith, p, s.long)) in
-            subst (λ (l : List Placed). IsServing L0 (record v { rest = merging l source target below m }) x → FinishesTo (record v { rest = merging l source target below m }) L4 x w (Ok tt)) (sym s.is)
+            subst (λ (l : List Placed). IsServing L0 (record v { rest = merging l source target below m }) x → FinishesTo L0.retiring (record v { rest = merging l source target below m }) L4 x w (Ok tt)) (sym s.is)
             (λ here. lower_finished v s.pre s.child source target below m x y z w here both last place c.exchanged k.exchanged) serving
 
         -- for every store
@@ -603,7 +620,7 @@ module _ (L0 L1 : Layers) (u : Underway) (d0 d1 : Disk) (merge_is : L0.merge ≡
 
         pub finish_done : Finishes L0 L4 d0 d3 (Ok tt)
         finish_done = record {
-          told = through (λ z w. UpdatesOver k.was u.relink z w × HasUpdated k.was k.now u.relink z w) (λ trace now. (v : State) → IsServing L0 v trace → FinishesTo v L4 trace now (Ok tt))
+          told = through (λ z w. UpdatesOver k.was u.relink z w × HasUpdated k.was k.now u.relink z w) (λ trace now. (v : State) → IsServing L0 v trace → FinishesTo L0.retiring v L4 trace now (Ok tt))
               (both_and (UpdatesOver k.was u.relink) (HasUpdated k.was k.now u.relink) d2.told d3.told k.changed.moments k.changed.has) (λ x y z w both last v serving. finished v v.rest x y z w serving both last);
           ready = record {
             sector = ap (λ (g : Geometry). g.sector) (geometry ∙ k.geometry ∙ c.geometry ∙ t.geometry) ∙ ready.sector;
@@ -612,11 +629,15 @@ module _ (L0 L1 : Layers) (u : Underway) (d0 d1 : Disk) (merge_is : L0.merge ≡
             apart = parts_left.apart;
             merge = subst (λ o. IfSome o (IsMergeOf L4.geometry L4.leaf L4.below.items)) (sym no_merge) tt;
             relink = subst (λ o. IfSome o (CanRelink L4.leaf L4.below.items d3)) (sym no_merge) tt;
+            one = subst (λ o. AtMostOne o L4.retiring) (sym no_merge) tt;
+            retiring = subst (λ o. IfSome o (IsRetiringOf L4.geometry L4.leaf L4.below.items)) (sym none_now) tt;
+            retires = subst (λ o. IfSome o (CanRetire L4.leaf L4.below.items d3)) (sym none_now) tt;
           };
           low = low_left;
           session = ap is_some leaf_is ∙ exchanged_session u.source k.was k.now L2 L3 k.exchanged ∙ exchanged_session u.source c.was c.now L1 L2 c.exchanged ∙ exchanged_session (u.source + 2) t.was t.now L0 L1 t.exchanged;
           geometry = geometry ∙ k.geometry ∙ c.geometry ∙ t.geometry;
-          merge = no_merge;
+          merge = (no_merge, none_now);
+          leaf = ap number_of_leaf leaf_is ∙ exchanged_leaf u.source k.was k.now L2 L3 k.exchanged k.changed.parts ∙ leaf_now_is ∙ sym (ap (leaf_left L0) merge_is);
           files = ap file_numbers items ∙ map_remove number_of L3.below.items u.source ∙ ap (λ (l : List ℕ). remove l u.source) numbers_last ∙ sym (ap (numbers_left (file_numbers L0.below.items)) merge_is);
           stays = tt;
           counts = k.changed.counts ∙ ap (λ (d : Disk). record d { told = d3.told }) (c.changed.counts ∙ ap (λ (d : Disk). record d { told = d2.told }) t.changed.counts);

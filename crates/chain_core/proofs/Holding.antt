@@ -1,6 +1,6 @@
 -- What a flush leaves, and the end of a session.
-use Rattle.std.proofs.Common.{◌≡◌, ℕ, false, refl, sym, subst}
-use Rattle.std.specs.Prelude.{None, Result, Ok, Err, OnOk, is_some}
+use Rattle.std.proofs.Common.{◌≡◌, ◌+◌, ℕ, false, length, refl, sym, subst}
+use Rattle.std.specs.Prelude.{Option, Some, None, Result, Ok, Err, OnOk, is_some}
 use Rattle.store_model.specs.Disk.{Disk, WhereBothTold}
 use Rattle.store_model.specs.Trace.{Trace}
 use Rattle.guest_model.specs.declared.call.Caller.{Caller}
@@ -9,7 +9,7 @@ use Rattle.guest_model.specs.declared.refusal.ChainRefusal.{ChainRefusal}
 use Rattle.guest_model.proofs.HistoryLaws.{replay_unchanged}
 use Rattle.chain_model.specs.Moments.{EachOpens}
 use Rattle.chain_core.specs.declared.layers.Layers.{Layers}
-use Rattle.chain_core.specs.States.{State, IsServing, AreHeld, dirty_now, disk_now, entry, files_of, sector_of, with_entry, others_of}
+use Rattle.chain_core.specs.States.{State, IsNextPlace, IsServing, AreHeld, NextIn, Rest, dirty_now, disk_now, entry, files_of, merging, plain, retiring, sector_of, with_entry, others_of}
 use Rattle.chain_core.proofs.Links.{served_links}
 use Rattle.chain_core.specs.Answering.{Answers, HasClosed, HasEndedWhole}
 use Rattle.chain_core.proofs.Steps.{at_rest}
@@ -20,18 +20,27 @@ use Rattle.chain_core.proofs.Rests.{new_top, opens_now}
 
 all_durable : (v : State) (layers : Layers) (trace : Trace) → IsServing layers v trace → ((s : ℕ) → v.top.is_loose s ≡ false) → EachOpens v.leaf (λ s. false) (disk_now v) trace
 all_durable v layers trace serving tight =
-    opens_now (sector_of v) v.opening v.history v.leaf (λ s. false) v.retired v.top v.rest trace serving.once serving.served (new_top (dirty_now v) (λ s. false) v.top v.top v.rest serving.loose (λ s clean. tight s))
+    opens_now (sector_of v) v.opening v.history v.leaf (λ s. false) v.retired v.top v.rest trace serving.once serving.served (new_top (dirty_now v) (λ s. false) v.top v.top v.rest refl serving.loose (λ s clean. tight s))
+
+next_in : (rest : Rest) {P : Type 0} → P → NextIn rest P
+next_in (plain others) p = tt
+next_in (merging above source target below m) p = tt
+next_in (retiring target below first before) p = p
 
 -- a flush that was done makes all durable
-pub flush_durable : (who : Caller) (old new : Layers) (before after : Disk) (result : Result ℕ ChainRefusal) → SessionTold (entry who calls.Flush) old new before after result
+pub flush_durable : (who : Caller) (old new : Layers) (before after : Disk) (result : Result ℕ ChainRefusal) → ((place : ℕ) → SessionTold place (entry who calls.Flush) old new before after result)
     → OnOk result (WhereBothTold (λ trace now. (v : State) → IsServing old v trace → EachOpens v.leaf (λ s. false) (disk_now v) now) before.told after.told)
 flush_durable who old new before after (Err e) told = tt
-flush_durable who old new before after (Ok place) told =
-    both_told (λ trace now. (v : State) → IsServing old v trace → Answers (entry who calls.Flush) v new trace now (Ok place))
-    (λ trace now. (v : State) → IsServing old v trace → EachOpens v.leaf (λ s. false) (disk_now v) now) before.told after.told
-    (λ trace now answers v serving.
-    subst (λ d. EachOpens v.leaf (λ s. false) d now) (replay_unchanged (sector_of v) v.opening v.history (entry who calls.Flush) refl)
-    (all_durable (with_entry (entry who calls.Flush) v) new now (answers v serving).serving (λ s. refl))) told
+flush_durable who old new before after (Ok place) told = each_told before.told after.told told
+  where
+    each_told : (a b : Option Trace) → ((n : ℕ) → WhereBothTold (λ trace now. (v : State) → IsServing old v trace → IsNextPlace n v → Answers (entry who calls.Flush) v new trace now (Ok place)) a b)
+        → WhereBothTold (λ trace now. (v : State) → IsServing old v trace → EachOpens v.leaf (λ s. false) (disk_now v) now) a b
+    each_told None None told = tt
+    each_told None (Some y) told = told 0
+    each_told (Some x) None told = told 0
+    each_told (Some x) (Some y) told = λ v serving.
+        subst (λ d. EachOpens v.leaf (λ s. false) d y) (replay_unchanged (sector_of v) v.opening v.history (entry who calls.Flush) refl)
+        (all_durable (with_entry (entry who calls.Flush) v) new y (told (length v.history + 1) v serving (next_in v.rest refl)).serving (λ s. refl))
 
 -- ---- the end
 

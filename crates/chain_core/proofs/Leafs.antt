@@ -1,5 +1,5 @@
 -- What the leaf's layer answers of a call, in the words of the session.
-use Rattle.std.proofs.Common.{◌≡◌, ℕ, ◌-◌, ◌/◌, Bool, false, cond, List, length, take, drop, sym, ap, subst, mul_comm, ◌||◌}
+use Rattle.std.proofs.Common.{◌≡◌, ℕ, ◌-◌, ◌/◌, Bool, true, false, cond, List, length, take, drop, refl, sym, ap, subst, mul_comm, ◌||◌}
 use Rattle.std.specs.Prelude.{Option, Some, None, Result, Ok, Err, OnOk}
 use Rattle.std.proofs.Math.Bool.{or-false}
 use Rattle.vx_base.specs.Fields.{bytes_at}
@@ -21,9 +21,13 @@ use Rattle.layer_session.specs.Calls.{HasCommitted, HasKept, HasPut, KeepsOver, 
 use Rattle.layer_session.specs.Keeping.{Serves}
 use Rattle.layer_session.proofs.Standing.{layers_stand}
 use Rattle.chain_core.specs.declared.layers.Layers.{Layers}
-use Rattle.chain_core.specs.States.{State, IsServing, AreHeld, entry, wide, others_of}
+use Rattle.chain_core.specs.States.{State, IsNextPlace, IsServing, AreHeld, entry, wide, others_of}
+use Rattle.std.specs.Result.{is_ok}
+use Rattle.chain_core.specs.Copying.{IsTouched, LayerFollows, TouchesIf}
+use Rattle.chain_core.specs.declared.layers.Retiring.{Retiring}
+use Rattle.chain_core.proofs.Turning.{Alike, alike_same, alike_touched}
 use Rattle.chain_core.specs.Answering.{LayerAnswers, LayerTold, as_change}
-use Rattle.chain_core.proofs.Steps.{AnswersCall, LeafStep, concluded}
+use Rattle.chain_core.proofs.Steps.{AnswersCall, LeafStep, concluded, touches_none}
 
 -- ---- one file
 
@@ -86,35 +90,62 @@ flushed l n (Some x) (Some y) (Err f) moments done = λ file serves.
 
 -- ---- what the session is told
 
--- by each state that the session serves
-answers_each : (call : Call) (old new : Layers) (leaf next : Layer) (a b : Option Trace) (answer : Result (Unit {0}) LayerFault) → LeafStep old new leaf next
+-- by each state that the session serves, of the call that has this place
+answers_each : (place : ℕ) (call : Call) (old new : Layers) (leaf next : Layer) (a b : Option Trace) (answer : Result (Unit {0}) LayerFault) → LeafStep old new leaf next → LayerFollows place call old new answer
     → WhereBothTold (λ trace now. AnswersEach call leaf next trace now answer) a b
-    → WhereBothTold (λ trace now. (who : Caller) (v : State) → IsServing old v trace → LayerAnswers (entry who call) v new trace now answer) a b
-answers_each call old new leaf next None None answer step each = tt
-answers_each call old new leaf next None (Some y) answer step each = each
-answers_each call old new leaf next (Some x) None answer step each = each
-answers_each call old new leaf next (Some x) (Some y) answer step each = λ who v serving.
+    → WhereBothTold (λ trace now. (who : Caller) (v : State) → IsServing old v trace → IsNextPlace place v → LayerAnswers (entry who call) v new trace now answer) a b
+answers_each place call old new leaf next None None answer step follows each = tt
+answers_each place call old new leaf next None (Some y) answer step follows each = each
+answers_each place call old new leaf next (Some x) None answer step follows each = each
+answers_each place call old new leaf next (Some x) (Some y) answer step follows each = λ who v serving next_is.
     let serves : Serves leaf x v.top = (subst (λ o. AreHeld o old.below.items x v.top (others_of v.rest)) step.was serving.held).0 in
-    concluded (entry who call) v old new leaf next x y answer step serving
+    concluded place (entry who call) v old new leaf next x y answer step follows serving next_is
     (subst (λ (z : ℕ). AnswersCall z call v.top next x y answer) (sym (layers_stand.sector leaf x v.top serves)) (each v.top serves))
 
-pub write_told : (first : ℕ) (bytes : List ℕ) (old new : Layers) (leaf next : Layer) (before after : Disk) (answer : Result (Unit {0}) LayerFault) → LeafStep old new leaf next
+pub write_told : (place first : ℕ) (bytes : List ℕ) (old new : Layers) (leaf next : Layer) (before after : Disk) (answer : Result (Unit {0}) LayerFault) → LeafStep old new leaf next → LayerFollows place (calls.Write first bytes) old new answer
     → WhereBothTold (PutsInto leaf first (length bytes / leaf.tables.parts.sector)) before.told after.told
     → OnOk answer (WhereBothTold (HasPut leaf next first (length bytes / leaf.tables.parts.sector) (with_bytes leaf.tables.parts.sector first (length bytes / leaf.tables.parts.sector) bytes)) before.told after.told)
     → OnRefused answer (WhereBothTold (HasKept leaf next) before.told after.told) → OnRefused answer (WhereBothTold (KeepsOver leaf) before.told after.told)
-    → LayerTold (calls.Write first bytes) old new before after answer
-write_told first bytes old new leaf next before after answer step moments put kept quiet =
-    answers_each (calls.Write first bytes) old new leaf next before.told after.told answer step (wrote first bytes leaf next before.told after.told answer moments put kept quiet)
+    → LayerTold place (calls.Write first bytes) old new before after answer
+write_told place first bytes old new leaf next before after answer step follows moments put kept quiet =
+    answers_each place (calls.Write first bytes) old new leaf next before.told after.told answer step follows (wrote first bytes leaf next before.told after.told answer moments put kept quiet)
 
-pub zero_told : (first count : ℕ) (old new : Layers) (leaf next : Layer) (before after : Disk) (answer : Result (Unit {0}) LayerFault) → LeafStep old new leaf next
+pub zero_told : (place first count : ℕ) (old new : Layers) (leaf next : Layer) (before after : Disk) (answer : Result (Unit {0}) LayerFault) → LeafStep old new leaf next → LayerFollows place (calls.Trim first count) old new answer
     → WhereBothTold (PutsInto leaf first count) before.told after.told → OnOk answer (WhereBothTold (HasPut leaf next first count (with_zeros leaf.tables.parts.sector first count)) before.told after.told)
     → OnRefused answer (WhereBothTold (HasKept leaf next) before.told after.told) → OnRefused answer (WhereBothTold (KeepsOver leaf) before.told after.told)
-    → LayerTold (calls.Trim first count) old new before after answer
-zero_told first count old new leaf next before after answer step moments put kept quiet =
-    answers_each (calls.Trim first count) old new leaf next before.told after.told answer step (zeroed first count leaf next before.told after.told answer moments put kept quiet)
+    → LayerTold place (calls.Trim first count) old new before after answer
+zero_told place first count old new leaf next before after answer step follows moments put kept quiet =
+    answers_each place (calls.Trim first count) old new leaf next before.told after.told answer step follows (zeroed first count leaf next before.told after.told answer moments put kept quiet)
 
-pub commit_told : (old new : Layers) (leaf next : Layer) (before after : Disk) (answer : Result (Unit {0}) StoreFault) → LeafStep old new leaf next
+-- a commit touches no stripe
+pub flush_follows : (place : ℕ) (old new : Layers) (answer : Result (Unit {0}) LayerFault) → new.merge ≡ old.merge → new.retiring ≡ old.retiring → LayerFollows place calls.Flush old new answer
+flush_follows place old new (Ok t) merge same = (merge, touches_none old.geometry.sector place calls.Flush old.retiring new.retiring (λ t. refl) same)
+flush_follows place old new (Err fault) merge same = (merge, same)
+
+pub commit_told : (place : ℕ) (old new : Layers) (leaf next : Layer) (before after : Disk) (answer : Result (Unit {0}) StoreFault) → LeafStep old new leaf next → new.retiring ≡ old.retiring
     → WhereBothTold (KeepsOver leaf) before.told after.told → OnOk answer (WhereBothTold (HasCommitted leaf next) before.told after.told)
-    → LayerTold calls.Flush old new before after (as_change answer)
-commit_told old new leaf next before after answer step moments done =
-    answers_each calls.Flush old new leaf next before.told after.told (as_change answer) step (flushed leaf next before.told after.told answer moments done)
+    → LayerTold place calls.Flush old new before after (as_change answer)
+commit_told place old new leaf next before after answer step same moments done =
+    answers_each place calls.Flush old new leaf next before.told after.told (as_change answer) step (flush_follows place old new (as_change answer) step.merge same) (flushed leaf next before.told after.told answer moments done)
+
+-- ---- marks and stamps
+
+-- what is touched where the call was done
+pub follows_by : (place : ℕ) (call : Call) (old new : Layers) (answer : Result (Unit {0}) LayerFault) (b : Bool) → b ≡ is_ok answer → new.merge ≡ old.merge → TouchesIf b old.geometry.sector call place old.retiring new.retiring
+    → LayerFollows place call old new answer
+follows_by place call old new (Ok t) b is merge touched = (merge, subst (λ (b : Bool). TouchesIf b old.geometry.sector call place old.retiring new.retiring) is touched)
+follows_by place call old new (Err fault) b is merge touched = (merge, subst (λ (b : Bool). TouchesIf b old.geometry.sector call place old.retiring new.retiring) is touched)
+
+-- a write touches what a trim of as many sectors does
+pub write_touches : (b : Bool) (z first count place : ℕ) (bytes : List ℕ) (o p : Option Retiring) → count ≡ length bytes / z → TouchesIf b z (calls.Trim first count) place o p → TouchesIf b z (calls.Write first bytes) place o p
+write_touches false z first count place bytes o p same touched = touched
+write_touches true z first count place bytes None None same touched = tt
+write_touches true z first count place bytes None (Some w) same touched = touched
+write_touches true z first count place bytes (Some r) None same touched = touched
+write_touches true z first count place bytes (Some r) (Some w) same touched =
+    let t : IsTouched z (calls.Trim first (length bytes / z)) place r w = subst (λ (n : ℕ). IsTouched z (calls.Trim first n) place r w) same touched in
+    record { rest = t.rest; stripes = t.stripes; words = t.words; marks_are = t.marks_are; stamps_are = t.stamps_are }
+
+pub follows_alike : (place : ℕ) (call : Call) (old new : Layers) (answer : Result (Unit {0}) LayerFault) → LayerFollows place call old new answer → Alike old.retiring new.retiring
+follows_alike place call old new (Ok t) follows = alike_touched old.geometry.sector place call old.retiring new.retiring follows.1
+follows_alike place call old new (Err fault) follows = alike_same old.retiring new.retiring follows.1

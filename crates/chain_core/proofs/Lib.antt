@@ -37,3 +37,14 @@ pub mod MergeSplit
 pub mod MergePlanned
 pub mod MergeRelinks
 pub mod Links
+pub mod LeafTargets
+pub mod LeafPuts
+pub mod LeafPhases
+pub mod LeafServed
+pub mod LeafStages
+pub mod LeafBegun
+pub mod LeafPlanned
+pub mod Succeeding
+pub mod Retires
+pub mod RetireStays
+pub mod RetireLeaf

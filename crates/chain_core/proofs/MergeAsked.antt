@@ -1,5 +1,5 @@
 -- What the phases of a merge's start ask for, and what they leave where one fails.
-use Rattle.std.proofs.Common.{◌≡◌, inl, inr, ℕ, ◌+◌, ◌<◌, true, [], ◌∷◌, ◌++◌, length, refl, sym, ap, subst, ◌∙◌, arith}
+use Rattle.std.proofs.Common.{◌≡◌, inl, inr, ℕ, ◌+◌, ◌<◌, Bool, true, [], ◌∷◌, ◌++◌, length, refl, sym, ap, subst, ◌∙◌, arith}
 use Rattle.std.proofs.lemmas.List.{append_assoc, length-append}
 use Rattle.std.specs.Prelude.{Option, Some, None}
 use Rattle.vhdx_format.specs.FileParts.{HasNumbers}
@@ -20,7 +20,7 @@ use Rattle.merge_plan.specs.Planning.{HasPlan}
 use Rattle.merge_plan.specs.declared.drawing.LogIds.{LogIds}
 use Rattle.merge_plan.specs.declared.drawing.MergeIds.{MergeIds}
 use Rattle.merge_plan.specs.declared.merge.Merge.{Merge}
-use Rattle.chain_core.specs.MergeStarting.{BeginsNoMerge, chain_files, is_changed, leaf_of, target_place}
+use Rattle.chain_core.specs.MergeStarting.{BeginsNone, chain_files, leaf_of, target_place}
 use Rattle.merge_plan.specs.Attached.{CanStart}
 use Rattle.chain_core.proofs.MergeFound.{files_split, lower_files}
 use Rattle.chain_core.proofs.MergeTold.{fresh_at, served_at, there_at}
@@ -45,13 +45,13 @@ ready_still l old new ready files serves = record {
 -- ---- a phase that fails
 
 -- only content was changed before it
-pub begins_not : (m : MergeFiles) (file : ℕ) (old mid new : Disk) (fault : SealFault) → is_changed m file ≡ true → mid ≡ record old { told = mid.told } → BeginFails file mid new fault → BeginsNoMerge m old new fault
-begins_not m file old mid new NoRoom one is h = h ∙ is ∙ ap (λ (t : Option Trace). (let d : Disk = record old { told = t } in d)) (sym (ap (λ (d : Disk). d.told) h))
-begins_not m file old mid new (Store fault) one is (inl h) =
+pub begins_not : (changes : ℕ → Bool) (file : ℕ) (old mid new : Disk) (fault : SealFault) → changes file ≡ true → mid ≡ record old { told = mid.told } → BeginFails file mid new fault → BeginsNone changes old new fault
+begins_not changes file old mid new NoRoom one is h = h ∙ is ∙ ap (λ (t : Option Trace). (let d : Disk = record old { told = t } in d)) (sym (ap (λ (d : Disk). d.told) h))
+begins_not changes file old mid new (Store fault) one is (inl h) =
     let own : ReadFailed file (record old { told = mid.told }) new fault = subst (λ (d : Disk). ReadFailed file d new fault) is h in
     let same : mid.told ≡ new.told = sym (ap (λ (d : Disk). d.told) own.stays) in
     record { file = file; one = one; fails = inl (subst (λ (t : Option Trace). ReadFailed file (record old { told = t }) new fault) same own) }
-begins_not m file old mid new (Store fault) one is (inr h) =
+begins_not changes file old mid new (Store fault) one is (inr h) =
     let own : FailsToChange file (record old { told = mid.told }) new fault = subst (λ (d : Disk). FailsToChange file d new fault) is h in
     record { file = file; one = one; fails = inr (record { stays = own.stays; of_file = own.of_file; count = own.count }) }
 
@@ -101,19 +101,19 @@ module _ (m : MergeFiles) (merge : Merge) (d : Disk) (can : CanStart (chain_file
 
   -- as they are found their sessions may begin
   pub leaf_fresh : WhereTold d.told (CanServe (leaf_of m).parts ids.leaf.log 0)
-  leaf_fresh = fresh_at d (chain_files m) [] (leaf_of m) (lower_files m) can (files_split m) ids 2 plan.fit (omega arith)
+  leaf_fresh = fresh_at d (chain_files m) [] (leaf_of m) (lower_files m) can (files_split m) (merge_ids ids) 2 plan.fit (omega arith)
 
   pub source_fresh : WhereTold d.told (CanServe m.source.parts ids.source.log (source_place m))
   source_fresh = subst (λ (n : ℕ). WhereTold d.told (CanServe m.source.parts ids.source.log n)) source_at
-      (fresh_at d (chain_files m) (m.above ++ m.child ∷ []) m.source (m.target ∷ m.below) can behind_child ids 4 plan.fit (omega arith))
+      (fresh_at d (chain_files m) (m.above ++ m.child ∷ []) m.source (m.target ∷ m.below) can behind_child (merge_ids ids) 4 plan.fit (omega arith))
 
   pub target_fresh : WhereTold d.told (CanServe m.target.parts ids.target.log (target_place m))
   target_fresh = subst (λ (n : ℕ). WhereTold d.told (CanServe m.target.parts ids.target.log n)) target_at
-      (fresh_at d (chain_files m) (m.above ++ m.child ∷ m.source ∷ []) m.target m.below can behind_source ids 7 plan.fit (omega arith))
+      (fresh_at d (chain_files m) (m.above ++ m.child ∷ m.source ∷ []) m.target m.below can behind_source (merge_ids ids) 7 plan.fit (omega arith))
 
   pub child_fresh : (inner : LogIds) → ids.child ≡ Some inner → WhereTold d.told (CanServe m.child.parts inner.log (child_place m))
   child_fresh inner is =
       let with_inner : MergeIds = record ids { child = Some inner } in
       let same : ids ≡ with_inner = ap (λ (o : Option LogIds). (let x : MergeIds = record ids { child = o } in x)) is in
       let fit = subst (λ (i : MergeIds). JudgesDrawn (chain_files m) d (merge_ids i) None) same plan.fit in
-      fresh_at d (chain_files m) m.above m.child (m.source ∷ m.target ∷ m.below) can refl with_inner 9 fit (omega arith)
+      fresh_at d (chain_files m) m.above m.child (m.source ∷ m.target ∷ m.below) can refl (merge_ids with_inner) 9 fit (omega arith)

@@ -21,7 +21,7 @@ use Rattle.vhdx_format.specs.FileParts.{HasNumbers}
 use Rattle.layer_session.specs.Begins.{BeginsOver, CanServe, HasBegun, IsOf}
 use Rattle.layer_session.specs.Calls.{KeepsOver}
 use Rattle.layer_session.specs.Closes.{HasClosed}
-use Rattle.layer_session.specs.FileLayers.{AreReadyFiles, FileTurns, HaveFiles, file_numbers, log_number}
+use Rattle.layer_session.specs.FileLayers.{AreOthers, AreReadyFiles, FileTurns, HaveFiles, file_numbers, log_number}
 use Rattle.layer_session.specs.Keeping.{IsReady, Serves}
 use Rattle.layer_session.specs.ReadOnly.{CanRead}
 use Rattle.layer_session.specs.Updating.{HasUpdated, Turns, UpdatesOver}
@@ -38,7 +38,7 @@ use Rattle.merge_plan.specs.declared.drawing.LogIds.{LogIds}
 use Rattle.merge_plan.specs.declared.drawing.MergeIds.{MergeIds}
 use Rattle.merge_plan.specs.declared.merge.Merge.{Merge}
 use Rattle.chain_core.specs.MergeStarting.{BeginsMerge, BeginsNoMerge, ChildBegun, ChildOver, HasBegunMerge, InnerFails, IsRoomFor, StartsMerge, behind_first, between_in, chain_files, data_session, is_changed, leaf_of, log_session, session_of, source_in, started_merge, target_in, target_place}
-use Rattle.chain_core.specs.Sessions.{AreApart, AreReady, CanRelink, IsLow, IsMergeOf, IsReadyLeaf, child_layer}
+use Rattle.chain_core.specs.Sessions.{AreApart, AreReady, AtMostOne, CanRelink, CanRetire, IsLow, IsMergeOf, IsReadyLeaf, IsRetiringOf, child_layer, number_of_leaf}
 use Rattle.chain_core.specs.Starting.{AreReadOf}
 use Rattle.chain_core.specs.States.{AreHeld, IsCourse, IsServing, IsUnder, State, child_parts, others_of, sector_of}
 use Rattle.chain_core.specs.declared.layers.Layers.{Layers}
@@ -106,7 +106,7 @@ module _ (m : MergeFiles) (merge : Merge) (d : Disk) (can : CanStart (chain_file
 
   module _ (a : Disk) (over : WhereBothTold (BeginsOver (leaf_of m).parts (data_session ids.leaf) 0) d.told a.told) where
     pub leaf_stops : (fault : SealFault) → BeginFails 0 d a fault → BeginsMerge m merge d a (Err fault)
-    leaf_stops fault fails = stops (0 ∷ []) a fault (refl, tt) (leaf_told m ids pages d can plan.links a.told over) (begins_not m 0 d d a fault refl refl fails)
+    leaf_stops fault fails = stops (0 ∷ []) a fault (refl, tt) (leaf_told m ids pages d can plan.links a.told over) (begins_not (is_changed m) 0 d d a fault refl refl fails)
 
     pub behind_leaf : (leaf : Layer) → WhereBothTold (HasBegun (leaf_of m).parts (data_session ids.leaf) 0 leaf) d.told a.told → a ≡ record d { told = a.told } → Behind (λ t. AtLeaf t m ids pages leaf) a
     behind_leaf leaf begun counts = record { counts = counts; at = leaf_stage m ids pages d can plan.links leaf a.told over begun }
@@ -153,7 +153,7 @@ module _ (m : MergeFiles) (merge : Merge) (d : Disk) (can : CanStart (chain_file
 
       pub source_stops : (fault : SealFault) → BeginFails (source_place m) a b fault → BeginsMerge m merge d b (Err fault)
       source_stops fault fails =
-          stops (source_place m ∷ 0 ∷ []) b fault (source_changed, (refl, tt)) (source_told m ids pages d can plan.links leaf a.told r.at b.told source_over) (begins_not m (source_place m) d a b fault source_changed r.counts fails)
+          stops (source_place m ∷ 0 ∷ []) b fault (source_changed, (refl, tt)) (source_told m ids pages d can plan.links leaf a.told r.at b.told source_over) (begins_not (is_changed m) (source_place m) d a b fault source_changed r.counts fails)
 
       pub behind_source : (source : Layer) → WhereBothTold (HasBegun m.source.parts session (source_place m) source) a.told b.told → b ≡ record a { told = b.told } → Behind (λ t. AtSource t m ids pages leaf source) b
       behind_source source begun counts = record {
@@ -178,7 +178,7 @@ module _ (m : MergeFiles) (merge : Merge) (d : Disk) (can : CanStart (chain_file
       locator_stops fault fails =
           stops (source_place m ∷ source_place m ∷ 0 ∷ []) b fault (source_changed, (source_changed, (refl, tt)))
           (locator_told m ids pages d can plan.links leaf source a.told r.at of.table plan.twice.has.pages_are plan.twice.has.told b.told twice_over)
-          (begins_not m (source_place m) d a b fault source_changed r.counts (subst (λ (n : ℕ). BeginFails n a b fault) of.number fails))
+          (begins_not (is_changed m) (source_place m) d a b fault source_changed r.counts (subst (λ (n : ℕ). BeginFails n a b fault) of.number fails))
 
       pub behind_locator : (next : Layer) → WhereBothTold (HasUpdated source next laid) a.told b.told → b ≡ record a { told = b.told } → Behind (λ t. AtLocator t m ids pages leaf next) b
       behind_locator next updated counts = record {
@@ -205,7 +205,7 @@ module _ (m : MergeFiles) (merge : Merge) (d : Disk) (can : CanStart (chain_file
       pub target_stops : (fault : SealFault) → BeginFails (target_place m) a b fault → BeginsMerge m merge d b (Err fault)
       target_stops fault fails =
           stops (target_place m ∷ source_place m ∷ source_place m ∷ 0 ∷ []) b fault (target_changed, (source_changed, (source_changed, (refl, tt))))
-          (target_told m ids pages d can plan.links leaf source a.told r.at b.told target_over) (begins_not m (target_place m) d a b fault target_changed r.counts fails)
+          (target_told m ids pages d can plan.links leaf source a.told r.at b.told target_over) (begins_not (is_changed m) (target_place m) d a b fault target_changed r.counts fails)
 
       pub behind_target : (target : Layer) → WhereBothTold (HasBegun m.target.parts session (target_place m) target) a.told b.told → b ≡ record a { told = b.told }
           → Behind (λ t. AtTarget t m ids pages leaf source target) b
@@ -231,7 +231,7 @@ module _ (m : MergeFiles) (merge : Merge) (d : Disk) (can : CanStart (chain_file
         by_ids None is = tt
         by_ids (Some i) is =
             let more = inside i is in
-            serve_on m ids pages d can plan.links m.child.parts i.log (child_place m) (λ t. AtTarget t m ids pages leaf source target)
+            serve_on d.told m.child.parts i.log (child_place m) (λ t. AtTarget t m ids pages leaf source target)
             (λ x y at. at.left (child_place m) (
               (λ e. let never : length m.above ≡ length m.above + 1 + 1 = e in absurd (omega (arith, never))),
               (
@@ -244,7 +244,7 @@ module _ (m : MergeFiles) (merge : Merge) (d : Disk) (can : CanStart (chain_file
       pub child_stops : (fault : SealFault) → InnerFails ids.child (child_place m) a b fault → BeginsMerge m merge d b (Err fault)
       child_stops fault fails =
           stops (child_place m ∷ target_place m ∷ source_place m ∷ source_place m ∷ 0 ∷ []) b fault (child_changed, (target_changed, (source_changed, (source_changed, (refl, tt)))))
-          (child_told m ids pages leaf source target d.told a.told b.told some r.at over) (begins_not m (child_place m) d a b fault child_changed r.counts (begins ids.child fails))
+          (child_told m ids pages leaf source target d.told a.told b.told some r.at over) (begins_not (is_changed m) (child_place m) d a b fault child_changed r.counts (begins ids.child fails))
         where
           begins : (o : Option LogIds) → InnerFails o (child_place m) a b fault → BeginFails (child_place m) a b fault
           begins None fails = absurd fails
@@ -272,7 +272,7 @@ module _ (m : MergeFiles) (merge : Merge) (d : Disk) (can : CanStart (chain_file
           stops (source_place m ∷ child_place m ∷ target_place m ∷ source_place m ∷ source_place m ∷ 0 ∷ []) b fault
           (source_changed, (child_changed, (target_changed, (source_changed, (source_changed, (refl, tt))))))
           (end_told m ids pages d can plan.links ids.child leaf source target child a.told b.told r.at keeps)
-          (begins_not m (source_place m) d a b fault source_changed r.counts (subst (λ (n : ℕ). BeginFails n a b fault) number fails))
+          (begins_not (is_changed m) (source_place m) d a b fault source_changed r.counts (subst (λ (n : ℕ). BeginFails n a b fault) number fails))
 
       pub no_layers : b ≡ record a { told = b.told } → BeginsMerge m merge d b (Err NoRoom)
       no_layers counts =
@@ -397,7 +397,7 @@ module _ (m : MergeFiles) (merge : Merge) (d : Disk) (can : CanStart (chain_file
           (low_two room.above.items (session_of child) (none_logged 1 1 (behind_first m.above) room.above.items for.above) (low_child child child_made))
           (tt, ((let one : target.log.number ≡ 1 = target_made.of.first in omega (arith, one)), none_logged (target_place m + 1) 1 m.below room.below.items for.below))
 
-      module _ (layers : Layers) (u : Underway) (geometry : layers.geometry ≡ g) (leaf_is : layers.leaf ≡ Some leaf) (merge_is : layers.merge ≡ Some u) (below_is : layers.below.items ≡ below) (place : u.source ≡ length m.above)
+      module _ (layers : Layers) (u : Underway) (geometry : layers.geometry ≡ g) (leaf_is : layers.leaf ≡ Some leaf) (merge_is : layers.merge ≡ Some u) (none_now : layers.retiring ≡ None) (below_is : layers.below.items ≡ below) (place : u.source ≡ length m.above)
           (marks : u.marks ≡ room.marks) (relink_is : u.relink ≡ merge.relink) (serving : StartsMerge m merge layers d.told b.told) where
         served_now : WhereTold b.told (λ t. (v : State) × IsServing layers v t)
         served_now = told_last (λ trace now. IsServing layers (started_merge trace now m ids pages) now) (λ t. (v : State) × IsServing layers v t) (λ x y s. (started_merge x y m ids pages, s)) d.told b.told serving
@@ -411,10 +411,9 @@ module _ (m : MergeFiles) (merge : Merge) (d : Disk) (can : CanStart (chain_file
         top_ready : IsReadyLeaf g below b leaf
         top_ready = record {
           ready = ready_still leaf leaf_made.old b leaf_made.was (same_files leaf_made.old leaf_made.counts) (λ t told. (held_now t told).0);
-          number = leaf_made.of.number;
           sector = leaf_made.of.sector;
           sectors = leaf_made.of.sectors;
-          apart = counted_others 1 below (omega arith) counted;
+          apart = subst (λ (n : ℕ). AreOthers n below) (sym leaf_made.of.number) (counted_others 1 below (omega arith) counted);
         }
 
         merge_ready : IsMergeOf g (Some leaf) below u
@@ -452,6 +451,9 @@ module _ (m : MergeFiles) (merge : Merge) (d : Disk) (can : CanStart (chain_file
               (subst (λ (o : Option Layer). IsMergeOf g o layers.below.items u) (sym leaf_is) (subst (λ (x : List FileLayer). IsMergeOf g (Some leaf) x u) (sym below_is) merge_ready)));
           relink = subst (λ (o : Option Underway). IfSome o (CanRelink layers.leaf layers.below.items b)) (sym merge_is)
               (subst (λ (o : Option Layer). CanRelink o layers.below.items b u) (sym leaf_is) (subst (λ (x : List FileLayer). CanRelink (Some leaf) x b u) (sym below_is) relinks_ready));
+          one = subst (λ o. AtMostOne o layers.retiring) (sym merge_is) none_now;
+          retiring = subst (λ o. IfSome o (IsRetiringOf layers.geometry layers.leaf layers.below.items)) (sym none_now) tt;
+          retires = subst (λ o. IfSome o (CanRetire layers.leaf layers.below.items b)) (sym none_now) tt;
         }
 
         are_low : IsLow 1 layers
@@ -464,6 +466,8 @@ module _ (m : MergeFiles) (merge : Merge) (d : Disk) (can : CanStart (chain_file
           serving = serving;
           session = ap is_some leaf_is;
           under_way = ap is_some merge_is;
+          only = none_now;
+          leaf = ap number_of_leaf leaf_is ∙ leaf_made.of.number;
           geometry = geometry;
           ready = are_ready;
           low = are_low;
@@ -476,18 +480,18 @@ module _ (m : MergeFiles) (merge : Merge) (d : Disk) (can : CanStart (chain_file
       (source : ReadLayer) (closed : WhereBothTold (HasClosed old_source source) a.told b.told) (counts : b ≡ record a { told = b.told }) where
     pub begins_merge : (begun_source : Layer) (room : Room) → IsRoomFor m room → (some : is_some ids.child ≡ nat_lt 0 (length m.above)) → is_some child ≡ is_some ids.child → Made (leaf_of m).parts 0 leaf → Made m.target.parts (target_place m) target
         → IfSome child (Made m.child.parts (child_place m)) → IsOf m.source.parts (source_place m) begun_source → source.tables.parts ≡ begun_source.tables.parts → CanRead source b → (layers : Layers) (u : Underway)
-        → layers.geometry ≡ g → layers.leaf ≡ Some leaf → layers.merge ≡ Some u → layers.below.items ≡ (room.above.items ++ session_of child) ++ Read source ∷ Session target ∷ room.below.items → u.source ≡ length m.above
+        → layers.geometry ≡ g → layers.leaf ≡ Some leaf → layers.merge ≡ Some u → layers.retiring ≡ None → layers.below.items ≡ (room.above.items ++ session_of child) ++ Read source ∷ Session target ∷ room.below.items → u.source ≡ length m.above
         → u.marks ≡ room.marks → u.relink ≡ merge.relink → BeginsMerge m merge d b (Ok layers)
-    begins_merge begun_source room for some both leaf_made target_made child_made source_of source_parts can_read layers u geometry leaf_is merge_is below_is place marks relink_is =
+    begins_merge begun_source room for some both leaf_made target_made child_made source_of source_parts can_read layers u geometry leaf_is merge_is none_now below_is place marks relink_is =
         let over = end_told m ids pages d can plan.links ids.child leaf old_source target child a.told b.told r.at keeps in
         let numbers = source_place m ∷ child_place m ∷ target_place m ∷ source_place m ∷ source_place m ∷ 0 ∷ [] in
         let serving = serves_told m merge d can plan.links plan.relink.has.pages_are plan.relink.has.told leaf target child source room.above.items room.below.items some both leaf_made.of.table (tables child child_made) for.above for.below layers u geometry
-        leaf_is merge_is below_is place relink_is (λ t. ap (λ (k : Marks). marks_of k t) marks ∙ for.marks t) b.told
+        leaf_is merge_is none_now below_is place relink_is (λ t. ap (λ (k : Marks). marks_of k t) marks ∙ for.marks t) b.told
         (end_stage m ids pages d can plan.links ids.child leaf old_source target child a.told b.told r.at keeps source closed) in
         record {
           moments = moments_of m numbers d.told b.told over;
           still = still_of m numbers (source_changed, (child_changed, (target_changed, (source_changed, (source_changed, (refl, tt)))))) d.told b.told over;
-          begun = begun b (only_told d a b r.counts counts) room for some leaf target begun_source child source both leaf_made target_made child_made source_of source_parts can_read layers u geometry leaf_is merge_is below_is place marks relink_is serving;
+          begun = begun b (only_told d a b r.counts counts) room for some leaf target begun_source child source both leaf_made target_made child_made source_of source_parts can_read layers u geometry leaf_is merge_is none_now below_is place marks relink_is serving;
           err = tt;
         }
       where

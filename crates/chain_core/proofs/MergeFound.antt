@@ -88,12 +88,30 @@ opened_above trace n [] rest h = tt
 opened_above trace n (file ∷ above) rest h = (h.0, opened_above trace (n + 1) above rest h.1)
 
 -- files of a chain that may be started, where their store tells its content
-pub record AreFound (trace : Trace) (m : MergeFiles) : Type 0 where
-  pub attached : AreAttached (chain_files m) trace
-  pub line : IsLine (chain_files m)
-  pub names : NoneTwice (links.names_of (chain_files m))
-  pub few : length (chain_files m) ≤ most_files
-  pub numbered : AllByRecursion IsServed (chain_files m)
+pub record IsFound (trace : Trace) (files : List LinkedFile) : Type 0 where
+  pub attached : AreAttached files trace
+  pub line : IsLine files
+  pub names : NoneTwice (links.names_of files)
+  pub few : length files ≤ most_files
+  pub numbered : AllByRecursion IsServed files
+
+abbrev pub AreFound : Trace → MergeFiles → Type 0
+AreFound trace m = IsFound trace (chain_files m)
+
+-- so they open, and each sector of the disk is in one of them
+module _ (t : Trace) (leaf : LinkedFile) (others : List LinkedFile) (found : IsFound t (leaf ∷ others)) where
+  pub reached_first : Reached leaf.parts.geometry.sector (opening_disk t (leaf ∷ others)) leaf.name (placed_from t 0 (leaf ∷ others)) [] [] t t
+  reached_first = record {
+    once = found.attached.once;
+    served = served t leaf others found.attached found.line found.names found.few found.numbered;
+    none = none_loose_in t 0 (leaf ∷ others);
+    moments = opens_at_rest t leaf others found.attached found.line found.names found.few found.numbered;
+    left = λ k apart. record { same = refl; names = refl };
+    serving = tt;
+  }
+
+  pub whole_first : (s : ℕ) → s < leaf.parts.geometry.sectors → is_some (seen_in (placed_from t 0 (leaf ∷ others)) s) ≡ true
+  whole_first = whole t leaf others found.attached found.line found.names found.few found.numbered
 
 module _ (t : Trace) (m : MergeFiles) (found : AreFound t m) where
   four : AreAsOpened t (length m.above) (m.child ∷ m.source ∷ m.target ∷ m.below)
@@ -113,46 +131,16 @@ module _ (t : Trace) (m : MergeFiles) (found : AreFound t m) where
   pub rest_opened : AreAsOpened t (target_place m + 1) m.below
   rest_opened = four.1.1.1
 
+  by_leaf : IsFound t (leaf_of m ∷ lower_files m)
+  by_leaf = subst (IsFound t) (files_split m) found
+
   pub reached_none : Reached (leaf_of m).parts.geometry.sector (opening_disk t (chain_files m)) (leaf_of m).name (chain_found t m) [] [] t t
   reached_none =
       subst (λ (c : List Placed). Reached (leaf_of m).parts.geometry.sector (opening_disk t (chain_files m)) (leaf_of m).name c [] [] t t)
       (chain_is t m.above m.child m.source m.target m.below)
-      (subst (λ (fs : List LinkedFile). Reached (leaf_of m).parts.geometry.sector (opening_disk t fs) (leaf_of m).name (placed_from t 0 fs) [] [] t t) (sym (files_split m)) by_leaf)
-    where
-      is : chain_files m ≡ leaf_of m ∷ lower_files m
-      is = files_split m
-
-      attached' : AreAttached (leaf_of m ∷ lower_files m) t
-      attached' = subst (λ (fs : List LinkedFile). AreAttached fs t) is found.attached
-
-      line' : IsLine (leaf_of m ∷ lower_files m)
-      line' = subst IsLine is found.line
-
-      names' : NoneTwice (links.names_of (leaf_of m ∷ lower_files m))
-      names' = subst (λ (fs : List LinkedFile). NoneTwice (links.names_of fs)) is found.names
-
-      few' : length (leaf_of m ∷ lower_files m) ≤ most_files
-      few' = subst (λ (fs : List LinkedFile). length fs ≤ most_files) is found.few
-
-      numbered' : AllByRecursion IsServed (leaf_of m ∷ lower_files m)
-      numbered' = subst (λ (fs : List LinkedFile). AllByRecursion IsServed fs) is found.numbered
-
-      by_leaf : Reached (leaf_of m).parts.geometry.sector (opening_disk t (leaf_of m ∷ lower_files m)) (leaf_of m).name (placed_from t 0 (leaf_of m ∷ lower_files m)) [] [] t t
-      by_leaf = record {
-        once = attached'.once;
-        served = served t (leaf_of m) (lower_files m) attached' line' names' few' numbered';
-        none = none_loose_in t 0 (leaf_of m ∷ lower_files m);
-        moments = opens_at_rest t (leaf_of m) (lower_files m) attached' line' names' few' numbered';
-        left = λ k apart. record { same = refl; names = refl };
-        serving = tt;
-      }
+      (subst (λ (fs : List LinkedFile). Reached (leaf_of m).parts.geometry.sector (opening_disk t fs) (leaf_of m).name (placed_from t 0 fs) [] [] t t) (sym (files_split m)) (reached_first t (leaf_of m) (lower_files m) by_leaf))
 
   pub whole_found : (s : ℕ) → s < (leaf_of m).parts.geometry.sectors → is_some (seen_in (chain_found t m) s) ≡ true
   whole_found s below =
       subst (λ (c : List Placed). is_some (seen_in c s) ≡ true) (chain_is t m.above m.child m.source m.target m.below)
-      (subst (λ (fs : List LinkedFile). is_some (seen_in (placed_from t 0 fs) s) ≡ true) (sym is)
-      (whole t (leaf_of m) (lower_files m) (subst (λ (fs : List LinkedFile). AreAttached fs t) is found.attached) (subst IsLine is found.line) (subst (λ (fs : List LinkedFile). NoneTwice (links.names_of fs)) is found.names)
-      (subst (λ (fs : List LinkedFile). length fs ≤ most_files) is found.few) (subst (λ (fs : List LinkedFile). AllByRecursion IsServed fs) is found.numbered) s below))
-    where
-      is : chain_files m ≡ leaf_of m ∷ lower_files m
-      is = files_split m
+      (subst (λ (fs : List LinkedFile). is_some (seen_in (placed_from t 0 fs) s) ≡ true) (sym (files_split m)) (whole_first t (leaf_of m) (lower_files m) by_leaf s below))

@@ -75,13 +75,13 @@ module _ (m : MergeFiles) (merge : Merge) (d : Disk) (can : CanStart (chain_file
     (leaf target : Layer) (l : Option Layer) (source : ReadLayer) (above below : List FileLayer) (some : is_some merge.ids.child ≡ nat_lt 0 (length m.above)) (both : is_some l ≡ is_some merge.ids.child)
     (table : leaf.tables.parts.bat_len ≡ (leaf_of m).parts.bat_len) (tables : IfSome l (λ (x : Layer). x.tables.parts.bat_len ≡ m.child.parts.bat_len))
     (first : AreReadOf 1 (behind_first m.above) above) (rest : AreReadOf (target_place m + 1) m.below below) (layers : Layers) (u : Underway) (geometry : layers.geometry ≡ (leaf_of m).parts.geometry) (leaf_is : layers.leaf ≡ Some leaf)
-    (merge_is : layers.merge ≡ Some u) (below_is : layers.below.items ≡ (above ++ session_of l) ++ Read source ∷ Session target ∷ below) (place : u.source ≡ length m.above) (relink_is : u.relink ≡ merge.relink)
+    (merge_is : layers.merge ≡ Some u) (none_now : layers.retiring ≡ None) (below_is : layers.below.items ≡ (above ++ session_of l) ++ Read source ∷ Session target ∷ below) (place : u.source ≡ length m.above) (relink_is : u.relink ≡ merge.relink)
     (marks : (t : ℕ) → marks_of u.marks t ≡ false) where
   pub serves_told : (o : Option Trace) → WhereBothTold (Ended m merge.ids merge.twice leaf target l source) d.told o → StartsMerge m merge layers d.told o
   serves_told o ended =
       told_from (HasRelink m merge.ids merge.relink) (Ended m merge.ids merge.twice leaf target l source) (λ trace now. IsServing layers (started_merge trace now m merge.ids merge.twice) now)
       (λ a b has e.
       serves_merge a b m merge.ids merge.twice merge.relink leaf target l source has.found e.0 e.1.0 e.1.1 (above ++ session_of l) below
-      (front_is m.above m.child m.source m.target m.below merge.ids merge.twice merge.relink merge.ids.child leaf target l above a b refl some both has links pages_are table tables first e.0) rest layers u geometry leaf_is merge_is below_is
+      (front_is m.above m.child m.source m.target m.below merge.ids merge.twice merge.relink merge.ids.child leaf target l above a b refl some both has links pages_are table tables first e.0) rest layers u geometry leaf_is merge_is none_now below_is
       place relink_is marks) d.told o
       (λ t told. record { found = are_found m d can t told; gives = gives t told }) ended

@@ -38,7 +38,7 @@ use Rattle.merge_plan.proofs.Lines.{are_followed}
 use Rattle.chain_core.specs.MergeStarting.{between_in, chain_files, data_session, is_written, leaf_of, log_session, source_in, started_merge, target_in, target_place, top_in}
 use Rattle.chain_core.specs.Starting.{AreReadOf, opening_disk, placed_from}
 use Rattle.merge_plan.specs.Attached.{AreAsOpened}
-use Rattle.chain_core.specs.States.{AreHeld, AreWritten, IsCourse, IsServing, IsUnder, Relinks, WasSynced, child_of, child_parts, is_session, seen_in}
+use Rattle.chain_core.specs.States.{AreHeld, AreWritten, IsCourse, IsRetiring, IsServing, IsUnder, Relinks, WasSynced, child_of, child_parts, is_session, seen_in}
 use Rattle.chain_core.specs.declared.layers.Layers.{Layers}
 use Rattle.chain_core.specs.declared.layers.Underway.{Underway}
 use Rattle.chain_core.proofs.MergeFound.{AreFound, between_found, child_opened, opened_above, rest_found, rest_opened, source_found, target_found, target_opened, whole_found}
@@ -82,7 +82,7 @@ leaf_written m = refl
 -- ---- files that are only read
 
 -- each number from this one on has P
-abbrev Each : (ℕ → Type 0) → ℕ → List LinkedFile → Type 0
+abbrev pub Each : (ℕ → Type 0) → ℕ → List LinkedFile → Type 0
 Each P n files = (k : ℕ) → n ≤ k → k < n + length files → P k
 
 each_later : (P : ℕ → Type 0) (n : ℕ) (f : LinkedFile) (files : List LinkedFile) → Each P n (f ∷ files) → Each P (n + 1) files
@@ -98,14 +98,14 @@ read_on t0 now n (f ∷ files) (Read l ∷ layers) beside of o = (
   read_on t0 now (n + 1) files layers (each_later (λ k. IsBeside k t0 now) n f files beside) of.1 o.1,
 )
 
-none_written : (writes : ℕ → Bool) (n : ℕ) (files : List LinkedFile) (layers : List FileLayer) → Each (λ k. writes k ≡ false) n files → AreReadOf n files layers → AreWritten writes layers
+pub none_written : (writes : ℕ → Bool) (n : ℕ) (files : List LinkedFile) (layers : List FileLayer) → Each (λ k. writes k ≡ false) n files → AreReadOf n files layers → AreWritten writes layers
 none_written writes n [] [] none of = tt
 none_written writes n [] (l ∷ layers) none of = absurd of
 none_written writes n (f ∷ files) [] none of = absurd of
 none_written writes n (f ∷ files) (Session l ∷ layers) none of = absurd of.0
 none_written writes n (f ∷ files) (Read l ∷ layers) none of = (ap writes of.0.number ∙ none n (omega arith) (omega arith), none_written writes (n + 1) files layers (each_later (λ k. writes k ≡ false) n f files none) of.1)
 
-synced_on : (writes : ℕ → Bool) (t0 now : Trace) (n : ℕ) (files : List LinkedFile) → Each (λ k. IsBeside k t0 now) n files → AreAsOpened t0 n files → AllByRecursion (WasSynced writes now) (placed_from t0 n files)
+pub synced_on : (writes : ℕ → Bool) (t0 now : Trace) (n : ℕ) (files : List LinkedFile) → Each (λ k. IsBeside k t0 now) n files → AreAsOpened t0 n files → AllByRecursion (WasSynced writes now) (placed_from t0 n files)
 synced_on writes t0 now n [] beside o = tt
 synced_on writes t0 now n (f ∷ files) beside o = ((λ w. ap is_synced (beside n (omega arith) (omega arith)).same ∙ o.0.synced), synced_on writes t0 now (n + 1) files (each_later (λ k. IsBeside k t0 now) n f files beside) o.1)
 
@@ -328,7 +328,7 @@ module _ (t0 now : Trace) (m : MergeFiles) (ids : MergeIds) (pages relink : List
       (f.seen (source_found t0 m ∷ target_found t0 m ∷ rest_found t0 m) s
       ∙ seen_tail above_in (source_found t0 m ∷ target_found t0 m ∷ rest_found t0 m) (source_in t0 m ids pages ∷ target_in t0 m ids ∷ rest_found t0 m) s refl) (whole_found t0 m are s below)
 
-  module _ (layers : Layers) (u : Underway) (geometry : layers.geometry ≡ (leaf_of m).parts.geometry) (leaf_is : layers.leaf ≡ Some leaf) (merge_is : layers.merge ≡ Some u) (below_is : layers.below.items ≡ front ++ Read source ∷ Session target ∷ reads)
+  module _ (layers : Layers) (u : Underway) (geometry : layers.geometry ≡ (leaf_of m).parts.geometry) (leaf_is : layers.leaf ≡ Some leaf) (merge_is : layers.merge ≡ Some u) (none_now : layers.retiring ≡ None) (below_is : layers.below.items ≡ front ++ Read source ∷ Session target ∷ reads)
       (place : u.source ≡ length m.above) (pages_are : u.relink ≡ relink) (marks : (t : ℕ) → marks_of u.marks t ≡ false) where
     goes_by : child_parts layers.leaf layers.below.items u.source ≡ Some f.parts
     goes_by = ap (λ (o : Option Layer). child_parts o layers.below.items u.source) leaf_is ∙ ap (λ (b : List FileLayer). child_parts (Some leaf) b u.source) below_is
@@ -353,6 +353,7 @@ module _ (t0 now : Trace) (m : MergeFiles) (ids : MergeIds) (pages relink : List
       served = e.served;
       loose = loose_moves.begins (is_dirty z []) (top_in t0 m ids ∷ above_in) (source_in t0 m ids pages) (target_in t0 m ids) (rest_found t0 m) (tight (is_dirty z []) chain e.none);
       course = subst (λ o. IsCourse z (is_written m) layers o (top_in t0 m ids) (started_merge t0 now m ids pages).rest) (sym merge_is) under;
+      leaving = subst (λ o. IsRetiring z (is_written m) [] layers o (top_in t0 m ids) (started_merge t0 now m ids pages).rest) (sym none_now) tt;
       held = subst (λ o. AreHeld o layers.below.items now (top_in t0 m ids) (above_in ++ source_in t0 m ids pages ∷ target_in t0 m ids ∷ rest_found t0 m)) (sym leaf_is)
           (serves.1, subst (λ (b : List FileLayer). HaveFiles b now (above_in ++ source_in t0 m ids pages ∷ target_in t0 m ids ∷ rest_found t0 m)) (sym below_is) have_below);
       whole = whole_in;

@@ -4,10 +4,10 @@ use Rattle.link_rules.specs.declared.linked.LinkedFile.{LinkedFile}
 use Rattle.merge_plan.specs.Merging.{MergeFiles, source_place}
 use Rattle.chain_core.specs.MergeStarting.{chain_files}
 
-first_alike : {A : Type 0} (x y : A) (a b : List A) → x ∷ a ≡ y ∷ b → x ≡ y
+pub first_alike : {A : Type 0} (x y : A) (a b : List A) → x ∷ a ≡ y ∷ b → x ≡ y
 first_alike x y a b e = ap (λ l. get_or l 0 x) e
 
-rest_alike : {A : Type 0} (x y : A) (a b : List A) → x ∷ a ≡ y ∷ b → a ≡ b
+pub rest_alike : {A : Type 0} (x y : A) (a b : List A) → x ∷ a ≡ y ∷ b → a ≡ b
 rest_alike x y a b e = ap (λ l. drop 1 l) e
 
 -- what stands in front of one item, the item and what stands behind it

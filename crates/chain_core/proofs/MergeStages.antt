@@ -1,5 +1,5 @@
 -- The phases that prepare a merge, each behind those before it, where a store may tell its content or not.
-use Rattle.std.proofs.Common.{◌≡◌, ◌≢◌, ℕ, ◌+◌, true, false, List, [], ◌∷◌, length, sym, ap, subst, ◌∙◌, arith}
+use Rattle.std.proofs.Common.{◌≡◌, ◌≢◌, ℕ, ◌+◌, Bool, true, false, List, [], ◌∷◌, length, sym, ap, subst, ◌∙◌, arith}
 use Rattle.std.specs.Prelude.{Option}
 use Rattle.std.specs.List.{AllByRecursion}
 use Rattle.vhdx_format.specs.declared.log_entry.Page.{Page}
@@ -7,6 +7,7 @@ use Rattle.vx_base.specs.declared.parts.Parts.{Parts}
 use Rattle.store_model.specs.Disk.{Disk, WhereBothTold, WhereTold}
 use Rattle.store_model.specs.File.{is_synced, seen}
 use Rattle.store_model.specs.Trace.{EachMoment, Trace, file_of}
+use Rattle.guest_model.specs.Calls.{Disk as GuestDisk}
 use Rattle.chain_model.specs.Moments.{EachOpens}
 use Rattle.link_rules.specs.declared.linked.LinkedFile.{LinkedFile}
 use Rattle.layer_session.specs.Begins.{BeginsOver, CanServe, HasBegun}
@@ -20,7 +21,7 @@ use Rattle.meta_edit.specs.Pages.{ArePages}
 use Rattle.merge_plan.specs.Merging.{GivesLocator, KeepsLinks, MergeFiles, source_place, twice_pairs}
 use Rattle.merge_plan.specs.declared.drawing.LogIds.{LogIds}
 use Rattle.merge_plan.specs.declared.drawing.MergeIds.{MergeIds}
-use Rattle.chain_core.specs.MergeStarting.{LeavesRest, chain_files, data_session, is_changed, leaf_of, log_session, source_begun, source_in, target_place, twice_ties}
+use Rattle.chain_core.specs.MergeStarting.{LeavesAllBut, LeavesRest, chain_files, data_session, is_changed, leaf_of, log_session, source_begun, source_in, target_place, twice_ties}
 use Rattle.chain_core.specs.Starting.{EachOpensAlike, opening_disk}
 use Rattle.merge_plan.specs.Attached.{CanStart}
 use Rattle.chain_core.proofs.MergeFound.{AreFound, files_split, lower_files, source_opened}
@@ -42,25 +43,30 @@ moments_of m numbers old new o =
     (told_as (OpenedBy m numbers) (λ t now. EachMoment (EachOpens (leaf_of m).name (λ s. false) (opening_disk t (leaf_of m ∷ lower_files m))) t now)
     (λ a b x. subst (λ (fs : List LinkedFile). EachMoment (EachOpens (leaf_of m).name (λ s. false) (opening_disk a fs)) a b) (files_split m) x.moments) old new o)
 
-others_apart : (m : MergeFiles) (k : ℕ) (numbers : List ℕ) → AllByRecursion (λ n. is_changed m n ≡ true) numbers → is_changed m k ≡ false → AllByRecursion (λ n. k ≢ n) numbers
-others_apart m k [] changed none = tt
-others_apart m k (n ∷ numbers) changed none = ((λ e. let never : true ≡ false = sym changed.0 ∙ ap (is_changed m) (sym e) ∙ none in absurd (cc)), others_apart m k numbers changed.1 none)
+others_apart : (changes : ℕ → Bool) (k : ℕ) (numbers : List ℕ) → AllByRecursion (λ n. changes n ≡ true) numbers → changes k ≡ false → AllByRecursion (λ n. k ≢ n) numbers
+others_apart changes k [] changed none = tt
+others_apart changes k (n ∷ numbers) changed none = ((λ e. let never : true ≡ false = sym changed.0 ∙ ap changes (sym e) ∙ none in absurd (cc)), others_apart changes k numbers changed.1 none)
+
+pub all_but : (changes : ℕ → Bool) (opening : Trace → GuestDisk) (leaf : List ℕ) (numbers : List ℕ) → AllByRecursion (λ n. changes n ≡ true) numbers → (old new : Option Trace) → WhereBothTold (λ t now. Opened (opening t) leaf numbers t now) old new
+    → LeavesAllBut changes old new
+all_but changes opening leaf numbers changed old new o =
+    told_as (λ t now. Opened (opening t) leaf numbers t now) (λ t now. (other : ℕ) → changes other ≡ false → file_of now other ≡ file_of t other) (λ a b x other none. (x.left other (others_apart changes other numbers changed none)).same) old new o
 
 pub still_of : (m : MergeFiles) (numbers : List ℕ) → AllByRecursion (λ n. is_changed m n ≡ true) numbers → (old new : Option Trace) → WhereBothTold (OpenedBy m numbers) old new → LeavesRest m old new
-still_of m numbers changed old new o =
-    told_as (OpenedBy m numbers) (λ t now. (other : ℕ) → is_changed m other ≡ false → file_of now other ≡ file_of t other) (λ a b x other none. (x.left other (others_apart m other numbers changed none)).same) old new o
+still_of m numbers changed old new o = all_but (is_changed m) (λ t. opening_disk t (chain_files m)) (leaf_of m).name numbers changed old new o
+
+-- a file that was found lets its session begin still
+pub serve_on : (told : Option Trace) (parts : Parts) (log : List ℕ) (n : ℕ) (R : Trace → Trace → Type 0) → ((a b : Trace) → R a b → IsBeside n a b) → (o : Option Trace) → WhereBothTold R told o → WhereTold told (CanServe parts log n)
+    → WhereTold o (CanServe parts log n)
+serve_on told parts log n R beside o r can =
+    told_last (λ a b. CanServe parts log n b) (CanServe parts log n) (λ a b c. c) told o
+    (told_from (CanServe parts log n) R (λ a b. CanServe parts log n b) (λ a b c x. serve_beside parts log n a b (beside a b x) c) told o can r)
 
 -- ---- each phase behind those before it
 
 module _ (m : MergeFiles) (ids : MergeIds) (twice : List Page) (d : Disk) (can : CanStart (chain_files m) d) (links : KeepsLinks m ids.target.data_write) where
   found : WhereTold d.told (λ t. AreFound t m)
   found = are_found m d can
-
-  -- a file that was found lets its session begin still
-  pub serve_on : (parts : Parts) (log : List ℕ) (n : ℕ) (R : Trace → Trace → Type 0) → ((a b : Trace) → R a b → IsBeside n a b) → (o : Option Trace) → WhereBothTold R d.told o → WhereTold d.told (CanServe parts log n) → WhereTold o (CanServe parts log n)
-  serve_on parts log n R beside o r can' =
-      told_last (λ a b. CanServe parts log n b) (CanServe parts log n) (λ a b c. c) d.told o
-      (told_from (CanServe parts log n) R (λ a b. CanServe parts log n b) (λ a b c x. serve_beside parts log n a b (beside a b x) c) d.told o can' r)
 
   pub leaf_stage : (leaf : Layer) (o : Option Trace) → WhereBothTold (BeginsOver (leaf_of m).parts (data_session ids.leaf) 0) d.told o → WhereBothTold (HasBegun (leaf_of m).parts (data_session ids.leaf) 0 leaf) d.told o
       → WhereBothTold (λ t. AtLeaf t m ids twice leaf) d.told o
@@ -74,7 +80,7 @@ module _ (m : MergeFiles) (ids : MergeIds) (twice : List Page) (d : Disk) (can :
 
   module _ (leaf : Layer) (o : Option Trace) (at : WhereBothTold (λ t. AtLeaf t m ids twice leaf) d.told o) where
     pub source_serves : WhereTold d.told (CanServe m.source.parts ids.source.log (source_place m)) → WhereTold o (CanServe m.source.parts ids.source.log (source_place m))
-    source_serves = serve_on m.source.parts ids.source.log (source_place m) (λ t. AtLeaf t m ids twice leaf)
+    source_serves = serve_on d.told m.source.parts ids.source.log (source_place m) (λ t. AtLeaf t m ids twice leaf)
         (λ a b r. r.left (source_place m) ((λ e. let never : length m.above + 1 ≡ 0 = e in absurd (omega arith)), tt)) o at
 
     pub source_told : (p : Option Trace) → WhereBothTold (BeginsOver m.source.parts (log_session ids.source) (source_place m)) o p → WhereBothTold (OpenedBy m (source_place m ∷ 0 ∷ [])) d.told p
@@ -128,7 +134,7 @@ module _ (m : MergeFiles) (ids : MergeIds) (twice : List Page) (d : Disk) (can :
 
   module _ (leaf source : Layer) (o : Option Trace) (at : WhereBothTold (λ t. AtLocator t m ids twice leaf source) d.told o) where
     pub target_serves : WhereTold d.told (CanServe m.target.parts ids.target.log (target_place m)) → WhereTold o (CanServe m.target.parts ids.target.log (target_place m))
-    target_serves = serve_on m.target.parts ids.target.log (target_place m) (λ t. AtLocator t m ids twice leaf source)
+    target_serves = serve_on d.told m.target.parts ids.target.log (target_place m) (λ t. AtLocator t m ids twice leaf source)
         (λ a b r. r.left (target_place m)
         ((λ e. let never : length m.above + 1 + 1 ≡ length m.above + 1 = e in absurd (omega arith)), ((λ e. let never : length m.above + 1 + 1 ≡ length m.above + 1 = e in absurd (omega arith)), ((λ e. let never : length m.above + 1 + 1 ≡ 0 = e in absurd (omega arith)), tt)))) o at
 

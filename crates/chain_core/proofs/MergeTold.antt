@@ -14,14 +14,13 @@ use Rattle.layer_session.specs.Begins.{CanServe}
 use Rattle.make_file.specs.Identifiers.{first_unfit, is_unfit}
 use Rattle.shown_ids.specs.Shown.{shown}
 use Rattle.merge_plan.specs.Attached as plan
-use Rattle.merge_plan.specs.Drawing.{JudgesDrawn, merge_ids}
+use Rattle.merge_plan.specs.Drawing.{JudgesDrawn}
 use Rattle.merge_plan.specs.Merging.{MergeFiles}
-use Rattle.merge_plan.specs.declared.drawing.MergeIds.{MergeIds}
 use Rattle.chain_core.specs.MergeStarting.{chain_files}
 use Rattle.merge_plan.specs.Attached.{AreAsOpened, BeginsInUse, CanStart, IsAsOpened}
 use Rattle.chain_core.proofs.Beginning.{by_recursion}
 use Rattle.chain_core.proofs.Fresh.{any_left, any_right, passed, serve_fresh}
-use Rattle.chain_core.proofs.MergeFound.{AreFound, opened_below}
+use Rattle.chain_core.proofs.MergeFound.{AreFound, IsFound, opened_below}
 
 -- ---- one stretch behind another
 
@@ -86,8 +85,11 @@ can_plan files disk can = record {
   told = λ t told. let a = can.told t told in record { once = a.once; in_use = in_use_plan files a.in_use; each = all_plan t 0 files a.each };
 }
 
+pub is_found : (files : List LinkedFile) (disk : Disk) → CanStart files disk → WhereTold disk.told (λ t. IsFound t files)
+is_found files disk can t told = record { attached = can.told t told; line = can.line; names = can.once; few = can.few; numbered = by_recursion IsServed files can.served }
+
 pub are_found : (m : MergeFiles) (disk : Disk) → CanStart (chain_files m) disk → WhereTold disk.told (λ t. AreFound t m)
-are_found m disk can t told = record { attached = can.told t told; line = can.line; names = can.once; few = can.few; numbered = by_recursion IsServed (chain_files m) can.served }
+are_found m disk can = is_found (chain_files m) disk can
 
 -- ---- identifiers that are fit
 
@@ -125,10 +127,10 @@ module _ (disk : Disk) (files above : List LinkedFile) (file : LinkedFile) (rest
   pub there_at : length above < disk.files
   there_at = let there : length (above ++ file ∷ rest) ≤ disk.files = subst (λ (fs : List LinkedFile). length fs ≤ disk.files) is can.there in omega (arith, there, length-append above (file ∷ rest))
 
-  pub fresh_at : (ids : MergeIds) (k : ℕ) → JudgesDrawn files disk (merge_ids ids) None → k < length (merge_ids ids) → WhereTold disk.told (CanServe file.parts (get_or (merge_ids ids) k []) (length above))
+  pub fresh_at : (ids : List (List ℕ)) (k : ℕ) → JudgesDrawn files disk ids None → k < length ids → WhereTold disk.told (CanServe file.parts (get_or ids k []) (length above))
   fresh_at ids k fit less t told =
-      let new = all_new fit.known (merge_ids ids) fit.judged k [] less in
-      let id : List ℕ = get_or (merge_ids ids) k [] in
+      let new = all_new fit.known ids fit.judged k [] less in
+      let id : List ℕ = get_or ids k [] in
       let none : list_any (same_id id) (plan.shown_from t 0 (above ++ file ∷ rest)) ≡ false = subst (λ (x : List (List ℕ)). list_any (same_id id) x ≡ false) (fit.shown_are t told ∙ ap (plan.shown_from t 0) is) new.1 in
       let same : 0 + length above ≡ length above = omega arith in
       serve_fresh t (length above) file id (at_place t told) served_at new.0 (subst (λ (n : ℕ). list_any (same_id id) (shown file.parts (seen (file_of t n))) ≡ false) same (shown_split t 0 above file rest id none))

@@ -18,15 +18,15 @@ use Rattle.layer_session.specs.declared.file_layer.FileLayer.{FileLayer}
 use Rattle.layer_session.specs.declared.file_layer.FileLayer.TheVariants.{Read, Session}
 use Rattle.layer_session.specs.ReadOnly.{SomeReadFailed}
 use Rattle.layer_session.proofs.FileLayers.{others_stand}
-use Rattle.layer_session.specs.FileLayers.{AreReadableFiles, AreReadyFiles, AreSameFiles, FileCanBeRead, HasFile, HaveFiles, HaveSameNumbers, Hold, IsReadableFile, IsReadyFile, IsSameFile, file_numbers, log_number, number_of, table_parts}
+use Rattle.layer_session.specs.FileLayers.{AreReadableFiles, AreReadyFiles, AreSameFiles, FileCanBeRead, HasFile, HaveFiles, HaveSameNumbers, Hold, IsReadableFile, IsReadyFile, IsSameFile, file_numbers, log_number, number_of, table_parts, log_header}
 use Rattle.merge_core.specs.Pieces.{IsTaken}
 use Rattle.chain_core.specs.declared.layers.Layers.{Layers}
 use Rattle.chain_core.specs.declared.layers.Underway.{Underway}
 use Rattle.chain_core.specs.Copying.{Takes, number_at_source, source_number}
 use Rattle.chain_core.specs.Merging.{IsTruePiece}
 use Rattle.chain_core.specs.Reading.{HasOnlyRead}
-use Rattle.chain_core.specs.Sessions.{AreReady, IsMergeOf}
-use Rattle.chain_core.specs.States.{AreHeld, IsCourse, IsServing, IsUnder, Rest, State, merging, plain, sector_of}
+use Rattle.chain_core.specs.Sessions.{AreReady, AtMostOne, IsMergeOf}
+use Rattle.chain_core.specs.States.{AreHeld, IsCourse, IsServing, IsUnder, Rest, State, merging, plain, retiring, sector_of}
 use Rattle.chain_core.proofs.Finding.{below_reads}
 use Rattle.chain_core.proofs.Putting.{have_parts}
 
@@ -90,7 +90,15 @@ module _ (g : Geometry) (disk : Disk) (x next : FileLayer) (same : IsSameFile x 
       let rest = same_numbers_at a b in
       record { parts = ap (λ more. table_parts l ∷ more) rest.parts; logs = ap (λ more. log_number l ∷ more) rest.logs }
 
+  pub same_headers_at : (a b : List FileLayer) → map log_header (a ++ next ∷ b) ≡ map log_header (a ++ x ∷ b)
+  same_headers_at [] b = ap (λ h. h ∷ map log_header b) same.header
+  same_headers_at (l ∷ a) b = ap (λ more. log_header l ∷ more) (same_headers_at a b)
+
 -- ---- the source is read
+
+-- a merge below the leaf is the only one
+pub alone : (layers : Layers) (u : Underway) (disk : Disk) → layers.merge ≡ Some u → AreReady layers disk → layers.retiring ≡ None
+alone layers u disk is ready = subst (λ o. AtMostOne o layers.retiring) is ready.one
 
 pub merge_of : (layers : Layers) (u : Underway) (disk : Disk) → layers.merge ≡ Some u → AreReady layers disk → IsMergeOf layers.geometry layers.leaf layers.below.items u
 merge_of layers u disk merge_is ready = subst (λ o. IfSome o (IsMergeOf layers.geometry layers.leaf layers.below.items)) merge_is ready.merge
@@ -119,12 +127,12 @@ some_failed x before after (Ok done) can failed = tt
 some_failed x before after (Err fault) can failed = (subst (λ (n : ℕ). n < before.files) (sym failed.of_file) (file_there x before can), subst (λ (n : ℕ). ReadFailed n before after fault) (sym failed.of_file) failed)
 
 pub source_reads : (old new : Layers) (u : Underway) (x next : FileLayer) (before after : Disk) (answer : Result (Unit {0}) StoreFault) → AreReady old before → IsAt old.below.items u.source x
-    → new.geometry ≡ old.geometry → new.leaf ≡ old.leaf → new.merge ≡ old.merge → new.below.items ≡ set old.below.items u.source next → IsSameFile x next before → OnOk answer (after ≡ before) → IfErr answer (ReadFailed (number_of x) before after)
+    → new.geometry ≡ old.geometry → new.leaf ≡ old.leaf → new.merge ≡ old.merge → new.retiring ≡ old.retiring → new.below.items ≡ set old.below.items u.source next → IsSameFile x next before → OnOk answer (after ≡ before) → IfErr answer (ReadFailed (number_of x) before after)
     → HasOnlyRead old new before after
-source_reads old new u x next before after answer ready at g l m items same done failed =
+source_reads old new u x next before after answer ready at g l m q items same done failed =
     let readable = subst (AreReadableFiles old.geometry before) at.parts (others_stand.can old.geometry before old.below.items ready.below) in
-    below_reads old new (at.before ++ x ∷ at.behind) (at.before ++ next ∷ at.behind) before after answer (sym at.parts) g l m (items ∙ at.put next) (same_at old.geometry before x next same at.before at.behind readable)
-    (same_numbers_at old.geometry before x next same at.before at.behind) done (some_failed x before after answer (readable_of old u before x ready at).can failed) ready
+    below_reads old new (at.before ++ x ∷ at.behind) (at.before ++ next ∷ at.behind) before after answer (sym at.parts) g l m q (items ∙ at.put next) (same_at old.geometry before x next same at.before at.behind readable)
+    (same_numbers_at old.geometry before x next same at.before at.behind) (same_headers_at old.geometry before x next same at.before at.behind) done (some_failed x before after answer (readable_of old u before x ready at).can failed) ready
 
 number_in : (a : List FileLayer) (x : FileLayer) (b : List FileLayer) → number_of x ≡ get_or (file_numbers (a ++ x ∷ b)) (length a) 0
 number_in [] x b = refl
@@ -136,7 +144,7 @@ pub whose : (layers : Layers) (u : Underway) (x : FileLayer) (before after : Dis
 whose layers u x before after (Ok done) merge_is at failed = tt
 whose layers u x before after (Err fault) merge_is at failed =
     failed.of_file ∙ number_in at.before x at.behind ∙ ap (λ n. get_or (file_numbers (at.before ++ x ∷ at.behind)) n 0) at.long ∙ ap (λ (c : List FileLayer). get_or (file_numbers c) u.source 0) (sym at.parts)
-    ∙ ap (λ o. number_at_source (file_numbers layers.below.items) o) (sym merge_is)
+    ∙ ap (number_at_source layers) (sym merge_is)
 
 -- ---- what is taken of the source
 
@@ -144,6 +152,8 @@ whose layers u x before after (Err fault) merge_is at failed =
 source_taken : (v : State) (rest : Rest) (layers : Layers) (leaf : Layer) (u : Underway) (x : FileLayer) (trace : Trace) (piece : Piece) → layers.leaf ≡ Some leaf → layers.merge ≡ Some u → IsAt layers.below.items u.source x
     → IsServing layers (record v { rest = rest }) trace → 0 < per_stripe (sector_of v) → piece.stamp ≡ 0 → ((file : Placed) → HasFile x trace file → IsTaken (sector_of v) file.member.layer piece) → IsTruePiece (record v { rest = rest }) piece
 source_taken v (plain others) layers leaf u x trace piece leaf_is merge_is at serving stripes stamp taken = tt
+source_taken v (retiring target below first before) layers leaf u x trace piece leaf_is merge_is at serving stripes stamp taken =
+    absurd (let never : IsCourse (sector_of v) v.writes layers (Some u) v.top (retiring target below first before) = subst (λ o. IsCourse (sector_of v) v.writes layers o v.top (retiring target below first before)) merge_is serving.course in never)
 source_taken v (merging above source target below m) layers leaf u x trace piece leaf_is merge_is at serving stripes stamp taken =
     let z = sector_of v in
     let under : IsUnder z v.writes layers u v.top above source target m = subst (λ o. IsCourse z v.writes layers o v.top (merging above source target below m)) merge_is serving.course in

@@ -43,7 +43,7 @@ use Rattle.table_pages.specs.declared.tables.TableParts.{TableParts}
 use Rattle.layer_session.specs.FileLayers.{table_parts}
 use Rattle.std.specs.Prelude.{option_map}
 use Rattle.std.proofs.Common.{cond, get_or, ◌-◌}
-use Rattle.chain_core.specs.States.{Relinks, child_of, child_parts, AreHeld, AreWritten, IsCourse, IsServing, IsUnder, Merging, State, dirty_now, merging, sector_of, seen_in, WasSynced}
+use Rattle.chain_core.specs.States.{Relinks, child_of, child_parts, AreHeld, AreWritten, IsCourse, IsServing, IsUnder, Merging, State, dirty_now, merging, sector_of, seen_in, WasSynced, IsRetiring}
 use Rattle.chain_core.proofs.Steps.{all_right, apart, goes_over, names_behind, phase_beside, phase_others, still_once, still_read}
 
 -- ---- one file among others
@@ -188,7 +188,7 @@ module _ (v : State) (top : Placed) (above : List Placed) (source target : Place
           subst (λ o. AreHeld o new.below.items now top (above ++ (source ∷ other ∷ below))) (sym leaf_now) (top_stands, here_all)
 
       -- what a phase of the target leaves of the session, once it shows the other state
-      pub serving_on : (new : Layers) (u : Underway) (next : Layer) (other : Placed) (marks : ℕ → Bool) (P : List ℕ → Type 0) (now : Trace) → IsPhase target.number P trace now → new.geometry ≡ layers.geometry → new.leaf ≡ Some leaf → new.merge ≡ Some u
+      pub serving_on : (new : Layers) (u : Underway) (next : Layer) (other : Placed) (marks : ℕ → Bool) (P : List ℕ → Type 0) (now : Trace) → IsPhase target.number P trace now → new.geometry ≡ layers.geometry → new.retiring ≡ None → new.leaf ≡ Some leaf → new.merge ≡ Some u
           → new.below.items ≡ a ++ Session next ∷ b → Serves next now other → other.number ≡ target.number → v.writes target.number ≡ true
           → ((s : ℕ) → is_some (target.member.layer s) ≡ true → is_some (other.member.layer s) ≡ true)
           → IsServed (sector_of here) v.opening v.history v.leaf v.retired (files_with other) now
@@ -197,12 +197,13 @@ module _ (v : State) (top : Placed) (above : List Placed) (source target : Place
           → AreWritten v.writes new.below.items
           → EachOpensNow here trace now
           → IsServing new (record v { top = top; rest = merging above source other below (record m { marks = marks }) }) now
-      serving_on new u next other marks P now phase geometry leaf_now merge items serves number written more served loose under all_written moments = record {
+      serving_on new u next other marks P now phase geometry none_now leaf_now merge items serves number written more served loose under all_written moments = record {
         once = still_once target.number P trace now phase serving.once;
         geometry = geometry ∙ serving.geometry;
         served = served;
         loose = loose;
         course = subst (λ o. IsCourse (sector_of here) v.writes new o top (merging above source other below (record m { marks = marks }))) (sym merge) under;
+        leaving = subst (λ o. IsRetiring (sector_of here) v.writes v.history new o top (merging above source other below (record m { marks = marks }))) (sym none_now) tt;
         held = held_on new next other P now phase leaf_now items serves;
         whole = λ s inside. there_on s (serving.whole s inside);
         synced = subst (AllByRecursion (WasSynced v.writes v.since)) (ap (λ (c : List Placed). top ∷ c) (parted other))
@@ -275,7 +276,7 @@ module _ (v : State) (top : Placed) (above : List Placed) (source target : Place
 
       -- ---- a put
 
-      module _ (new : Layers) (u u' : Underway) (next : Layer) (piece : Piece) (now : Trace) (geometry : new.geometry ≡ layers.geometry) (leaf_now : new.leaf ≡ Some leaf) (merge : layers.merge ≡ Some u) (items : new.below.items ≡ a ++ Session next ∷ b)
+      module _ (new : Layers) (u u' : Underway) (next : Layer) (piece : Piece) (now : Trace) (geometry : new.geometry ≡ layers.geometry) (none_now : new.retiring ≡ None) (leaf_now : new.leaf ≡ Some leaf) (merge : layers.merge ≡ Some u) (items : new.below.items ≡ a ++ Session next ∷ b)
           (stripes : 0 < per_stripe (sector_of here)) (true_piece : IsTrue (sector_of here) m.first [] piece) (stamp_is : piece.stamp ≡ 0) (all_written : AreWritten v.writes new.below.items) (parts_are : next.tables.parts ≡ l.tables.parts) where
         abbrev z : ℕ
         z = sector_of here
@@ -338,7 +339,7 @@ module _ (v : State) (top : Placed) (above : List Placed) (source target : Place
             let over = survives put.moments in
             record {
               moments = over.moments;
-              serving = serving_on new u' next after (with_mark piece.stripe m.marks) (ShowsFile wide) now put.moments geometry leaf_now merge_now items put.holds refl under_old.written
+              serving = serving_on new u' next after (with_mark piece.stripe m.marks) (ShowsFile wide) now put.moments geometry none_now leaf_now merge_now items put.holds refl under_old.written
                   (λ s there. more (piece.sectors s) (target.member.layer s) there) (over.served (layers_are_kept next now after put.holds).shows) loose_after
                   (record {
                     place = place_now ∙ under_old.place;
@@ -373,16 +374,16 @@ module _ (v : State) (top : Placed) (above : List Placed) (source target : Place
             (λ s none. refl) refl serving.loose serving.loose in
             record {
               moments = over.moments;
-              serving = serving_on new u next target m.marks (ShowsFile target) now kept_as.moments geometry leaf_now merge_now items kept_as.holds refl under_old.written (λ s there. there)
+              serving = serving_on new u next target m.marks (ShowsFile target) now kept_as.moments geometry none_now leaf_now merge_now items kept_as.holds refl under_old.written (λ s there. there)
                   (over.served (layers_are_kept next now target kept_as.holds).shows) serving.loose (under_by new next target u leaf_now items parts_are refl refl refl under_old under_old.under_way) all_written over.moments;
             }
 
       -- ---- a commit of the target
 
-      pub target_settled : (new : Layers) (u : Underway) (next : Layer) (now : Trace) → new.geometry ≡ layers.geometry → new.leaf ≡ Some leaf → layers.merge ≡ Some u → new.merge ≡ Some u → new.below.items ≡ a ++ Session next ∷ b
+      pub target_settled : (new : Layers) (u : Underway) (next : Layer) (now : Trace) → new.geometry ≡ layers.geometry → new.retiring ≡ None → new.leaf ≡ Some leaf → layers.merge ≡ Some u → new.merge ≡ Some u → new.below.items ≡ a ++ Session next ∷ b
           → next.tables.parts ≡ l.tables.parts → AreWritten v.writes new.below.items → IsPhase target.number (ShowsFile target) trace now → Serves next now (settled target)
           → EachOpensNow here trace now × IsServing new (record v { top = top; rest = merging above source (settled target) below m }) now
-      target_settled new u next now geometry leaf_now merge merge_now items parts_are all_written phase serves =
+      target_settled new u next now geometry none_now leaf_now merge merge_now items parts_are all_written phase serves =
           let after : Placed = settled target in
           let tight : LooseInMerge (dirty_now here) (top ∷ above) source after below = record { others = serving.loose.others; owned = λ s none. refl } in
           let under : IsUnder (sector_of here) v.writes layers u top above source target m = subst (λ o. IsCourse (sector_of here) v.writes layers o top (merging above source target below m)) merge serving.course in
@@ -390,6 +391,6 @@ module _ (v : State) (top : Placed) (above : List Placed) (source target : Place
           target_goes_over (sector_of here) v.opening v.history v.leaf (dirty_now here) v.retired (top ∷ above) source target after below trace now serving.once serving.served (goes_over target after trace now refl refl phase)
           (λ s none. refl) refl serving.loose tight in (
             over.moments,
-            serving_on new u next after m.marks (ShowsFile target) now phase geometry leaf_now merge_now items serves refl under.written (λ s there. there)
+            serving_on new u next after m.marks (ShowsFile target) now phase geometry none_now leaf_now merge_now items serves refl under.written (λ s there. there)
                 (over.served (layers_are_kept next now after serves).shows) tight (under_by new next after u leaf_now items parts_are refl refl refl under under.under_way) all_written over.moments,
           )

@@ -27,7 +27,7 @@ use Rattle.layer_session.proofs.Standing.{layers_stand}
 use Rattle.chain_core.specs.declared.layers.Layers.{Layers}
 use Rattle.chain_core.specs.declared.layers.Underway.{Underway}
 use Rattle.chain_core.specs.Answering.{EachOpensNow}
-use Rattle.chain_core.specs.States.{AreHeld, AreWritten, IsCourse, IsServing, IsUnder, Merging, Relinks, State, dirty_now, is_session, merging, plain, seen_in, WasSynced}
+use Rattle.chain_core.specs.States.{AreHeld, AreWritten, IsCourse, IsRetiring, IsServing, IsUnder, Merging, Relinks, State, dirty_now, is_session, merging, plain, seen_in, WasSynced}
 use Rattle.chain_core.proofs.Putting.{apart_around, have_all, have_parts}
 use Rattle.chain_core.proofs.Steps.{all_right, names_behind, phase_beside, phase_others, still_once, still_read}
 
@@ -137,12 +137,12 @@ module _ (v : State) (a : List Placed) (child source target : Placed) (below : L
 -- The leaf goes over to the relinked one, and the source leaves.
 pub leaf_relinked : (v : State) (top source target : Placed) (below : List Placed) (m : Merging) (layers new : Layers) (u : Underway) (leaf next : Layer) (x : FileLayer) (rest : List FileLayer) (trace now : Trace)
     → (serving : IsServing layers (record v { top = top; rest = merging [] source target below m }) trace) → layers.leaf ≡ Some leaf → layers.merge ≡ Some u → layers.below.items ≡ x ∷ rest
-    → new.geometry ≡ layers.geometry → new.leaf ≡ Some next → new.merge ≡ None → new.below.items ≡ rest
+    → new.geometry ≡ layers.geometry → new.leaf ≡ Some next → new.merge ≡ None → new.retiring ≡ None → new.below.items ≡ rest
     → ((s : ℕ) → target.is_loose s ≡ false) → 0 < per_stripe top.member.ties.geometry.sector → AllMarked (stripe_count top.member.ties.geometry.sector top.member.ties.geometry.sectors) m.marks
     → (table_len : ℕ) (r : Relinks table_len u.relink top target) → GoesOver top (relinked_child table_len u.relink top target r) trace now → Serves next now (relinked_child table_len u.relink top target r)
     → EachOpensNow (record v { top = top; rest = merging [] source target below m }) trace now
     × IsServing new (record v { top = relinked_child table_len u.relink top target r; rest = plain (target ∷ below) }) now
-leaf_relinked v top source target below m layers new u leaf next x rest trace now serving is merge was geometry leaf_now no_merge items tight pos marked table_len r over serves =
+leaf_relinked v top source target below m layers new u leaf next x rest trace now serving is merge was geometry leaf_now no_merge none_now items tight pos marked table_len r over serves =
     let z : ℕ = top.member.ties.geometry.sector in
     let here : State = record v { top = top; rest = merging [] source target below m } in
     let after : Placed = relinked_child table_len u.relink top target r in
@@ -165,6 +165,7 @@ leaf_relinked v top source target below m layers new u leaf next x rest trace no
       served = on.served (layers_are_kept next now after serves).shows;
       loose = loose_then v [] top source target below trace now z (dirty_now here) serving.once serving.served loose table_len u.relink r over all;
       course = subst (λ o. IsCourse z v.writes new o after (plain (target ∷ below))) (sym no_merge) tt;
+      leaving = subst (λ o. IsRetiring z v.writes v.history new o after (plain (target ∷ below))) (sym none_now) tt;
       held = subst (λ o. AreHeld o new.below.items now after (target ∷ below)) (sym leaf_now) (serves, subst (λ (c : List FileLayer). HaveFiles c now (target ∷ below)) (sym items) stand);
       whole = λ s inside. whole_without [] top after source target below s refl (λ bytes owned. all s bytes inside owned) (serving.whole s inside);
       synced = (serving.synced.0, serving.synced.1.1);
@@ -179,13 +180,13 @@ leaf_relinked v top source target below m layers new u leaf next x rest trace no
 -- It goes over to the relinked one, and the source leaves.
 pub child_relinked : (v : State) (top : Placed) (pre : List Placed) (child source target : Placed) (below : List Placed) (m : Merging) (layers new : Layers) (u : Underway) (leaf : Layer) (p : List FileLayer) (l next : Layer) (x : FileLayer) (rest : List FileLayer) (trace now : Trace)
     → (serving : IsServing layers (record v { top = top; rest = merging (pre ++ child ∷ []) source target below m }) trace) → layers.leaf ≡ Some leaf → layers.merge ≡ Some u → layers.below.items ≡ p ++ Session l ∷ x ∷ rest → length p ≡ length pre
-    → new.geometry ≡ layers.geometry → new.leaf ≡ Some leaf → new.merge ≡ None → new.below.items ≡ p ++ Session next ∷ rest
+    → new.geometry ≡ layers.geometry → new.leaf ≡ Some leaf → new.merge ≡ None → new.retiring ≡ None → new.below.items ≡ p ++ Session next ∷ rest
     → ((s : ℕ) → target.is_loose s ≡ false) → 0 < per_stripe top.member.ties.geometry.sector → AllMarked (stripe_count top.member.ties.geometry.sector top.member.ties.geometry.sectors) m.marks
     → (table_len : ℕ) (r : Relinks table_len u.relink child target) → v.writes child.number ≡ true → GoesOver child (relinked_child table_len u.relink child target r) trace now
     → Serves next now (relinked_child table_len u.relink child target r)
     → EachOpensNow (record v { top = top; rest = merging (pre ++ child ∷ []) source target below m }) trace now
     × IsServing new (record v { top = top; rest = plain (pre ++ relinked_child table_len u.relink child target r ∷ target ∷ below) }) now
-child_relinked v top pre child source target below m layers new u leaf p l next x rest trace now serving is merge was place geometry leaf_now no_merge items tight pos marked table_len r child_written over serves =
+child_relinked v top pre child source target below m layers new u leaf p l next x rest trace now serving is merge was place geometry leaf_now no_merge none_now items tight pos marked table_len r child_written over serves =
     let z : ℕ = top.member.ties.geometry.sector in
     let here : State = record v { top = top; rest = merging (pre ++ child ∷ []) source target below m } in
     let after : Placed = relinked_child table_len u.relink child target r in
@@ -220,6 +221,7 @@ child_relinked v top pre child source target below m layers new u leaf p l next 
       served = on.served (layers_are_kept next now after serves).shows;
       loose = loose_then v (top ∷ pre) child source target below trace now z (dirty_now here) serving.once served loose table_len u.relink r over all;
       course = subst (λ o. IsCourse z v.writes new o top (plain (pre ++ after ∷ target ∷ below))) (sym no_merge) tt;
+      leaving = subst (λ o. IsRetiring z v.writes v.history new o top (plain (pre ++ after ∷ target ∷ below))) (sym none_now) tt;
       held = subst (λ o. AreHeld o new.below.items now top (pre ++ after ∷ target ∷ below)) (sym leaf_now) (top_stands, subst (λ (c : List FileLayer). HaveFiles c now (pre ++ after ∷ target ∷ below)) (sym items) stand);
       whole = λ s inside. whole_without (top ∷ pre) child after source target below s refl (λ bytes owned. all s bytes inside owned)
           (subst (λ (c : List Placed). is_some (seen_in (top ∷ c) s) ≡ true) e (serving.whole s inside));

@@ -15,7 +15,7 @@ use Rattle.layer_session.specs.declared.file_layer.FileLayer.TheVariants.{Sessio
 use Rattle.layer_session.proofs.FileLayers.{file_layers_stand, others_stand}
 use Rattle.chain_core.specs.declared.layers.Layers.{Layers}
 use Rattle.chain_core.specs.declared.layers.Underway.{Underway}
-use Rattle.chain_core.specs.Sessions.{AreApart, AreReady, CanRelink, IsLow, IsMergeOf, IsReadyLeaf, is_session_at}
+use Rattle.chain_core.specs.Sessions.{AreApart, AreReady, AtMostOne, CanRelink, CanRetire, IsLow, IsMergeOf, IsReadyLeaf, IsRetiringOf, is_session_at}
 use Rattle.chain_core.specs.States.{AreWritten}
 use Rattle.chain_core.proofs.Places.{merge_of, one_of}
 use Rattle.chain_core.proofs.Turning.{KeepsTies, all_but_one, relink_still, top_beside, turn_kept}
@@ -105,7 +105,7 @@ parts_of layers disk ready = record { leaf = ready.leaf; below = ready.below; ap
 -- the leaf's number is another than that of a file below it
 pub top_apart : (g : Geometry) (top : Option Layer) (a b : List FileLayer) (x : FileLayer) (disk : Disk) → IfSome top (IsReadyLeaf g (a ++ x ∷ b) disk) → IfSome top (λ l. own_file l ≢ number_of x)
 top_apart g None a b x disk leaf = tt
-top_apart g (Some l) a b x disk leaf = λ e. one_of (λ k. number_of k ≢ 0) a x b leaf.apart (sym e ∙ leaf.number)
+top_apart g (Some l) a b x disk leaf = λ e. one_of (λ k. number_of k ≢ own_file l) a x b leaf.apart (sym e)
 
 -- one of the others is replaced
 module _ (g : Geometry) (top : Option Layer) (a b : List FileLayer) (l next : Layer) (before after : Disk) (parts_are : next.tables.parts ≡ l.tables.parts) (parts : AreParts g top (a ++ Session l ∷ b) before)
@@ -117,10 +117,9 @@ module _ (g : Geometry) (top : Option Layer) (a b : List FileLayer) (l next : La
   leaf_then None leaf ne = tt
   leaf_then (Some k) leaf ne = record {
     ready = file_layers_stand.ready (Session k) before after leaf.ready files (both_at (LeavesOthers (own_file l)) (IsBeside (own_file k)) before.told after.told others (λ t u x y h. h.others (own_file k) ne));
-    number = leaf.number;
     sector = leaf.sector;
     sectors = leaf.sectors;
-    apart = others_at l next parts_are 0 a b leaf.apart;
+    apart = others_at l next parts_are (own_file k) a b leaf.apart;
   }
 
   pub parts_then : AreParts g top (a ++ Session next ∷ b) after
@@ -139,14 +138,13 @@ module _ (g : Geometry) (top : Option Layer) (a b : List FileLayer) (l next : La
 pub leaf_parts_then : (g : Geometry) (leaf next : Layer) (below : List FileLayer) (before after : Disk) → next.tables.parts ≡ leaf.tables.parts → AreParts g (Some leaf) below before
     → WhereBothTold (LeavesOthers (own_file leaf)) before.told after.told → after.files ≡ before.files → IsReady next after → AreParts g (Some next) below after
 leaf_parts_then g leaf next below before after parts_are parts others files is =
-    let apart : AreOthers (own_file leaf) below = subst (λ (n : ℕ). AreOthers n below) (sym parts.leaf.number) parts.leaf.apart in
+    let apart : AreOthers (own_file leaf) below = parts.leaf.apart in
     record {
       leaf = record {
         ready = is;
-        number = ap (λ (p : TableParts). p.file) parts_are ∙ parts.leaf.number;
         sector = ap (λ (p : TableParts). p.sector) parts_are ∙ parts.leaf.sector;
         sectors = ap (λ (p : TableParts). p.sectors) parts_are ∙ parts.leaf.sectors;
-        apart = parts.leaf.apart;
+        apart = subst (λ (n : ℕ). AreOthers n below) (sym (ap (λ (p : TableParts). p.file) parts_are)) parts.leaf.apart;
       };
       below = others_stand.ready (own_file leaf) g below before after parts.below apart files others;
       apart = parts.apart;
@@ -170,7 +168,7 @@ parts_without g top a x b disk parts = record { leaf = by_leaf top parts.leaf; b
   where
     by_leaf : (o : Option Layer) → IfSome o (IsReadyLeaf g (a ++ x ∷ b) disk) → IfSome o (IsReadyLeaf g (a ++ b) disk)
     by_leaf None leaf = tt
-    by_leaf (Some l) leaf = record { ready = leaf.ready; number = leaf.number; sector = leaf.sector; sectors = leaf.sectors; apart = all_but (λ k. number_of k ≢ 0) a x b leaf.apart }
+    by_leaf (Some l) leaf = record { ready = leaf.ready; sector = leaf.sector; sectors = leaf.sectors; apart = all_but (λ k. number_of k ≢ own_file l) a x b leaf.apart }
 
 -- ---- the session
 
@@ -205,7 +203,7 @@ module _ (old new : Layers) (u : Underway) (before after : Disk) (merge_is : old
         (subst (λ (o : Option Layer). AreParts new.geometry o (a ++ Session next ∷ b) after) (sym leaf_is)
         (subst (λ (k : Geometry). AreParts k old.leaf (a ++ Session next ∷ b) after) (sym geometry) (parts_then g old.leaf a b l next before after parts_are parts_was others files is)))
 
-    module _ (keeps : WhereBothTold (KeepsTies l next) before.told after.told) (w : Underway) (merge_now : new.merge ≡ Some w) (source_now : w.source ≡ u.source) (relink_now : w.relink ≡ u.relink) (stripes_now : w.marks.stripes ≡ u.marks.stripes) where
+    module _ (keeps : WhereBothTold (KeepsTies l next) before.told after.told) (w : Underway) (merge_now : new.merge ≡ Some w) (source_now : w.source ≡ u.source) (relink_now : w.relink ≡ u.relink) (stripes_now : w.marks.stripes ≡ u.marks.stripes) (none_now : new.retiring ≡ None) where
       merge_still : IsMergeOf g old.leaf (a ++ Session next ∷ b) w
       merge_still = record {
         session = merge.session;
@@ -233,6 +231,9 @@ module _ (old new : Layers) (u : Underway) (before after : Disk) (merge_is : old
         leaf = replaced_parts.leaf;
         below = replaced_parts.below;
         apart = replaced_parts.apart;
+        one = subst (λ o. AtMostOne o new.retiring) (sym merge_now) none_now;
+        retiring = subst (λ o. IfSome o (IsRetiringOf new.geometry new.leaf new.below.items)) (sym none_now) tt;
+        retires = subst (λ o. IfSome o (CanRetire new.leaf new.below.items after)) (sym none_now) tt;
         merge = subst (λ o. IfSome o (IsMergeOf new.geometry new.leaf new.below.items)) (sym merge_now)
             (subst (λ (c : List FileLayer). IsMergeOf new.geometry new.leaf c w) (sym now_is)
             (subst (λ (k : Geometry). IsMergeOf k new.leaf (a ++ Session next ∷ b) w) (sym geometry) (subst (λ o. IsMergeOf g o (a ++ Session next ∷ b) w) (sym leaf_is) merge_still)));

@@ -25,7 +25,9 @@ use Rattle.chain_core.specs.declared.layers.Layers.{Layers}
 use Rattle.chain_core.specs.declared.layers.Underway.{Underway}
 use Rattle.chain_core.specs.Laws.{SessionsAreHeld, changed_pages, waiting}
 use Rattle.chain_core.specs.Sessions.{AreApart}
-use Rattle.chain_core.specs.States.{AreHeld, AreWritten, IsCourse, IsLoose, Rest, State, files_of, merging, others_of, plain, sector_of, WasSynced}
+use Rattle.chain_core.specs.States.{AreHeld, AreWritten, IsCourse, IsLoose, IsRetiring, Rest, State, files_of, merging, others_of, plain, retiring, sector_of, WasSynced}
+use Rattle.chain_core.specs.declared.layers.Retiring.{Retiring}
+use Rattle.guest_model.specs.History.{History}
 use Rattle.chain_core.proofs.Steps.{all_right, apart, names_behind, numbers_apart}
 
 -- ---- one file
@@ -140,10 +142,14 @@ tight_with writes [] source target below written none =
     ((λ w s. (none s).0), ((λ w. absurd (let never : true ≡ false = sym written ∙ w in cc)), all_tight writes below (λ s. (none s).1)))
 tight_with writes (p ∷ above) source target below written none = ((λ w s. (none s).0), tight_with writes above source target below written (λ s. (none s).1))
 
-pub tight_others : (z : ℕ) (writes dirty : ℕ → Bool) (layers : Layers) (merge : Option Underway) (top : Placed) (rest : Rest) → IsCourse z writes layers merge top rest → IsLoose dirty top rest → AllByRecursion (IsTight writes) (others_of rest)
-tight_others z writes dirty layers merge top (plain others) course loose = all_tight writes others loose.1
-tight_others z writes dirty layers None top (merging above source target below m) course loose = absurd course
-tight_others z writes dirty layers (Some u) top (merging above source target below m) course loose = tight_with writes above source target below course.written loose.others.1
+pub tight_others : (z : ℕ) (writes dirty : ℕ → Bool) (h : History) (layers : Layers) (merge : Option Underway) (kept : Option Retiring) (top : Placed) (rest : Rest) → IsCourse z writes layers merge top rest → IsRetiring z writes h layers kept top rest
+    → IsLoose dirty top rest → AllByRecursion (IsTight writes) (others_of rest)
+tight_others z writes dirty h layers merge kept top (plain others) course leaving loose = all_tight writes others loose.1
+tight_others z writes dirty h layers merge None top (retiring target below first before) course leaving loose = absurd leaving
+tight_others z writes dirty h layers merge (Some r) top (retiring target below first before) course leaving loose =
+    ((λ w. absurd (let never : true ≡ false = sym leaving.written ∙ w in cc)), all_tight writes below loose.others.1)
+tight_others z writes dirty h layers None kept top (merging above source target below m) course leaving loose = absurd course
+tight_others z writes dirty h layers (Some u) kept top (merging above source target below m) course leaving loose = tight_with writes above source target below course.written loose.others.1
 
 -- ---- the files below the leaf
 
@@ -185,6 +191,6 @@ sessions_are_held layers leaf v trace is images none serving =
     let fits : AllByRecursion (Fits pages) below = all_behind_fit leaf (waiting below) below ne (all_fit below distinct) in
     let mine : pages (own_file leaf) ≡ leaf.tables.pending = ap (λ (b : Bool). cond b leaf.tables.pending (waiting below (own_file leaf))) (eq-eqb (own_file leaf) (own_file leaf) refl) in
     let rest = all_held v trace pages below others serving.once images serving.still held.1 kept.1 serving.synced.1 written.1
-    (tight_others (sector_of v) v.writes _ layers layers.merge v.top v.rest serving.course serving.loose) fits in
+    (tight_others (sector_of v) v.writes _ v.history layers layers.merge layers.retiring v.top v.rest serving.course serving.leaving serving.loose) fits in
     held_chains_open (sector_of v) v.opening v.history v.leaf v.retired (files_of v) trace pages serving.served
     (both_in trace pages v.retired (files_of v) (no_retired trace pages v.retired none) (served_is_held leaf trace pages v.top serving.once held.0 mine, rest))

@@ -16,11 +16,11 @@ spent_short (a ∷ []) name short = refl
 spent_short (a ∷ b ∷ []) name short = refl
 spent_short (a ∷ b ∷ c ∷ files) name short = absurd (omega arith)
 
-both_none : (o p : Option ℕ) → option_or o p ≡ None → (o ≡ None) × (p ≡ None)
+pub both_none : (o p : Option ℕ) → option_or o p ≡ None → (o ≡ None) × (p ≡ None)
 both_none None p h = (refl, h)
 both_none (Some n) p h = absurd (let never : ◌≡◌ {A = Option ℕ} (Some n) None = h in cc)
 
-low_of : (file : LinkedFile) → high_of file ≡ None → file.parts.header.number ≤ 2 ^ 64 - 2 ^ 32
+pub low_of : (file : LinkedFile) → high_of file ≡ None → file.parts.header.number ≤ 2 ^ 64 - 2 ^ 32
 low_of file h = by_test (nat_le file.parts.header.number (2 ^ 64 - 2 ^ 32)) refl h
   where
     by_test : (b : Bool) → nat_le file.parts.header.number (2 ^ 64 - 2 ^ 32) ≡ b → cond b None (Some file.parts.header.number) ≡ None → file.parts.header.number ≤ 2 ^ 64 - 2 ^ 32

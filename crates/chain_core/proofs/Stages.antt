@@ -49,6 +49,17 @@ serve_beside parts log n a b k can = record {
 
 -- ---- pages that give a file a locator
 
+-- the region that they lay is the one that they give
+pub laid_gives : (t0 : Trace) (n : ℕ) (parts : Parts) (ids : SessionIds) (pairs : List Pair) (pages : List Page) → parts.meta_at + parts.meta_len ≤ length (seen (file_of t0 n)) → (gives : GivesLocator parts (seen (file_of t0 n)) pairs pages)
+    → laid_region (as_found t0 n (in_session parts ids)) pages (seen (file_of t0 n)) ≡ gives.region
+unfolding bytes_at
+laid_gives t0 n parts ids pairs pages within gives =
+    let bytes = seen (file_of t0 n) in
+    let region : List ℕ = bytes_at bytes parts.meta_at parts.meta_len in
+    let long : length region ≡ parts.meta_len = length-part bytes parts.meta_at parts.meta_len within in
+    let turned_to : with_pages pages bytes ≡ with_region parts bytes gives.region = gives.turn bytes within refl in
+    ap (λ (z : List ℕ). bytes_at z parts.meta_at (length region)) turned_to ∙ ap (bytes_at (with_region parts bytes gives.region) parts.meta_at) (long ∙ sym gives.long) ∙ part-overwritten bytes gives.region parts.meta_at (length gives.region) (omega (arith, within)) refl
+
 -- They turn what a session serves that began on the file as it was found.
 pub gives_turn : (l : Layer) (t0 trace : Trace) (n : ℕ) (parts : Parts) (ids : SessionIds) (pairs : List Pair) (pages : List Page) → Serves l trace (as_found t0 n (in_session parts ids)) → l.tables.parts.bat_len ≡ parts.bat_len
     → parts.meta_at + parts.meta_len ≤ length (seen (file_of t0 n)) → ArePages parts pages → GivesLocator parts (seen (file_of t0 n)) pairs pages
@@ -60,9 +71,7 @@ gives_turn l t0 trace n parts ids pairs pages serves table within are gives =
     let bytes = seen (file_of t0 n) in
     let region : List ℕ = bytes_at bytes parts.meta_at parts.meta_len in
     let long : length region ≡ parts.meta_len = length-part bytes parts.meta_at parts.meta_len within in
-    let turned_to : with_pages pages bytes ≡ with_region parts bytes gives.region = gives.turn bytes within refl in
-    let laid : laid_region file pages bytes ≡ gives.region =
-    ap (λ (z : List ℕ). bytes_at z parts.meta_at (length region)) turned_to ∙ ap (bytes_at (with_region parts bytes gives.region) parts.meta_at) (long ∙ sym gives.long) ∙ part-overwritten bytes gives.region parts.meta_at (length gives.region) (omega (arith, within)) refl in
+    let laid : laid_region file pages bytes ≡ gives.region = laid_gives t0 n parts ids pairs pages within gives in
     pages_turn.locator l trace file pages bytes (locator_bytes pairs) serves
     (record {
       inside = λ k d b. (let p : IsPageIn parts.meta_at parts.meta_len (get_or pages k d) = are k d b in

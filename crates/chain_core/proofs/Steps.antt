@@ -1,6 +1,6 @@
 -- What the answer of the leaf's layer makes of a session.
-use Rattle.std.proofs.Common.{◌≡◌, ◌≢◌, ◌⊎◌, ℕ, Bool, true, false, cond, List, [], ◌∷◌, ◌++◌, map, refl, sym, ap, subst, ◌∙◌, arith, inl, ◌<◌, is_some, ◌==◌, ◌-◌, get_or}
-use Rattle.std.specs.Prelude.{Option, Some, None, Result, Ok, Err, IfSome, option_map, All}
+use Rattle.std.proofs.Common.{◌≡◌, ◌≢◌, ◌⊎◌, ℕ, Bool, true, false, cond, List, [], ◌∷◌, ◌++◌, map, refl, sym, ap, subst, ◌∙◌, arith, inl, ◌<◌, is_some, ◌==◌, ◌-◌, ◌+◌, ◌&&◌, get_or, length}
+use Rattle.std.specs.Prelude.{Option, Some, None, Result, Ok, Err, IfSome, option_map, not, All}
 use Rattle.std.specs.List.{AllByRecursion}
 use Rattle.std.specs.Option.{option_or}
 use Rattle.std.proofs.lemmas.Bool.{or_parts, or_from}
@@ -31,7 +31,19 @@ use Rattle.vhdx_format.specs.MetadataTables.{read_metadata}
 use Rattle.chain_core.specs.declared.layers.Underway.{Underway}
 use Rattle.layer_session.proofs.Crashes.{layers_are_kept}
 use Rattle.chain_core.specs.declared.layers.Layers.{Layers}
-use Rattle.chain_core.specs.States.{State, IsServing, LeavesOthers, AreHeld, seen_in, sector_of, disk_now, dirty_now, files_of, wide, made, others_of, AreWritten, IsCourse, Relinks, Rest, child_of, child_parts, merging, plain, IsLoose}
+use Rattle.chain_core.specs.States.{State, IsServing, LeavesOthers, AreHeld, seen_in, sector_of, disk_now, dirty_now, files_of, wide, made, others_of, AreWritten, IsCleared, IsCourse, IsNextPlace, IsRetiring, NextIn, Relinks, Renames, Rest, child_of, child_parts, merging, plain, retiring, target_parts, IsLoose}
+use Rattle.chain_core.specs.Copying.{LayerFollows, Touches}
+use Rattle.chain_core.specs.declared.layers.Retiring.{Retiring}
+use Rattle.vx_base.specs.declared.parts.Geometry.{Geometry}
+use Rattle.guest_model.specs.History.{History}
+use Rattle.chain_model.specs.Layers.{Layer as SectorLayer, with_call}
+use Rattle.chain_model.specs.Merges.{IsUnderWay, marks_after}
+use Rattle.chain_model.specs.Stripes.{stamp, stripe_count, stripe_of, touches}
+use Rattle.chain_model.proofs.Merging.{kept_by_call}
+use Rattle.chain_model.proofs.Stamping.{stamps_by_call}
+use Rattle.merge_core.specs.Copied.{marks_of}
+use Rattle.merge_core.specs.Stamping.{stamps_of}
+use Rattle.std.proofs.Math.Bool.{and-true}
 use Rattle.chain_core.specs.Answering.{IsDone, IsRefused, HasBroken, LayerAnswers, EachOpensNow}
 use Rattle.layer_session.proofs.FileLayers.{file_layers_stand}
 use Rattle.chain_core.proofs.Rests.{call_survives, leaf_survives, loose_after, opens_now, top_loose, new_top}
@@ -239,7 +251,9 @@ course_on z old new leaf next writes top after rest step metadata ties name numb
     by_rest : (o : Option Underway) (rest : Rest) → IsCourse z writes old o top rest → IsCourse z writes new o after rest
     by_rest None (plain others) is = tt
     by_rest None (merging above source target below m) is = absurd is
+    by_rest None (retiring target below first before) is = tt
     by_rest (Some u) (plain others) is = absurd is
+    by_rest (Some u) (retiring target below first before) is = absurd is
     by_rest (Some u) (merging above source target below m) is = record {
       place = is.place;
       written = is.written;
@@ -251,9 +265,108 @@ course_on z old new leaf next writes top after rest step metadata ties name numb
       under_way = is.under_way;
     }
 
+-- ---- the merge of the leaf
+
+-- a file that has the same metadata and ties
+pub renames_alike : (table_len : ℕ) (pages : List Page) (file other : Placed) (name : Option (List ℕ)) → other.metadata ≡ file.metadata → other.member.ties ≡ file.member.ties → Renames table_len pages file name → Renames table_len pages other name
+renames_alike table_len pages file other name metadata ties r = record {
+  region = r.region;
+  into = record {
+    inside = subst (λ m. All (IsInRegion m) pages) (sym metadata) r.into.inside;
+    region_is = r.into.region_is ∙ ap (λ m. region_with m pages) (sym metadata);
+    reads = subst (λ (x : RegionBytes). (m : Metadata) → read_metadata x.bytes table_len ≡ Ok m → read_metadata r.region table_len ≡ Ok (record m { locator = other.member.ties.locator; retired = name })) (sym metadata)
+        (subst (λ (t : Ties). (m : Metadata) → read_metadata file.metadata.bytes table_len ≡ Ok m → read_metadata r.region table_len ≡ Ok (record m { locator = t.locator; retired = name })) (sym ties) r.into.reads);
+    ties_are = refl;
+  };
+}
+
+pub cleared_alike : (table_len : ℕ) (pages : Option (List Page)) (file other : Placed) → other.metadata ≡ file.metadata → other.member.ties ≡ file.member.ties → IsCleared table_len pages file → IsCleared table_len pages other
+cleared_alike table_len None file other metadata ties is = ap (λ (t : Ties). t.retired) ties ∙ is
+cleared_alike table_len (Some pages) file other metadata ties is = renames_alike table_len pages file other None metadata ties is
+
+leaf_parts_on : (old new : Layers) (leaf next : Layer) → LeafStep old new leaf next → option_map (λ (l : Layer). l.tables.parts) new.leaf ≡ option_map (λ (l : Layer). l.tables.parts) old.leaf
+leaf_parts_on old new leaf next step =
+    ap (option_map (λ (l : Layer). l.tables.parts)) step.now ∙ ap Some step.parts ∙ sym (ap (option_map (λ (l : Layer). l.tables.parts)) step.was)
+
+-- it goes on while the leaf's layer is called, and neither the leaf nor what is kept of the merge is another
+pub leaving_on : (z : ℕ) (h : History) (old new : Layers) (leaf next : Layer) (writes : ℕ → Bool) (top after : Placed) (rest : Rest) → LeafStep old new leaf next → new.retiring ≡ old.retiring
+    → after.metadata ≡ top.metadata → after.member.ties ≡ top.member.ties → after.member.layer ≡ top.member.layer → IsRetiring z writes h old old.retiring top rest → IsRetiring z writes h new new.retiring after rest
+leaving_on z h old new leaf next writes top after rest step same metadata ties layer is = subst (λ o. IsRetiring z writes h new o after rest) (sym same) (by_rest old.retiring rest is)
+  where
+    by_rest : (o : Option Retiring) (rest : Rest) → IsRetiring z writes h old o top rest → IsRetiring z writes h new o after rest
+    by_rest None (plain others) is = tt
+    by_rest None (merging above source target below m) is = tt
+    by_rest None (retiring target below first before) is = absurd is
+    by_rest (Some r) (plain others) is = absurd is
+    by_rest (Some r) (merging above source target below m) is = absurd is
+    by_rest (Some r) (retiring target below first before) is = record {
+      some = is.some;
+      written = is.written;
+      parts = is.parts;
+      goes_by = leaf_parts_on old new leaf next step ∙ is.goes_by;
+      retires = renames_alike is.parts.bat_len r.retire top after (Some target.member.name) metadata ties is.retires;
+      lower = is.lower;
+      lower_goes_by = ap (λ b. target_parts b.items) step.below ∙ is.lower_goes_by;
+      clears = is.clears;
+      each = is.each ∙ ap (λ (t : Ties). stripe_count z t.geometry.sectors) (sym ties);
+      stamps = λ t there. is.stamps t (subst (λ (k : Ties). t < stripe_count z k.geometry.sectors) ties there);
+      under_way = subst (λ (l : SectorLayer). IsUnderWay z first before h (marks_of r.marks) l target.member.layer) (sym layer) is.under_way;
+    }
+
+-- a merge stays under way where no stripe is marked that wasn't
+pub fewer_marks : (z : ℕ) (first before : SectorLayer) (h : History) (marks more : ℕ → Bool) (source target : SectorLayer) → ((t : ℕ) → marks t ≡ true → more t ≡ true) → IsUnderWay z first before h more source target → IsUnderWay z first before h marks source target
+fewer_marks z first before h marks more source target fewer is = record { source_is = is.source_is; rest_stays = is.rest_stays; marked_is_copied = λ s bytes marked own. is.marked_is_copied s bytes (fewer (stripe_of z s) marked) own }
+
+stamp_chosen : (b c : Bool) (n m k : ℕ) → b ≡ c → n ≡ m → cond b n k ≡ cond c m k
+stamp_chosen b c n m k e f = ap (λ (b : Bool). cond b n k) e ∙ ap (λ (n : ℕ). cond c n k) f
+
+-- behind a call on the leaf
+pub leaving_made : (z place : ℕ) (h : History) (e : Entry) (old new : Layers) (leaf next : Layer) (writes : ℕ → Bool) (top : Placed) (rest : Rest) → LeafStep old new leaf next → Touches z e.call place old.retiring new.retiring
+    → NextIn rest (place ≡ length h + 1) → IsRetiring z writes h old old.retiring top rest → IsRetiring z writes (h ++ e ∷ []) new new.retiring (made z e.call top) rest
+leaving_made z place h e old new leaf next writes top rest step touched next_is is = by_rest old.retiring new.retiring rest touched next_is is
+  where
+    by_rest : (o p : Option Retiring) (rest : Rest) → Touches z e.call place o p → NextIn rest (place ≡ length h + 1) → IsRetiring z writes h old o top rest → IsRetiring z writes (h ++ e ∷ []) new p (made z e.call top) rest
+    by_rest None None (plain others) touched next_is is = tt
+    by_rest None None (merging above source target below m) touched next_is is = tt
+    by_rest None None (retiring target below first before) touched next_is is = absurd is
+    by_rest None (Some k) rest touched next_is is = absurd touched
+    by_rest (Some r) None rest touched next_is is = absurd touched
+    by_rest (Some r) (Some k) (plain others) touched next_is is = absurd is
+    by_rest (Some r) (Some k) (merging above source target below m) touched next_is is = absurd is
+    by_rest (Some r) (Some k) (retiring target below first before) touched next_is is = record {
+      some = is.some;
+      written = is.written;
+      parts = is.parts;
+      goes_by = leaf_parts_on old new leaf next step ∙ is.goes_by;
+      retires = renames_alike is.parts.bat_len k.retire top (made z e.call top) (Some target.member.name) refl refl
+          (subst (λ (pages : List Page). Renames is.parts.bat_len pages top (Some target.member.name)) (sym (ap (λ (r : Retiring). r.retire) touched.rest)) is.retires);
+      lower = is.lower;
+      lower_goes_by = ap (λ b. target_parts b.items) step.below ∙ is.lower_goes_by;
+      clears = subst (λ (pages : Option (List Page)). IsCleared is.lower.bat_len pages target) (sym (ap (λ (r : Retiring). r.clear) touched.rest)) is.clears;
+      each = touched.stripes ∙ is.each;
+      stamps = λ t there. touched.stamps_are t (subst (λ (n : ℕ). t < n) (sym is.each) there)
+          ∙ ap (λ (n : ℕ). cond (touches z e.call t) place n) (is.stamps t there) ∙ stamp_chosen (touches z e.call t) (touches z e.call t) place (length h + 1) (stamp z h t) refl next_is ∙ sym (stamps_by_call.more z h e t);
+      under_way = fewer_marks z first before (h ++ e ∷ []) (marks_of k.marks) (marks_after z e.call (marks_of r.marks)) (with_call z e.call top.member.layer) target.member.layer
+          (λ t marked. sym (touched.marks_are t) ∙ marked) (kept_by_call z first before h e (marks_of r.marks) top.member.layer (with_call z e.call top.member.layer) target.member.layer is.some (λ s. refl) is.under_way);
+    }
+
+-- what a call that changes nothing makes of it
+pub touches_none : (z place : ℕ) (call : Call) (o p : Option Retiring) → ((t : ℕ) → touches z call t ≡ false) → p ≡ o → Touches z call place o p
+touches_none z place call o p none same = subst (λ (k : Option Retiring). Touches z call place o k) (sym same) (itself o)
+  where
+    itself : (o : Option Retiring) → Touches z call place o o
+    itself None = tt
+    itself (Some r) = record {
+      rest = refl;
+      stripes = refl;
+      words = refl;
+      marks_are = λ t. sym (ap (λ b. marks_of r.marks t && not b) (none t) ∙ and-true (marks_of r.marks t));
+      stamps_are = λ t there. sym (ap (λ (b : Bool). cond b place (stamps_of r.stamps t)) (none t));
+    }
+
 -- the call was done
-pub done : (e : Entry) (v : State) (old new : Layers) (leaf next : Layer) (trace now : Trace) → LeafStep old new leaf next → IsServing old v trace → IsMade (sector_of v) e.call v.top next trace now → IsDone e v new trace now
-done e v old new leaf next trace now step serving is =
+pub done : (e : Entry) (v : State) (old new : Layers) (leaf next : Layer) (trace now : Trace) → LeafStep old new leaf next → IsRetiring (sector_of v) v.writes (v.history ++ e ∷ []) new new.retiring (made (sector_of v) e.call v.top) v.rest → IsServing old v trace → IsMade (sector_of v) e.call v.top next trace now → IsDone e v new trace now
+done e v old new leaf next trace now step leaving serving is =
     let z = sector_of v in
     let call = survives e v old trace now serving is.moments in
     record {
@@ -262,8 +375,9 @@ done e v old new leaf next trace now step serving is =
         once = still_once v.top.number (ShowsFile (wide z e.call v.top)) trace now is.moments serving.once;
         geometry = step.geometry ∙ serving.geometry;
         served = call.served (layers_are_kept next now (made z e.call v.top) is.holds).shows;
-        loose = loose_after z v.history e v.top (made z e.call v.top) v.rest (leaves_loose z e v.top) serving.loose;
+        loose = loose_after z v.history e v.top (made z e.call v.top) v.rest (leaves_loose z e v.top) (λ s. refl) serving.loose;
         course = course_on z old new leaf next v.writes v.top (made z e.call v.top) v.rest step refl refl refl refl serving.course;
+        leaving = leaving;
         held = held_by old new leaf next v (made z e.call v.top) (ShowsFile (wide z e.call v.top)) trace now step serving is.moments is.holds;
         whole = whole_on z e.call v.top (others_of v.rest) serving.whole;
         synced = serving.synced;
@@ -274,8 +388,8 @@ done e v old new leaf next trace now step serving is =
     }
 
 -- the call was refused
-pub as_before : (v : State) (old new : Layers) (leaf next : Layer) (trace now : Trace) → LeafStep old new leaf next → IsServing old v trace → IsAsBefore v.top next trace now → IsRefused v new trace now
-as_before v old new leaf next trace now step serving is =
+pub as_before : (v : State) (old new : Layers) (leaf next : Layer) (trace now : Trace) → LeafStep old new leaf next → new.retiring ≡ old.retiring → IsServing old v trace → IsAsBefore v.top next trace now → IsRefused v new trace now
+as_before v old new leaf next trace now step same serving is =
     let z = sector_of v in
     let over = leaf_survives z v.opening v.history v.leaf (dirty_now v) v.retired v.top v.top v.rest trace now serving.once serving.served (goes_over v.top v.top trace now refl refl is.moments)
     (λ s. refl) refl serving.loose serving.loose in
@@ -287,6 +401,7 @@ as_before v old new leaf next trace now step serving is =
         served = over.served (layers_are_kept next now v.top is.holds).shows;
         loose = serving.loose;
         course = course_on z old new leaf next v.writes v.top v.top v.rest step refl refl refl refl serving.course;
+        leaving = leaving_on z v.history old new leaf next v.writes v.top v.top v.rest step same refl refl refl serving.leaving;
         held = held_by old new leaf next v v.top (ShowsFile v.top) trace now step serving is.moments is.holds;
         whole = serving.whole;
         synced = serving.synced;
@@ -297,12 +412,12 @@ as_before v old new leaf next trace now step serving is =
     }
 
 -- the leaf was committed, and no call was made
-pub leaf_settled : (v : State) (old new : Layers) (leaf next : Layer) (trace now : Trace) → LeafStep old new leaf next → IsServing old v trace → IsPhase v.top.number (ShowsFile v.top) trace now → Serves next now (settled v.top)
+pub leaf_settled : (v : State) (old new : Layers) (leaf next : Layer) (trace now : Trace) → LeafStep old new leaf next → new.retiring ≡ old.retiring → IsServing old v trace → IsPhase v.top.number (ShowsFile v.top) trace now → Serves next now (settled v.top)
     → EachOpensNow v trace now × IsServing new (record v { top = settled v.top }) now
-leaf_settled v old new leaf next trace now step serving phase serves =
+leaf_settled v old new leaf next trace now step same serving phase serves =
     let z = sector_of v in
     let after : Placed = settled v.top in
-    let tight : IsLoose (dirty_now v) after v.rest = new_top (dirty_now v) (dirty_now v) v.top after v.rest serving.loose (λ s clean. refl) in
+    let tight : IsLoose (dirty_now v) after v.rest = new_top (dirty_now v) (dirty_now v) v.top after v.rest refl serving.loose (λ s clean. refl) in
     let over = leaf_survives z v.opening v.history v.leaf (dirty_now v) v.retired v.top after v.rest trace now serving.once serving.served (goes_over v.top after trace now refl refl phase)
     (λ s. refl) refl serving.loose tight in
     let served : IsServing new (record v { top = after }) now = record {
@@ -311,6 +426,7 @@ leaf_settled v old new leaf next trace now step serving phase serves =
       served = over.served (layers_are_kept next now after serves).shows;
       loose = tight;
       course = course_on z old new leaf next v.writes v.top after v.rest step refl refl refl refl serving.course;
+      leaving = leaving_on z v.history old new leaf next v.writes v.top after v.rest step same refl refl refl serving.leaving;
       held = held_by old new leaf next v after (ShowsFile v.top) trace now step serving phase serves;
       whole = serving.whole;
       synced = serving.synced;
@@ -339,9 +455,13 @@ at_rest v layers trace serving = record {
 }
 
 -- so the layers answer
-pub concluded : (e : Entry) (v : State) (old new : Layers) (leaf next : Layer) (trace now : Trace) (answer : Result (Unit {0}) LayerFault)
-    → LeafStep old new leaf next → IsServing old v trace → AnswersCall (sector_of v) e.call v.top next trace now answer → LayerAnswers e v new trace now answer
-concluded e v old new leaf next trace now (Ok t) step serving is = done e v old new leaf next trace now step serving is
-concluded e v old new leaf next trace now (Err (Read fault)) step serving is = as_before v old new leaf next trace now step serving is
-concluded e v old new leaf next trace now (Err (FileFull n)) step serving is = as_before v old new leaf next trace now step serving is
-concluded e v old new leaf next trace now (Err (Write fault)) step serving is = failed e v old trace now serving (still_others v old leaf (ShowsFile (wide (sector_of v) e.call v.top)) trace now step.was serving is.moments) is
+pub concluded : (place : ℕ) (e : Entry) (v : State) (old new : Layers) (leaf next : Layer) (trace now : Trace) (answer : Result (Unit {0}) LayerFault)
+    → LeafStep old new leaf next → LayerFollows place e.call old new answer → IsServing old v trace → IsNextPlace place v → AnswersCall (sector_of v) e.call v.top next trace now answer → LayerAnswers e v new trace now answer
+concluded place e v old new leaf next trace now (Ok t) step follows serving next_is is =
+    let z = sector_of v in
+    let touched = subst (λ (n : ℕ). Touches n e.call place old.retiring new.retiring) (ap (λ (g : Geometry). g.sector) serving.geometry) follows.1 in
+    done e v old new leaf next trace now step (leaving_made z place v.history e old new leaf next v.writes v.top v.rest step touched next_is serving.leaving) serving is
+concluded place e v old new leaf next trace now (Err (Read fault)) step follows serving next_is is = as_before v old new leaf next trace now step follows.1 serving is
+concluded place e v old new leaf next trace now (Err (FileFull n)) step follows serving next_is is = as_before v old new leaf next trace now step follows.1 serving is
+concluded place e v old new leaf next trace now (Err (Write fault)) step follows serving next_is is =
+    failed e v old trace now serving (still_others v old leaf (ShowsFile (wide (sector_of v) e.call v.top)) trace now step.was serving is.moments) is

@@ -25,12 +25,13 @@ use Rattle.merge_core.specs.Pieces.{HasPutPiece, PutsPiece, has_sector, piece_of
 use Rattle.merge_core.specs.declared.piece.Piece.{Piece as KeptPiece}
 use Rattle.chain_core.specs.declared.layers.Layers.{Layers}
 use Rattle.chain_core.specs.declared.layers.Underway.{Underway}
+use Rattle.chain_core.specs.declared.layers.Retiring.{Retiring}
 use Rattle.chain_core.specs.Answering.{UnlessBroken}
-use Rattle.chain_core.specs.Copying.{HasMarked, IsMarked, MarksIn, PutRoomIs, PutTold, PutsAt, number_below, session_below, session_in, target_layer, target_number}
+use Rattle.chain_core.specs.Copying.{HasMarked, IsMarked, stamp_in, stamp_of, MarksIn, MarksToo, PutRoomIs, PutTold, PutsAt, number_below, session_below, session_in, target_layer, target_number}
 use Rattle.chain_core.specs.Merging.{IsTruePiece, PutAnswers}
 use Rattle.chain_core.specs.Sessions.{AreReady, IsLow, IsMergeOf}
-use Rattle.chain_core.specs.States.{AreWritten, IsCourse, IsServing, IsUnder, Rest, State, merging, plain, sector_of}
-use Rattle.chain_core.proofs.Places.{merge_of, some_leaf}
+use Rattle.chain_core.specs.States.{AreWritten, IsCourse, IsServing, IsUnder, Rest, State, merging, plain, retiring, sector_of}
+use Rattle.chain_core.proofs.Places.{alone, merge_of, some_leaf}
 use Rattle.chain_core.proofs.Putting.{copied, put_failed, put_refused, serves_target}
 use Rattle.chain_core.proofs.Standing.{same_files}
 use Rattle.chain_core.proofs.Replaced.{both_at, index_at, replaced_low, replaced_own, replaced_ready, written_at}
@@ -43,6 +44,11 @@ marked_some stripe u None p is m = cc
 marked_some stripe u (Some w) None is m = absurd m
 marked_some stripe u (Some w) (Some made) is m = (made, (refl, subst (λ (k : Underway). IsMarked (with_mark stripe (marks_of k.marks)) k made) (let same : w ≡ u = cc in same) m))
 
+still_none : (stripe : ℕ) (o p : Option Retiring) → o ≡ None → MarksToo stripe o p → p ≡ None
+still_none stripe None None none m = refl
+still_none stripe None (Some w) none m = absurd m
+still_none stripe (Some r) p none m = absurd (let never : ◌≡◌ {A = Option Retiring} (Some r) None = none in cc)
+
 module _ (old new : Layers) (u : Underway) (piece : KeptPiece) (before after : Disk) (merge_is : old.merge ≡ Some u) (ready : AreReady old before) (geometry : new.geometry ≡ old.geometry) (leaf_is : new.leaf ≡ old.leaf) where
   abbrev merge : IsMergeOf old.geometry old.leaf old.below.items u
   merge = merge_of old u before merge_is ready
@@ -52,6 +58,8 @@ module _ (old new : Layers) (u : Underway) (piece : KeptPiece) (before after : D
     answers_put : piece.stamp ≡ 0 → (x y : Trace) (r : Result (Unit {0}) LayerFault) → PutsPiece l piece x y → OnOk r (HasPutPiece l next piece x y) → OnRefused r (HasKept l next x y) → OnRefused r (KeepsOver l x y) → HasMarked piece.stripe old new r
         → (v : State) (rest : Rest) → IsServing old (record v { rest = rest }) x → IsTruePiece (record v { rest = rest }) (piece_of piece) → PutAnswers (piece_of piece) (record v { rest = rest }) new x y r
     answers_put stamp x y r moments put kept quiet marked v (plain others) serving true_piece = absurd (let never : IsCourse (sector_of v) v.writes old (Some u) v.top (plain others) = subst (λ o. IsCourse (sector_of v) v.writes old o v.top (plain others)) merge_is serving.course in never)
+    answers_put stamp x y r moments put kept quiet marked v (retiring target below first before') serving true_piece =
+        absurd (let never : IsCourse (sector_of v) v.writes old (Some u) v.top (retiring target below first before') = subst (λ o. IsCourse (sector_of v) v.writes old o v.top (retiring target below first before')) merge_is serving.course in never)
     answers_put stamp x y r moments put kept quiet marked v (merging above source target below m) serving true_piece = by_answer r put kept quiet marked
       where
         here : State
@@ -65,6 +73,9 @@ module _ (old new : Layers) (u : Underway) (piece : KeptPiece) (before after : D
 
         leaf : Layer
         leaf = the_leaf.0
+
+        none_was : old.retiring ≡ None
+        none_was = alone old u before merge_is ready
 
         at : length a ≡ length above + 1
         at = place ∙ ap (λ n. n + 1) under.place
@@ -82,17 +93,17 @@ module _ (old new : Layers) (u : Underway) (piece : KeptPiece) (before after : D
 
         by_answer : (r : Result (Unit {0}) LayerFault) → OnOk r (HasPutPiece l next piece x y) → OnRefused r (HasKept l next x y) → OnRefused r (KeepsOver l x y) → HasMarked piece.stripe old new r → PutAnswers (piece_of piece) here new x y r
         by_answer (Ok done) put kept quiet marked =
-            let made = marked_some piece.stripe u old.merge new.merge merge_is marked in
-            copied v v.top above source target below m old leaf x serving the_leaf.1 a l b was at new u made.0 next (piece_of piece) y geometry (leaf_is ∙ the_leaf.1) merge_is now_is stripes true_piece stamp all_written parts_are
+            let made = marked_some piece.stripe u old.merge new.merge merge_is marked.0 in
+            copied v v.top above source target below m old leaf x serving the_leaf.1 a l b was at new u made.0 next (piece_of piece) y geometry (still_none piece.stripe old.retiring new.retiring none_was marked.1) (leaf_is ∙ the_leaf.1) merge_is now_is stripes true_piece stamp all_written parts_are
             (record { moments = moments.over target serves; holds = put.serves target serves }) made.1.0 made.1.1.source made.1.1.relink made.1.1.marks_are
         by_answer (Err (Read fault)) put kept quiet marked =
-            put_refused v v.top above source target below m old leaf x serving the_leaf.1 a l b was at new u u next (piece_of piece) y geometry (leaf_is ∙ the_leaf.1) merge_is now_is stripes true_piece stamp all_written parts_are
-            (record { moments = quiet.over target serves; holds = kept.serves target serves }) (marked ∙ merge_is)
+            put_refused v v.top above source target below m old leaf x serving the_leaf.1 a l b was at new u u next (piece_of piece) y geometry (marked.1 ∙ none_was) (leaf_is ∙ the_leaf.1) merge_is now_is stripes true_piece stamp all_written parts_are
+            (record { moments = quiet.over target serves; holds = kept.serves target serves }) (marked.0 ∙ merge_is)
         by_answer (Err (FileFull n)) put kept quiet marked =
-            put_refused v v.top above source target below m old leaf x serving the_leaf.1 a l b was at new u u next (piece_of piece) y geometry (leaf_is ∙ the_leaf.1) merge_is now_is stripes true_piece stamp all_written parts_are
-            (record { moments = quiet.over target serves; holds = kept.serves target serves }) (marked ∙ merge_is)
+            put_refused v v.top above source target below m old leaf x serving the_leaf.1 a l b was at new u u next (piece_of piece) y geometry (marked.1 ∙ none_was) (leaf_is ∙ the_leaf.1) merge_is now_is stripes true_piece stamp all_written parts_are
+            (record { moments = quiet.over target serves; holds = kept.serves target serves }) (marked.0 ∙ merge_is)
         by_answer (Err (Write fault)) put kept quiet marked =
-            put_failed v v.top above source target below m old leaf x serving the_leaf.1 a l b was at new u u next (piece_of piece) y geometry (leaf_is ∙ the_leaf.1) merge_is now_is stripes true_piece stamp all_written parts_are
+            put_failed v v.top above source target below m old leaf x serving the_leaf.1 a l b was at new u u next (piece_of piece) y geometry (marked.1 ∙ none_was) (leaf_is ∙ the_leaf.1) merge_is now_is stripes true_piece stamp all_written parts_are
             (record { moments = moments.over target serves })
 
     told_by : piece.stamp ≡ 0 → (o p : Option Trace) (r : Result (Unit {0}) LayerFault) → WhereBothTold (PutsPiece l piece) o p → OnOk r (WhereBothTold (HasPutPiece l next piece) o p) → OnRefused r (WhereBothTold (HasKept l next) o p) → OnRefused r (WhereBothTold (KeepsOver l) o p)
@@ -131,19 +142,26 @@ put_room piece target disk (Err (Read fault)) full room = tt
 put_room piece target disk (Err (FileFull next)) full room = full next refl
 put_room piece target disk (Err (Write fault)) full room = room
 
+-- no merge of the leaf is under way
+pub too_none : (stripe : ℕ) (o p : Option Retiring) → o ≡ None → p ≡ o → MarksToo stripe o p
+too_none stripe o p none same = subst (λ (k : Option Retiring). MarksToo stripe o k) (sym same) (subst (λ (k : Option Retiring). MarksToo stripe k k) (sym none) tt)
+
+pub stamp_none : (layers : Layers) (stripe : ℕ) → layers.retiring ≡ None → stamp_of layers stripe ≡ 0
+stamp_none layers stripe none = ap (λ o. stamp_in o stripe) none
+
 -- ---- the whole call
 
 item_at : (a : List FileLayer) (x : FileLayer) (b : List FileLayer) → slice_index_or (map (λ l. Some l) (a ++ x ∷ b)) (length a) None ≡ Some x
 item_at [] x b = refl
 item_at (y ∷ a) x b = item_at a x b
 
-pub marked_ok : (stripe : ℕ) (old new : Layers) (r : Result (Unit {0}) LayerFault) → is_ok r ≡ true → MarksIn stripe old.merge new.merge → HasMarked stripe old new r
-marked_ok stripe old new (Ok done) is marks = marks
-marked_ok stripe old new (Err fault) is marks = cc
+pub marked_ok : (stripe : ℕ) (old new : Layers) (r : Result (Unit {0}) LayerFault) → is_ok r ≡ true → MarksIn stripe old.merge new.merge → MarksToo stripe old.retiring new.retiring → HasMarked stripe old new r
+marked_ok stripe old new (Ok done) is marks too = (marks, too)
+marked_ok stripe old new (Err fault) is marks too = cc
 
-pub marked_err : (stripe : ℕ) (old new : Layers) (r : Result (Unit {0}) LayerFault) → is_ok r ≡ false → new.merge ≡ old.merge → HasMarked stripe old new r
-marked_err stripe old new (Ok done) is same = cc
-marked_err stripe old new (Err fault) is same = same
+pub marked_err : (stripe : ℕ) (old new : Layers) (r : Result (Unit {0}) LayerFault) → is_ok r ≡ false → new.merge ≡ old.merge → new.retiring ≡ old.retiring → HasMarked stripe old new r
+marked_err stripe old new (Ok done) is same kept = cc
+marked_err stripe old new (Err fault) is same kept = (same, kept)
 
 module _ (old new : Layers) (u : Underway) (piece : KeptPiece) (before after : Disk) (r : Result (Unit {0}) LayerFault) (merge_is : old.merge ≡ Some u) (ready : AreReady old before) (geometry : new.geometry ≡ old.geometry) (leaf_is : new.leaf ≡ old.leaf)
     (put : PutsAt (u.source + 1) piece old.below.items new.below.items before after r) where
@@ -173,7 +191,7 @@ module _ (old new : Layers) (u : Underway) (piece : KeptPiece) (before after : D
   pub target_ready : HasMarked piece.stripe old new r → UnlessBroken r (AreReady new after)
   target_ready marked = by_answer r put.counts put.err put.ready put.refused marked (piece_ties put.was put.now piece before.told after.told r put.put put.kept)
     where
-      made_ready : after.files ≡ before.files → IsReady put.now after → WhereBothTold (KeepsTies put.was put.now) before.told after.told → (w : Underway) → new.merge ≡ Some w → w.source ≡ u.source → w.relink ≡ u.relink → w.marks.stripes ≡ u.marks.stripes → AreReady new after
+      made_ready : after.files ≡ before.files → IsReady put.now after → WhereBothTold (KeepsTies put.was put.now) before.told after.told → (w : Underway) → new.merge ≡ Some w → w.source ≡ u.source → w.relink ≡ u.relink → w.marks.stripes ≡ u.marks.stripes → new.retiring ≡ None → AreReady new after
       made_ready files is keeps w =
           replaced_ready old new u before after merge_is ready geometry leaf_is put.above put.below put.was put.now put.was_there put.now_there put.parts
           (leaves old new u piece before after merge_is ready geometry leaf_is put.above put.below put.was put.now put.was_there put.now_there put.place put.parts put.moments) files is keeps w
@@ -181,8 +199,8 @@ module _ (old new : Layers) (u : Underway) (piece : KeptPiece) (before after : D
       by_answer : (r : Result (Unit {0}) LayerFault) → OnOk r (after ≡ record before { told = after.told }) → IfErr r (Fails (own_file put.was) before after) → OnOk r (IsReady put.now after) → OnRefused r (IsReady put.now after) → HasMarked piece.stripe old new r
           → KeepsUnlessBroken r put.was put.now before.told after.told → UnlessBroken r (AreReady new after)
       by_answer (Ok done) counts fails is refused marked keeps =
-          let made = marked_some piece.stripe u old.merge new.merge merge_is marked in
-          made_ready (same_files (own_file put.was) before after (Ok done) counts fails) is keeps made.0 made.1.0 made.1.1.source made.1.1.relink made.1.1.stripes
-      by_answer (Err (Read fault)) counts fails is refused marked keeps = made_ready (same_files (own_file put.was) before after (Err (Read fault)) counts fails) refused keeps u (marked ∙ merge_is) refl refl refl
-      by_answer (Err (FileFull n)) counts fails is refused marked keeps = made_ready (same_files (own_file put.was) before after (Err (FileFull n)) counts fails) refused keeps u (marked ∙ merge_is) refl refl refl
+          let made = marked_some piece.stripe u old.merge new.merge merge_is marked.0 in
+          made_ready (same_files (own_file put.was) before after (Ok done) counts fails) is keeps made.0 made.1.0 made.1.1.source made.1.1.relink made.1.1.stripes (still_none piece.stripe old.retiring new.retiring (alone old u before merge_is ready) marked.1)
+      by_answer (Err (Read fault)) counts fails is refused marked keeps = made_ready (same_files (own_file put.was) before after (Err (Read fault)) counts fails) refused keeps u (marked.0 ∙ merge_is) refl refl refl (marked.1 ∙ alone old u before merge_is ready)
+      by_answer (Err (FileFull n)) counts fails is refused marked keeps = made_ready (same_files (own_file put.was) before after (Err (FileFull n)) counts fails) refused keeps u (marked.0 ∙ merge_is) refl refl refl (marked.1 ∙ alone old u before merge_is ready)
       by_answer (Err (Write fault)) counts fails is refused marked keeps = tt

@@ -1,5 +1,5 @@
 -- The pages that a merge keeps turn its child's metadata still, while files are read, written and committed.
-use Rattle.std.proofs.Common.{◌≡◌, ◌≢◌, ℕ, zero, suc, ◌-◌, ◌≤◌, ◌==◌, Bool, true, false, cond, List, [], ◌∷◌, ◌++◌, length, map, get_or, refl, sym, ap, subst, ◌∙◌}
+use Rattle.std.proofs.Common.{◌≡◌, ◌≢◌, ◌<◌, is_some, ℕ, zero, suc, ◌-◌, ◌≤◌, ◌==◌, Bool, true, false, cond, List, [], ◌∷◌, ◌++◌, length, map, get_or, refl, sym, ap, subst, ◌∙◌}
 use Rattle.std.specs.Prelude.{⊤, All, Option, Some, None, option_map, IfSome, Result, Ok, Err, OnOk}
 use Rattle.vx_base.specs.declared.parts.Geometry.{Geometry}
 use Rattle.vhdx_format.specs.MetadataTables.{read_metadata}
@@ -24,7 +24,11 @@ use Rattle.layer_session.proofs.FileLayers.{file_layers_stand}
 use Rattle.merge_core.specs.Pieces.{HasPutPiece}
 use Rattle.merge_core.specs.declared.piece.Piece.{Piece}
 use Rattle.chain_core.specs.declared.layers.Underway.{Underway}
-use Rattle.chain_core.specs.Sessions.{CanRelink, child_layer}
+use Rattle.chain_core.specs.declared.layers.Retiring.{Retiring}
+use Rattle.guest_model.specs.declared.call.Call.{Call}
+use Rattle.chain_core.specs.Copying.{MarksToo, Touches}
+use Rattle.chain_core.specs.Sessions.{AtMostOne, CanRelink, CanRetire, IsRetiringOf, child_layer, first_layer, header_at, is_session_at}
+use Rattle.log_write.specs.Writing.{HasNextNumber}
 use Rattle.chain_core.proofs.Concluding.{both_told}
 
 -- ---- one file
@@ -216,6 +220,77 @@ pub relink_same : (before after : Disk) (o p : Option Layer) (xs ys : List FileL
     → IfSome m (CanRelink o xs before) → IfSome m (CanRelink p ys after)
 relink_same before after o p xs ys None top all can = tt
 relink_same before after o p xs ys (Some u) top all can = relink_still before after o p xs ys u u refl refl top all can
+
+-- ---- the merge of the leaf
+
+-- what is kept of it, but for marks and stamps
+pub record IsAlike (r w : Retiring) : Type 0 where
+  pub retire : w.retire ≡ r.retire
+  pub clear : w.clear ≡ r.clear
+  pub stripes : w.marks.stripes ≡ r.marks.stripes
+  pub words : length w.stamps.words.items ≡ length r.stamps.words.items
+
+abbrev pub Alike : Option Retiring → Option Retiring → Type 0
+Alike None None = ⊤
+Alike None (Some w) = ⊥
+Alike (Some r) None = ⊥
+Alike (Some r) (Some w) = IsAlike r w
+
+pub alike_same : (o p : Option Retiring) → p ≡ o → Alike o p
+alike_same o p same = subst (λ (k : Option Retiring). Alike o k) (sym same) (itself o)
+  where
+    itself : (o : Option Retiring) → Alike o o
+    itself None = tt
+    itself (Some r) = record { retire = refl; clear = refl; stripes = refl; words = refl }
+
+pub alike_touched : (z place : ℕ) (call : Call) (o p : Option Retiring) → Touches z call place o p → Alike o p
+alike_touched z place call None None t = tt
+alike_touched z place call None (Some w) t = absurd t
+alike_touched z place call (Some r) None t = absurd t
+alike_touched z place call (Some r) (Some w) t = record { retire = ap (λ (k : Retiring). k.retire) t.rest; clear = ap (λ (k : Retiring). k.clear) t.rest; stripes = t.stripes; words = t.words }
+
+pub alike_marked : (stripe : ℕ) (o p : Option Retiring) → MarksToo stripe o p → Alike o p
+alike_marked stripe None None t = tt
+alike_marked stripe None (Some w) t = absurd t
+alike_marked stripe (Some r) None t = absurd t
+alike_marked stripe (Some r) (Some w) t =
+    record { retire = ap (λ (k : Retiring). k.retire) t.rest; clear = ap (λ (k : Retiring). k.clear) t.rest; stripes = t.stripes; words = ap (λ (k : Retiring). length k.stamps.words.items) t.rest }
+
+pub one_alike : (u : Option Underway) (o p : Option Retiring) → Alike o p → AtMostOne u o → AtMostOne u p
+one_alike None o p alike one = tt
+one_alike (Some u) None None alike one = refl
+one_alike (Some u) None (Some w) alike one = absurd alike
+one_alike (Some u) (Some r) p alike one = absurd (let never : ◌≡◌ {A = Option Retiring} (Some r) None = one in cc)
+
+pub retiring_alike : (g : Geometry) (o p : Option Layer) (xs ys : List FileLayer) (m n : Option Retiring) → Alike m n → is_some p ≡ is_some o → (0 < length xs → 0 < length ys) → is_session_at ys 0 ≡ is_session_at xs 0 → header_at ys 0 ≡ header_at xs 0
+    → IfSome m (IsRetiringOf g o xs) → IfSome n (IsRetiringOf g p ys)
+retiring_alike g o p xs ys None None alike top long target next is = tt
+retiring_alike g o p xs ys None (Some w) alike top long target next is = absurd alike
+retiring_alike g o p xs ys (Some r) None alike top long target next is = absurd alike
+retiring_alike g o p xs ys (Some r) (Some w) alike top long target next is =
+    record { session = top ∙ is.session; there = long is.there; target = target ∙ is.target; next = subst (λ h. IfSome h HasNextNumber) (sym next) is.next; size = is.size; stripes = alike.stripes ∙ is.stripes; stamps = alike.words ∙ is.stamps }
+
+pub retires_alike : (before after : Disk) (o p : Option Layer) (xs ys : List FileLayer) (m n : Option Retiring) → Alike m n → TopTurnsStill before after o p → AllTurnStill before after xs ys
+    → IfSome m (CanRetire o xs before) → IfSome n (CanRetire p ys after)
+retires_alike before after o p xs ys None None alike top all can = tt
+retires_alike before after o p xs ys None (Some w) alike top all can = absurd alike
+retires_alike before after o p xs ys (Some r) None alike top all can = absurd alike
+retires_alike before after o p xs ys (Some r) (Some w) alike top all can = record {
+  few = subst (λ (pages : List Page). length pages ≤ 120) (sym alike.retire) can.few;
+  turns = subst (λ (pages : List Page). IfSome p (λ l. WhereTold after.told (FileTurns (Session l) pages))) (sym alike.retire) (by_top o p top can.turns);
+  clears = subst (λ (c : Option (List Page)). IfSome c (λ pages. (length pages ≤ 120) × IfSome (first_layer ys) (λ l. WhereTold after.told (FileTurns l pages)))) (sym alike.clear) (by_clear r.clear can.clears);
+}
+  where
+    by_top : (o p : Option Layer) → TopTurnsStill before after o p → IfSome o (λ l. WhereTold before.told (FileTurns (Session l) r.retire)) → IfSome p (λ l. WhereTold after.told (FileTurns (Session l) r.retire))
+    by_top None None top h = tt
+    by_top None (Some y) top h = absurd top
+    by_top (Some x) None top h = absurd top
+    by_top (Some x) (Some y) top h = top.turns r.retire h
+
+    by_clear : (c : Option (List Page)) → IfSome c (λ pages. (length pages ≤ 120) × IfSome (first_layer xs) (λ l. WhereTold before.told (FileTurns l pages)))
+        → IfSome c (λ pages. (length pages ≤ 120) × IfSome (first_layer ys) (λ l. WhereTold after.told (FileTurns l pages)))
+    by_clear None h = tt
+    by_clear (Some pages) h = (h.0, turns_in before after xs ys pages 0 all h.1)
 
 -- ---- what calls leave
 

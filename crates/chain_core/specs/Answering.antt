@@ -25,8 +25,8 @@ use Rattle.layer_session.specs.Calls.{Fails}
 use Rattle.layer_session.specs.ReadOnly.{SomeReadFailed}
 use Rattle.layer_session.specs.Steps.{has_room, is_full}
 use Rattle.chain_core.specs.Refusing.{refused}
-use Rattle.chain_core.specs.Sessions.{Session}
-use Rattle.chain_core.specs.States.{State, IsServing, LeavesOthers, dirty_now, disk_now, entry, files_of, sector_of, with_entry}
+use Rattle.chain_core.specs.Sessions.{Session, leaf_number}
+use Rattle.chain_core.specs.States.{State, IsNextPlace, IsServing, LeavesOthers, dirty_now, disk_now, entry, files_of, sector_of, with_entry}
 use Rattle.chain_core.specs.declared.layers.Layers.{Layers}
 
 -- ---- for every store
@@ -40,13 +40,13 @@ IsNoted e old new (Err refusal) = (new.told ≡ old.told) × (new.noted ≡ old.
 abbrev pub fault_of : ℕ → ℕ → StoreFault
 fault_of file count = record { file = file; count = count }
 
--- What a change that reached the files says of the store's counts, those of the leaf being file 0, and of the session's fault.
+-- What a change that reached the files says of the store's counts, those of the leaf, and of the session's fault.
 abbrev pub IsCausedBy : Session → Session → Result ℕ ChainRefusal → Type 0
 IsCausedBy old new (Ok place) = (new.disk ≡ record (old.disk) { told = new.disk.told }) × (new.broken ≡ None)
 IsCausedBy old new (Err NoRoom) = (new.disk ≡ old.disk) × (new.broken ≡ None)
-IsCausedBy old new (Err (ReadFault file count)) = Fails 0 old.disk new.disk (layer.Read (fault_of file count)) × (new.broken ≡ None)
-IsCausedBy old new (Err (FileFull next)) = Fails 0 old.disk new.disk (layer.FileFull next) × (new.broken ≡ None)
-IsCausedBy old new (Err (Broken file count)) = Fails 0 old.disk new.disk (layer.Write (fault_of file count)) × (new.broken ≡ Some (fault_of file count))
+IsCausedBy old new (Err (ReadFault file count)) = Fails (leaf_number old.layers) old.disk new.disk (layer.Read (fault_of file count)) × (new.broken ≡ None)
+IsCausedBy old new (Err (FileFull next)) = Fails (leaf_number old.layers) old.disk new.disk (layer.FileFull next) × (new.broken ≡ None)
+IsCausedBy old new (Err (Broken file count)) = Fails (leaf_number old.layers) old.disk new.disk (layer.Write (fault_of file count)) × (new.broken ≡ Some (fault_of file count))
 IsCausedBy old new (Err other) = ⊥
 
 -- What the answer of a read says of the store's counts: a read of some file failed, and nothing else has changed.
@@ -120,10 +120,10 @@ Answers e v layers trace now (Ok place) = IsDone e v layers trace now
 Answers e v layers trace now (Err (Broken file count)) = HasBroken e v trace now
 Answers e v layers trace now (Err other) = IsRefused v layers trace now
 
--- so it is for each state that the session serves
+-- so it is for each state that the session serves, the recorder's count being that of its history
 abbrev pub AnswersTold : Caller → Call → Session → Session → Result ℕ ChainRefusal → Type 0
 AnswersTold who call old new result =
-    WhereBothTold (λ trace now. (v : State) → IsServing old.layers v trace → Answers (entry who call) v new.layers trace now result) old.disk.told new.disk.told
+    WhereBothTold (λ trace now. (v : State) → IsServing old.layers v trace → IsNextPlace (old.noted + 1) v → Answers (entry who call) v new.layers trace now result) old.disk.told new.disk.told
 
 -- each image opens to the history's disk, on all sectors
 abbrev pub IsDurable : Session → Session → Type 0
@@ -193,9 +193,10 @@ LayerAnswers e v layers trace now (Err (layer.Read fault)) = IsRefused v layers 
 LayerAnswers e v layers trace now (Err (layer.FileFull next)) = IsRefused v layers trace now
 LayerAnswers e v layers trace now (Err (layer.Write fault)) = HasBroken e v trace now
 
-abbrev pub LayerTold : Call → Layers → Layers → Disk → Disk → Result (Unit {0}) LayerFault → Type 0
-LayerTold call layers new_layers old new result =
-    WhereBothTold (λ trace now. (who : Caller) (v : State) → IsServing layers v trace
+-- so it is of the call that has this place in the history
+abbrev pub LayerTold : ℕ → Call → Layers → Layers → Disk → Disk → Result (Unit {0}) LayerFault → Type 0
+LayerTold place call layers new_layers old new result =
+    WhereBothTold (λ trace now. (who : Caller) (v : State) → IsServing layers v trace → IsNextPlace place v
     → LayerAnswers (entry who call) v new_layers trace now result) old.told new.told
 
 -- the one fault that an answer may tell is a failed change

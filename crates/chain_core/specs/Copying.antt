@@ -1,5 +1,5 @@
 -- What is copied, of a merge that is under way.
-use Rattle.std.specs.Prelude.{◌≡◌, ⊤, ℕ, is_some, true, false, nat_lt, ◌==◌, if◌then◌else◌, MatchOption, ◌+◌, ◌<◌, ◌≤◌, Bool, List, slice_index, slice_index_or, map, length, ◌++◌, ◌∷◌, Option, Some, None, Result, Ok, Err, IfErr, IfSome, OnOk}
+use Rattle.std.specs.Prelude.{◌≡◌, ⊤, ℕ, is_some, true, false, nat_lt, ◌==◌, if◌then◌else◌, MatchOption, ◌+◌, ◌*◌, ◌^◌, ◌<◌, ◌≤◌, Bool, List, slice_index, slice_index_or, map, length, ◌++◌, ◌∷◌, Option, Some, None, Result, Ok, Err, IfErr, IfSome, OnOk}
 use Rattle.std.specs.List.{AllByRecursion}
 use Rattle.vx_base.specs.declared.parts.Geometry.{Geometry}
 use Rattle.store_model.specs.Disk.{Disk, WhereBothTold, WhereTold}
@@ -7,8 +7,8 @@ use Rattle.store_model.specs.Trace.{Trace}
 use Rattle.guest_model.specs.declared.refusal.ChainRefusal.{ChainRefusal}
 use Rattle.guest_model.specs.declared.refusal.ChainRefusal.TheVariants as refusals
 use Rattle.table_pages.specs.declared.tables.TableParts.{TableParts}
-use Rattle.chain_model.specs.Merges.{AllMarked, Piece, with_mark}
-use Rattle.chain_model.specs.Stripes.{stripe_count}
+use Rattle.chain_model.specs.Merges.{AllMarked, Piece, marks_after, with_mark}
+use Rattle.chain_model.specs.Stripes.{stripe_count, touches}
 use Rattle.layer_session.specs.Calls.{Fails, HasKept, KeepsOver, OnRefused, own_file}
 use Rattle.layer_session.specs.FileLayers.{file_numbers}
 use Rattle.layer_session.specs.Keeping.{IsReady}
@@ -25,30 +25,34 @@ use Rattle.merge_core.specs.declared.piece.Piece.{Piece as KeptPiece}
 use Rattle.chain_core.specs.Answering.{HasEnded, IsRefused, fault_of, refusal_of}
 use Rattle.chain_core.specs.Merging.{IsCopied, IsTruePiece, PutAnswers}
 use Rattle.chain_core.specs.Refusing.{or_else, unfit}
-use Rattle.chain_core.specs.Sessions.{Session}
+use Rattle.chain_core.specs.Sessions.{KeepsMerge, Session, first_layer, has_merge, kept_marks, leaf_number}
 use Rattle.chain_core.specs.States.{IsServing, State}
 use Rattle.chain_core.specs.declared.layers.Layers.{Layers}
 use Rattle.chain_core.specs.declared.layers.Underway.{Underway}
+use Rattle.chain_core.specs.declared.layers.Retiring.{Retiring}
+use Rattle.merge_core.specs.declared.marks.Marks.{Marks}
+use Rattle.merge_core.specs.Stamping.{stamps_of}
+use Rattle.guest_model.specs.declared.call.Call.{Call}
 
 -- it fits into each file of a disk of this geometry
 abbrev pub FitsDisk : Geometry → KeptPiece → Type 0
 FitsDisk geometry piece = (parts : TableParts) → parts.sector ≡ geometry.sector → parts.sectors ≡ geometry.sectors → FitsIn piece parts
 
--- the number of the target's file in the store
+-- the number of the target's file in the store: of the file below the source, which may be the leaf
 abbrev pub number_below : List ℕ → Option Underway → ℕ
-number_below numbers None = 0
+number_below numbers None = slice_index numbers 0
 number_below numbers (Some u) = slice_index numbers (u.source + 1)
 
 abbrev pub target_number : Layers → ℕ
 target_number layers = number_below (file_numbers layers.below.items) layers.merge
 
 -- and that of the source's
-abbrev pub number_at_source : List ℕ → Option Underway → ℕ
-number_at_source numbers None = 0
-number_at_source numbers (Some u) = slice_index numbers u.source
+abbrev pub number_at_source : Layers → Option Underway → ℕ
+number_at_source layers None = leaf_number layers
+number_at_source layers (Some u) = slice_index (file_numbers layers.below.items) u.source
 
 abbrev pub source_number : Layers → ℕ
-source_number layers = number_at_source (file_numbers layers.below.items) layers.merge
+source_number layers = number_at_source layers layers.merge
 
 -- a layer of a file in a session
 abbrev pub session_in : Option FileLayer → Option Layer
@@ -58,7 +62,7 @@ session_in (Some (kind.Read l)) = None
 
 -- the target's
 abbrev pub session_below : List FileLayer → Option Underway → Option Layer
-session_below below None = None
+session_below below None = session_in (first_layer below)
 session_below below (Some u) = session_in (slice_index_or (map (λ l. Some l) below) (u.source + 1) None)
 
 abbrev pub target_layer : Layers → Option Layer
@@ -97,16 +101,66 @@ MarksIn stripe None (Some new) = ⊥
 MarksIn stripe (Some old) None = ⊥
 MarksIn stripe (Some old) (Some new) = IsMarked (with_mark stripe (marks_of old.marks)) old new
 
+-- and of the leaf
+pub record IsMarkedToo (marks : ℕ → Bool) (old new : Retiring) : Type 0 where
+  pub rest : new ≡ record old { marks = new.marks }
+  pub stripes : new.marks.stripes ≡ old.marks.stripes
+  pub marks_are : (t : ℕ) → marks_of new.marks t ≡ marks t
+
+abbrev pub MarksToo : ℕ → Option Retiring → Option Retiring → Type 0
+MarksToo stripe None None = ⊤
+MarksToo stripe None (Some new) = ⊥
+MarksToo stripe (Some old) None = ⊥
+MarksToo stripe (Some old) (Some new) = IsMarkedToo (with_mark stripe (marks_of old.marks)) old new
+
 -- Once a piece is put its stripe is marked; else the marks stay.
 abbrev pub HasMarked : ℕ → Layers → Layers → Result (Unit {0}) LayerFault → Type 0
-HasMarked stripe old new (Ok done) = MarksIn stripe old.merge new.merge
-HasMarked stripe old new (Err fault) = new.merge ≡ old.merge
+HasMarked stripe old new (Ok done) = MarksIn stripe old.merge new.merge × MarksToo stripe old.retiring new.retiring
+HasMarked stripe old new (Err fault) = KeepsMerge old new
+
+-- ---- stamps
+
+-- When a stripe was last changed: the place of that call in the history; 0 where the source isn't the leaf.
+abbrev pub stamp_in : Option Retiring → ℕ → ℕ
+stamp_in None stripe = 0
+stamp_in (Some r) stripe = stamps_of r.stamps stripe
+
+abbrev pub stamp_of : Layers → ℕ → ℕ
+stamp_of layers stripe = stamp_in layers.retiring stripe
+
+-- A call of this place on the leaf takes the marks of the stripes away that it touches, and is their stamp.
+pub record IsTouched (z : ℕ) (call : Call) (place : ℕ) (old new : Retiring) : Type 0 where
+  pub rest : new ≡ record old { marks = new.marks; stamps = new.stamps }
+  pub stripes : new.marks.stripes ≡ old.marks.stripes
+  pub words : length new.stamps.words.items ≡ length old.stamps.words.items
+  pub marks_are : (t : ℕ) → marks_of new.marks t ≡ marks_after z call (marks_of old.marks) t
+  pub stamps_are : (t : ℕ) → t < old.marks.stripes → stamps_of new.stamps t ≡ (if touches z call t then place else stamps_of old.stamps t)
+
+abbrev pub Touches : ℕ → Call → ℕ → Option Retiring → Option Retiring → Type 0
+Touches z call place None None = ⊤
+Touches z call place None (Some new) = ⊥
+Touches z call place (Some old) None = ⊥
+Touches z call place (Some old) (Some new) = IsTouched z call place old new
+
+abbrev pub TouchesIf : Bool → ℕ → Call → ℕ → Option Retiring → Option Retiring → Type 0
+TouchesIf true z call place old new = Touches z call place old new
+TouchesIf false z call place old new = new ≡ old
+
+-- what a guest call makes of the merge: once it is done it is made on the source, if that is the leaf
+abbrev pub MergeFollows : Call → Layers → Layers → Result ℕ ChainRefusal → Type 0
+MergeFollows call old new (Ok place) = (new.merge ≡ old.merge) × Touches old.geometry.sector call place old.retiring new.retiring
+MergeFollows call old new (Err refusal) = KeepsMerge old new
+
+-- of a call that the leaf's layer answers
+abbrev pub LayerFollows : ℕ → Call → Layers → Layers → Result (Unit {0}) LayerFault → Type 0
+LayerFollows place call old new (Ok done) = (new.merge ≡ old.merge) × Touches old.geometry.sector call place old.retiring new.retiring
+LayerFollows place call old new (Err fault) = KeepsMerge old new
 
 -- ---- calls of the merge
 
 -- no merge is under way
 abbrev pub no_merge : Layers → Option ChainRefusal
-no_merge layers = if is_some layers.merge then None else Some refusals.NoMerge
+no_merge layers = if has_merge layers then None else Some refusals.NoMerge
 
 -- the disk has fewer stripes
 abbrev pub past_stripes : ℕ → ℕ → Option ChainRefusal
@@ -114,18 +168,18 @@ past_stripes stripe stripes = if nat_lt stripe stripes then None else Some (refu
 
 -- A stripe isn't one of the merge: none is under way, or the disk has fewer stripes.
 abbrev pub no_stripe : ℕ → Layers → Option ChainRefusal
-no_stripe stripe layers = if is_some layers.merge then past_stripes stripe (stripe_count layers.geometry.sector layers.geometry.sectors) else Some refusals.NoMerge
+no_stripe stripe layers = if has_merge layers then past_stripes stripe (stripe_count layers.geometry.sector layers.geometry.sectors) else Some refusals.NoMerge
 
 -- A piece can't be put: no merge is under way, nothing was taken, its stripe isn't one, or it was taken under another stamp than the
--- stripe's, which is 0 where the source isn't the leaf.
-abbrev pub stale : ℕ → Option ChainRefusal
-stale stamp = if stamp == 0 then None else Some (refusals.Stale stamp 0)
+-- stripe's.
+abbrev pub stale : ℕ → ℕ → Option ChainRefusal
+stale taken now = if taken == now then None else Some (refusals.Stale taken now)
 
 abbrev pub unfilled : KeptPiece → Option ChainRefusal
 unfilled piece = if piece.filled then None else Some refusals.NoPiece
 
 abbrev pub no_piece : KeptPiece → Layers → Option ChainRefusal
-no_piece piece layers = or_else (no_merge layers) (or_else (unfilled piece) (or_else (no_stripe piece.stripe layers) (stale piece.stamp)))
+no_piece piece layers = or_else (no_merge layers) (or_else (unfilled piece) (or_else (no_stripe piece.stripe layers) (stale piece.stamp (stamp_of layers piece.stripe))))
 
 -- The first cause by which each is refused before the files are reached.
 abbrev pub fetch_refused : ℕ → Session → Option ChainRefusal
@@ -147,11 +201,11 @@ abbrev pub refused_by : Result (Unit {0}) LayerFault → Result (Unit {0}) Chain
 refused_by (Ok done) = Ok tt
 refused_by (Err fault) = Err (refusal_of fault)
 
--- a piece of this stripe was taken, under the stamp 0, and fits into each file of the disk
-pub record IsOfStripe (geometry : Geometry) (stripe : ℕ) (piece : KeptPiece) : Type 0 where
+-- a piece of this stripe was taken, under this stamp, and fits into each file of the disk
+pub record IsOfStripe (geometry : Geometry) (stripe stamp : ℕ) (piece : KeptPiece) : Type 0 where
   pub filled : piece.filled ≡ true
   pub stripe_is : piece.stripe ≡ stripe
-  pub stamp : piece.stamp ≡ 0
+  pub stamp_is : piece.stamp ≡ stamp
   pub fits : FitsDisk geometry piece
 
 -- What the answer of a fetch that reached the files says: it took a piece and answers its stamp; or a read of the source's file failed, and
@@ -173,12 +227,12 @@ FetchTold piece old new result =
 
 -- What the answer of a put that reached the files says of the store's counts, of marks, and of the session's fault.
 abbrev pub PutCause : KeptPiece → Session → Session → Result (Unit {0}) ChainRefusal → Type 0
-PutCause piece old new (Ok done) = MarksIn piece.stripe old.layers.merge new.layers.merge × (new.disk ≡ record (old.disk) { told = new.disk.told }) × (new.broken ≡ None)
+PutCause piece old new (Ok done) = HasMarked piece.stripe old.layers new.layers (Ok tt) × (new.disk ≡ record (old.disk) { told = new.disk.told }) × (new.broken ≡ None)
 PutCause piece old new (Err (refusals.ReadFault file count)) =
-    (new.layers.merge ≡ old.layers.merge) × (target_number old.layers < old.disk.files) × Fails (target_number old.layers) old.disk new.disk (layer.Read (fault_of file count)) × (new.broken ≡ None)
-PutCause piece old new (Err (refusals.FileFull next)) = (new.layers.merge ≡ old.layers.merge) × Fails (target_number old.layers) old.disk new.disk (layer.FileFull next) × (new.broken ≡ None)
+    KeepsMerge old.layers new.layers × (target_number old.layers < old.disk.files) × Fails (target_number old.layers) old.disk new.disk (layer.Read (fault_of file count)) × (new.broken ≡ None)
+PutCause piece old new (Err (refusals.FileFull next)) = KeepsMerge old.layers new.layers × Fails (target_number old.layers) old.disk new.disk (layer.FileFull next) × (new.broken ≡ None)
 PutCause piece old new (Err (refusals.Broken file count)) =
-    (new.layers.merge ≡ old.layers.merge) × (target_number old.layers < old.disk.files) × Fails (target_number old.layers) old.disk new.disk (layer.Write (fault_of file count)) × (new.broken ≡ Some (fault_of file count))
+    KeepsMerge old.layers new.layers × (target_number old.layers < old.disk.files) × Fails (target_number old.layers) old.disk new.disk (layer.Write (fault_of file count)) × (new.broken ≡ Some (fault_of file count))
 PutCause piece old new (Err other) = ⊥
 
 -- A piece that is the source's is put, or refused and nothing changed, or a change of the target failed and broke the session.
@@ -199,15 +253,21 @@ TargetRoomIs piece layers disk (Err (refusals.Broken file count)) = IfSome (targ
 TargetRoomIs piece layers disk (Err other) = Unit {0}
 
 -- The lowest stripe of the merge under way without a mark; none where each has one, or none is under way.
-abbrev pub IsMissing : Option Underway → Option ℕ → Type 0
+abbrev pub IsMissing : Option Marks → Option ℕ → Type 0
 IsMissing None found = found ≡ None
-IsMissing (Some u) found = MatchOption found (AllMarked u.marks.stripes (marks_of u.marks)) (λ t. IsLowest u.marks.stripes (marks_of u.marks) t)
+IsMissing (Some m) found = MatchOption found (AllMarked m.stripes (marks_of m)) (λ t. IsLowest m.stripes (marks_of m) t)
 
 -- ---- of the small functions
 
--- a merge has a mark for each stripe of the disk
-abbrev pub HasEachStripe : Layers → Type 0
-HasEachStripe layers = IfSome layers.merge (λ u. u.marks.stripes ≡ stripe_count layers.geometry.sector layers.geometry.sectors)
+-- a merge has a mark for each stripe of the disk, and one of the leaf a stamp
+pub record IsSized (geometry : Geometry) (r : Retiring) : Type 0 where
+  pub size : geometry.sectors * geometry.sector ≤ 2 ^ 46
+  pub stripes : r.marks.stripes ≡ stripe_count geometry.sector geometry.sectors
+  pub stamps : length r.stamps.words.items ≡ stripe_count geometry.sector geometry.sectors
+
+pub record HasEachStripe (layers : Layers) : Type 0 where
+  pub marks : IfSome (kept_marks layers) (λ m. m.stripes ≡ stripe_count layers.geometry.sector layers.geometry.sectors)
+  pub stamps : IfSome layers.retiring (IsSized layers.geometry)
 
 -- of these numbers, where there are any, each is at most this
 abbrev pub AreLow : ℕ → List (Option ℕ) → Type 0
@@ -230,6 +290,7 @@ pub record PutsAt (at : ℕ) (piece : KeptPiece) (old new : List FileLayer) (bef
   pub quiet : OnRefused result (WhereBothTold (KeepsOver was) before.told after.told)
   pub parts : now.tables.parts ≡ was.tables.parts
   pub number : now.log.number ≤ was.log.number + 1
+  pub header : now.log.header ≡ was.log.header
   pub counts : OnOk result (after ≡ record before { told = after.told })
   pub err : IfErr result (Fails (own_file was) before after)
   pub room : PutRoomIs piece was before result

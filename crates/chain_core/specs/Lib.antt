@@ -12,3 +12,4 @@ pub mod Ending
 pub mod Copying
 pub mod Finished
 pub mod MergeStarting
+pub mod LeafStarting

@@ -35,7 +35,7 @@ use Rattle.chain_core.specs.declared.merge_start.MergeOf.{MergeOf}
 use Rattle.chain_core.specs.declared.merge_start.MergeStartRefusal.{MergeStartRefusal}
 use Rattle.chain_core.specs.declared.merge_start.MergeStartRefusal.TheVariants as start
 use Rattle.chain_core.specs.declared.merge_start.Room.{Room}
-use Rattle.chain_core.specs.Sessions.{AreReady, IsLow}
+use Rattle.chain_core.specs.Sessions.{AreReady, IsLow, leaf_number}
 use Rattle.chain_core.specs.Starting.{AreReadOf, EachOpensAlike, opening_disk, placed_from}
 use Rattle.chain_core.specs.States.{IsServing, State, merging}
 
@@ -160,30 +160,38 @@ pub record AreLow (m : MergeFiles) : Type 0 where
 abbrev pub is_changed : MergeFiles → ℕ → Bool
 is_changed m number = is_written m number || number == source_place m
 
--- No file but those four was changed.
+-- No file but these was changed; no file but those four.
+abbrev pub LeavesAllBut : (ℕ → Bool) → Option Trace → Option Trace → Type 0
+LeavesAllBut changes old new = WhereBothTold (λ trace now. (other : ℕ) → changes other ≡ false → file_of now other ≡ file_of trace other) old new
+
 abbrev pub LeavesRest : MergeFiles → Option Trace → Option Trace → Type 0
-LeavesRest m old new = WhereBothTold (λ trace now. (other : ℕ) → is_changed m other ≡ false → file_of now other ≡ file_of trace other) old new
+LeavesRest m = LeavesAllBut (is_changed m)
 
 -- Layers serve the session whose merge is prepared.
 abbrev pub StartsMerge : MergeFiles → Merge → Layers → Option Trace → Option Trace → Type 0
 StartsMerge m merge layers old new = WhereBothTold (λ trace now. IsServing layers (started_merge trace now m merge.ids merge.twice) now) old new
 
--- A read or a change of one of the four failed.
-pub record PhaseFails (m : MergeFiles) (old new : Disk) (fault : StoreFault) : Type 0 where
+-- A read or a change of one of these files failed.
+pub record PhaseFails (changes : ℕ → Bool) (old new : Disk) (fault : StoreFault) : Type 0 where
   pub file : ℕ
-  pub one : is_changed m file ≡ true
+  pub one : changes file ≡ true
   pub fails : ReadFailed file (record old { told = new.told }) new fault ⊎ FailsToChange file old new fault
 
--- Sessions don't begin: a read or a change of a file failed, or memory ran out, with no fault counted.
+-- Their sessions don't begin: a read or a change of a file failed, or memory ran out, with no fault counted; so it is of the four.
+abbrev pub BeginsNone : (ℕ → Bool) → Disk → Disk → SealFault → Type 0
+BeginsNone changes old new (seal.Store fault) = PhaseFails changes old new fault
+BeginsNone changes old new seal.NoRoom = new ≡ record old { told = new.told }
+
 abbrev pub BeginsNoMerge : MergeFiles → Disk → Disk → SealFault → Type 0
-BeginsNoMerge m old new (seal.Store fault) = PhaseFails m old new fault
-BeginsNoMerge m old new seal.NoRoom = new ≡ record old { told = new.told }
+BeginsNoMerge m = BeginsNone (is_changed m)
 
 -- The sessions have begun, and the layers serve the state whose merge is prepared; of the store content alone was changed.
 pub record HasBegunMerge (m : MergeFiles) (merge : Merge) (old new : Disk) (layers : Layers) : Type 0 where
   pub serving : StartsMerge m merge layers old.told new.told
   pub session : is_some layers.leaf ≡ true
   pub under_way : is_some layers.merge ≡ true
+  pub only : layers.retiring ≡ None
+  pub leaf : leaf_number layers ≡ 0
   pub geometry : layers.geometry ≡ (leaf_of m).parts.geometry
   pub ready : AreReady layers new
   pub low : IsLow 1 layers

@@ -7,7 +7,7 @@ use Rattle.guest_model.specs.Calls.{reply}
 use Rattle.chain_model.specs.Layers.{Layer as SectorLayer}
 use Rattle.layer_session.specs.declared.file.Layer.{Layer}
 use Rattle.layer_session.specs.Calls.{AddsOwned}
-use Rattle.chain_core.specs.Sessions.{AreReady, log_numbers}
+use Rattle.chain_core.specs.Sessions.{AreReady, leaf_number, log_numbers}
 use Rattle.chain_core.specs.States.{State, IsServing, disk_now, files_of, seen_in, others_of}
 use Rattle.chain_core.specs.declared.layers.Layers.{Layers}
 
@@ -16,6 +16,8 @@ pub record HasOnlyRead (old new : Layers) (before after : Disk) : Type 0 where
   pub geometry : new.geometry ≡ old.geometry
   pub numbers : log_numbers new ≡ log_numbers old
   pub merge : new.merge ≡ old.merge
+  pub retiring : new.retiring ≡ old.retiring
+  pub leaf : leaf_number new ≡ leaf_number old
   pub ready : AreReady new after
   pub serves : WhereTold before.told (λ trace. (v : State) → IsServing old v trace → IsServing new v trace)
   pub told : after.told ≡ before.told

@@ -23,6 +23,7 @@ use Rattle.layer_session.specs.declared.file_layer.FileLayer.TheVariants as kind
 use Rattle.layer_session.specs.Begins.{in_session}
 use Rattle.layer_session.specs.ReadOnly.{IsReadOf, SomeReadFailed}
 use Rattle.chain_core.specs.States.{IsServing, State, plain}
+use Rattle.chain_core.specs.Sessions.{leaf_number}
 use Rattle.chain_core.specs.declared.layers.Layers.{Layers}
 use Rattle.chain_core.specs.declared.starting.Mode.{Mode}
 use Rattle.chain_core.specs.declared.starting.Mode.TheVariants.{Guests, ReadOnly}
@@ -115,6 +116,7 @@ pub record HasBegun (files : List LinkedFile) (layers : Layers) (old new : Disk)
   pub ids : NewIds
   pub fit : JudgesIds files old before now None ids
   pub session : is_some layers.leaf ≡ true
+  pub leaf : leaf_number layers ≡ 0
   pub serving : StartsWith (under ids) files layers old.told new.told
   pub counts : new ≡ record old { told = new.told }
 

@@ -1,5 +1,5 @@
 -- What a chain keeps in a session, where its store tells its content.
-use Rattle.std.specs.Prelude.{◌≡◌, ◌<◌, ◌==◌, ◌-◌, ℕ, Bool, true, false, if◌then◌else◌, is_some, List, [], ◌∷◌, ◌++◌, length, map, slice_index_or, Option, Some, None, option_map, IfSome, ⊤}
+use Rattle.std.specs.Prelude.{◌≡◌, ◌<◌, ◌==◌, ◌-◌, ◌+◌, ℕ, Bool, true, false, if◌then◌else◌, is_some, List, [], ◌∷◌, ◌++◌, length, map, slice_index_or, Option, Some, None, option_map, IfSome, ⊤}
 use Rattle.std.specs.List.{AllByRecursion}
 use Rattle.store_model.specs.File.{is_synced}
 use Rattle.store_model.specs.Trace.{Trace, file_of}
@@ -24,6 +24,9 @@ use Rattle.vhdx_format.specs.declared.log_entry.Page.{Page}
 use Rattle.chain_model.specs.Merges.{IsUnderWay}
 use Rattle.merge_core.specs.Copied.{marks_of}
 use Rattle.chain_core.specs.declared.layers.Underway.{Underway}
+use Rattle.chain_core.specs.declared.layers.Retiring.{Retiring}
+use Rattle.chain_model.specs.Stripes.{per_stripe, stamp, stripe_count}
+use Rattle.merge_core.specs.Stamping.{stamps_of}
 use Rattle.chain_core.specs.declared.layers.Layers.{Layers}
 
 -- How a merge stands: what source and target had of each sector when it began, and which stripes are copied.
@@ -32,15 +35,18 @@ pub record Merging : Type 0 where
   pub before : SectorLayer
   pub marks : ℕ → Bool
 
--- The files below the leaf, from its parent to the base: no merge is under way, or one is, of a source that isn't the leaf into its
--- parent, the target; `above` are those between the leaf and the source.
+-- The files below the leaf, from its parent to the base: no merge is under way; or one is, of a source that isn't the leaf into its
+-- parent, the target, `above` being those between the leaf and the source; or the leaf itself is merged into its parent, `first` and
+-- `before` being what the leaf and the target had of each sector when that began.
 pub data Rest : Type 0 where
   plain : (others : List Placed) → Rest
   merging : (above : List Placed) (source target : Placed) (below : List Placed) → Merging → Rest
+  retiring : (target : Placed) (below : List Placed) (first before : SectorLayer) → Rest
 
 abbrev pub others_of : Rest → List Placed
 others_of (plain others) = others
 others_of (merging above source target below m) = above ++ (source ∷ target ∷ below)
+others_of (retiring target below first before) = target ∷ below
 
 -- What is said of a session and kept by no code: the name that it was opened by, the retired leaves behind that name, its leaf and the
 -- files below it, the disk when it began, its history, and the moment when it began.
@@ -56,6 +62,12 @@ pub record State : Type 0 where
   -- merge was prepared
   pub writes : ℕ → Bool
   pub since : Trace
+
+-- P where the leaf itself is merged
+abbrev pub NextIn : Rest → Type 0 → Type 0
+NextIn (plain others) P = ⊤
+NextIn (merging above source target below m) P = ⊤
+NextIn (retiring target below first before) P = P
 
 -- the files of the chain, from the leaf to the base
 abbrev pub files_of : State → List Placed
@@ -115,6 +127,7 @@ is_session l = is_some (log_number l)
 abbrev pub IsLoose : (ℕ → Bool) → Placed → Rest → Type 0
 IsLoose is_dirty top (plain others) = LooseAtTop is_dirty (top ∷ others)
 IsLoose is_dirty top (merging above source target below m) = LooseInMerge is_dirty (top ∷ above) source target below
+IsLoose is_dirty top (retiring target below first before) = LooseInMerge is_dirty [] top target below
 
 -- no file was changed since that moment but those that it may change
 abbrev pub LeavesOthers : State → Trace → Type 0
@@ -162,8 +175,59 @@ pub record IsUnder (z : ℕ) (writes : ℕ → Bool) (layers : Layers) (u : Unde
 abbrev pub IsCourse : ℕ → (ℕ → Bool) → Layers → Option Underway → Placed → Rest → Type 0
 IsCourse z writes layers None top (plain others) = ⊤
 IsCourse z writes layers None top (merging above source target below m) = ⊥
+IsCourse z writes layers None top (retiring target below first before) = ⊤
 IsCourse z writes layers (Some u) top (plain others) = ⊥
 IsCourse z writes layers (Some u) top (merging above source target below m) = IsUnder z writes layers u top above source target m
+IsCourse z writes layers (Some u) top (retiring target below first before) = ⊥
+
+-- ---- the merge of the leaf
+
+-- a file's ties with this name for the file that stands for it, or with none
+abbrev pub with_retired : Option (List ℕ) → Placed → Ties
+with_retired name file = record (file.member.ties) { retired = name }
+
+-- These pages give a file this retired name, or take it away: it is tied else as before.
+pub record Renames (table_len : ℕ) (pages : List Page) (file : Placed) (name : Option (List ℕ)) : Type 0 where
+  pub region : List ℕ
+  pub into : TurnsInto table_len pages file (with_retired name file) region
+
+-- a file has no retired name, or these pages take it away
+abbrev pub IsCleared : ℕ → Option (List Page) → Placed → Type 0
+IsCleared table_len None file = file.member.ties.retired ≡ None
+IsCleared table_len (Some pages) file = Renames table_len pages file None
+
+-- what the layer of the target goes by: the first below the leaf
+abbrev pub target_parts : List FileLayer → Option TableParts
+target_parts below = slice_index_or (map (λ l. Some (table_parts l)) below) 0 None
+
+-- A merge of the leaf that the code keeps is the one under way: the leaf is what it was with the calls made on it, and what it owns in a
+-- stripe that is marked is in the target; each stripe has its stamp. The pages that it keeps retire the leaf in favour of the target, and
+-- take the target's own retired name away.
+pub record IsLeaving (z : ℕ) (writes : ℕ → Bool) (h : History) (layers : Layers) (r : Retiring) (top target : Placed) (first before : SectorLayer) : Type 0 where
+  pub some : 0 < per_stripe z
+  pub written : writes target.number ≡ true
+  pub parts : TableParts
+  pub goes_by : option_map (λ (l : Layer). l.tables.parts) layers.leaf ≡ Some parts
+  pub retires : Renames parts.bat_len r.retire top (Some target.member.name)
+  pub lower : TableParts
+  pub lower_goes_by : target_parts layers.below.items ≡ Some lower
+  pub clears : IsCleared lower.bat_len r.clear target
+  pub each : r.marks.stripes ≡ stripe_count z top.member.ties.geometry.sectors
+  pub stamps : (t : ℕ) → t < stripe_count z top.member.ties.geometry.sectors → stamps_of r.stamps t ≡ stamp z h t
+  pub under_way : IsUnderWay z first before h (marks_of r.marks) top.member.layer target.member.layer
+
+-- the code keeps one where one is under way
+abbrev pub IsRetiring : ℕ → (ℕ → Bool) → History → Layers → Option Retiring → Placed → Rest → Type 0
+IsRetiring z writes h layers None top (plain others) = ⊤
+IsRetiring z writes h layers None top (merging above source target below m) = ⊤
+IsRetiring z writes h layers None top (retiring target below first before) = ⊥
+IsRetiring z writes h layers (Some r) top (plain others) = ⊥
+IsRetiring z writes h layers (Some r) top (merging above source target below m) = ⊥
+IsRetiring z writes h layers (Some r) top (retiring target below first before) = IsLeaving z writes h layers r top target first before
+
+-- The place that the next call has in the history: it is asked where the leaf itself is merged, for the stamps.
+abbrev pub IsNextPlace : ℕ → State → Type 0
+IsNextPlace place v = NextIn v.rest (place ≡ length v.history + 1)
 
 -- A session in which no change failed: the history's disk is that of its files, which its layers have; only the leaf has loose sectors,
 -- which are dirty ones, and the target of a merge under way, of those that its source owns; and each moment since it began opens to a
@@ -174,6 +238,7 @@ pub record IsServing (layers : Layers) (v : State) (trace : Trace) : Type 0 wher
   pub served : IsServed (sector_of v) v.opening v.history v.leaf v.retired (files_of v) trace
   pub loose : IsLoose (dirty_now v) v.top v.rest
   pub course : IsCourse (sector_of v) v.writes layers layers.merge v.top v.rest
+  pub leaving : IsRetiring (sector_of v) v.writes v.history layers layers.retiring v.top v.rest
   pub held : AreHeld layers.leaf layers.below.items trace v.top (others_of v.rest)
   -- each sector of the disk is in one of the files
   pub whole : (s : ℕ) → s < v.top.member.ties.geometry.sectors → is_some (seen_in (files_of v) s) ≡ true

@@ -1,19 +1,20 @@
 //! The session of a chain.
 
-ghost use Rattle.std.specs.Prelude.{◌≡◌, ◌+◌, ◌-◌, ◌*◌, ◌/◌, ◌%◌, ◌<◌, ◌++◌, ◌∷◌, [], Ok, Err, true, false, None, Some, length, take, is_some, option_map, IfErr, IfNone, IfOk, IfSome, IsTrue, OnErr, OnOk};
+ghost use Rattle.std.specs.Prelude.{◌≡◌, ◌+◌, ◌-◌, ◌*◌, ◌/◌, ◌%◌, ◌<◌, ◌≤◌, ◌++◌, ◌∷◌, [], Ok, Err, true, false, None, Some, length, take, is_some, option_map, IfErr, IfNone, IfOk, IfSome, IsTrue, OnErr, OnOk};
 ghost use Rattle.guest_model.specs.declared.call.Call.TheVariants as calls;
 ghost use Rattle.guest_model.specs.Calls.{call_of, entry_of};
 ghost use Rattle.chain_core.specs.Answering.{AnswersTold, ClosesTold, HasCause, HasReadCause, HasRoom, IsDurable, Notes, answer_of, as_read, breaking, breaks, refusal_of};
 ghost use Rattle.chain_core.specs.Ending.{IsOfSession, SomeChangeFailed};
-ghost use Rattle.chain_core.specs.Copying.{FetchCause, FetchTold, FitsDisk, HasEachStripe, IfStopped, IsMissing, IsOfStripe, PieceTold, PutCause, TargetRoomIs, fetch_refused, merge_refused, no_piece, no_stripe, put_refused, refused_by};
+ghost use Rattle.chain_core.specs.Copying.{FetchCause, FetchTold, FitsDisk, HasEachStripe, IfStopped, IsMissing, IsOfStripe, MergeFollows, PieceTold, PutCause, TargetRoomIs, fetch_refused, stamp_of, merge_refused, no_piece, no_stripe, put_refused, refused_by};
 ghost use Rattle.chain_core.specs.Finished.{FinishCause, FinishTold, IsJudged};
 ghost use Rattle.chain_core.specs.Events.{HasWholeSectors, IsCaused, RepliesBy, answer_by, placed};
 ghost use Rattle.chain_core.specs.Reading.{Finds};
 ghost use Rattle.chain_core.specs.Refusing.{IfRefused, counted, is_read, misplaced, range_of, fill, refused, unfit};
 ghost use Rattle.merge_plan.specs.Attached.{CanStart};
+ghost use Rattle.chain_core.specs.LeafStarting.{HasStartedLeafMerge, RefusesLeafMerge};
 ghost use Rattle.chain_core.specs.MergeStarting.{HasStartedMerge, RefusesMerge};
 ghost use Rattle.chain_core.specs.Starting.{EachOpensAlike, HasStarted, IsOfDisk, LeavesOthersFrom, RefusesStart};
-ghost use Rattle.chain_core.specs.Sessions.{IsCounted, IsSound, seen};
+ghost use Rattle.chain_core.specs.Sessions.{IsCounted, IsSound, KeepsMerge, kept_marks, leaf_number, seen};
 
 use crate::answer::Answer;
 use crate::layers::{Layers, changed};
@@ -104,6 +105,39 @@ impl<S: Store, R: Recorder> Chain<S, R> {
         ensures err { IfErr result (λ refused. RefusesMerge files.now source.now (S.disk store) (S.disk refused.0) (I.drawn ids.old) (I.drawn ids.new) refused.1) }
     {
         match Layers::start_merge(alloc, &mut store, files, source, ids) {
+            Ok(layers) => Ok(Chain {
+                store,
+                recorder,
+                layers,
+                events: 0,
+                broken: None,
+            }),
+            Err(refusal) => Err((store, refusal)),
+        }
+    }
+
+    /// A session over these files of the store, with no call yet, in which the leaf is merged into its parent, which is to stand for it.
+    /// The sessions of both begin, under new identifiers, and between them the leaf is linked to its parent by the parent's old and new
+    /// identifier. A refused one gives the store back; whatever is answered, the files open to the disk that they had, and only these two
+    /// were changed.
+    pub fn start_leaf_merge<I: Ids>(
+        alloc: Global,
+        mut store: S,
+        files: &[LinkedFile],
+        recorder: R,
+        ids: &mut I,
+    ) -> Result<Chain<S, R>, (S, MergeStartRefusal)>
+        requires files { CanStart files.now (S.disk store) }
+        requires parent { 2 ≤ length files.now }
+        requires empty { R.noted recorder ≡ 0 }
+        ensures sound { IfOk result (λ chain. IsSound (seen S.disk R.noted R.told chain)) }
+        ensures new { IfOk result (λ chain. (chain.events ≡ 0) × (chain.broken ≡ None) × (chain.recorder ≡ recorder)) }
+        ensures started { IfOk result (λ c. HasStartedLeafMerge files.now (S.disk store) (S.disk c.store) (I.drawn ids.old) (I.drawn ids.new) c.layers) }
+        ensures moments { IfOk result (λ chain. EachOpensAlike files.now (S.disk store).told (S.disk chain.store).told) }
+        ensures kept { IfErr result (λ refused. EachOpensAlike files.now (S.disk store).told (S.disk refused.0).told) }
+        ensures err { IfErr result (λ refused. RefusesLeafMerge files.now (S.disk store) (S.disk refused.0) (I.drawn ids.old) (I.drawn ids.new) refused.1) }
+    {
+        match Layers::start_leaf_merge(alloc, &mut store, files, ids) {
             Ok(layers) => Ok(Chain {
                 store,
                 recorder,
@@ -257,6 +291,8 @@ impl<S: Store, R: Recorder> Chain<S, R> {
         ensures events { self.new.events ≡ counted self.old.events }
         ensures geometry { self.new.layers.geometry ≡ self.old.layers.geometry }
         ensures session { is_some self.new.layers.leaf ≡ is_some self.old.layers.leaf }
+        ensures leaf { leaf_number self.new.layers ≡ leaf_number self.old.layers }
+        ensures merge { MergeFollows (fill self.old.layers first out.old) self.old.layers self.new.layers result }
         ensures early { IfRefused (fill self.old.layers first out.old) (seen S.disk R.noted R.told self.old) result (IsCounted self.old self.new) }
         ensures notes { Notes who (fill self.old.layers first out.old) (seen S.disk R.noted R.told self.old) (seen S.disk R.noted R.told self.new) result }
         ensures cause { HasReadCause (fill self.old.layers first out.old) (seen S.disk R.noted R.told self.old) (seen S.disk R.noted R.told self.new) result }
@@ -278,6 +314,8 @@ impl<S: Store, R: Recorder> Chain<S, R> {
         ensures events { self.new.events ≡ counted self.old.events }
         ensures geometry { self.new.layers.geometry ≡ self.old.layers.geometry }
         ensures session { is_some self.new.layers.leaf ≡ is_some self.old.layers.leaf }
+        ensures leaf { leaf_number self.new.layers ≡ leaf_number self.old.layers }
+        ensures merge { MergeFollows (calls.Write first bytes.now) self.old.layers self.new.layers result }
         ensures early { IfRefused (calls.Write first bytes.now) (seen S.disk R.noted R.told self.old) result (IsCounted self.old self.new) }
         ensures notes { Notes who (calls.Write first bytes.now) (seen S.disk R.noted R.told self.old) (seen S.disk R.noted R.told self.new) result }
         ensures cause { HasCause (calls.Write first bytes.now) (seen S.disk R.noted R.told self.old) (seen S.disk R.noted R.told self.new) result }
@@ -286,7 +324,9 @@ impl<S: Store, R: Recorder> Chain<S, R> {
         ensures told { AnswersTold who (calls.Write first bytes.now) (seen S.disk R.noted R.told self.old) (seen S.disk R.noted R.told self.new) result }
     {
         self.accept(who, CallRef::Write { first, bytes })?;
-        let done = self.layers.put(&mut self.store, first, bytes);
+        let done = self
+            .layers
+            .put(&mut self.store, first, bytes, self.recorder.len());
         self.conclude(done)
     }
 
@@ -297,6 +337,8 @@ impl<S: Store, R: Recorder> Chain<S, R> {
         ensures events { self.new.events ≡ counted self.old.events }
         ensures geometry { self.new.layers.geometry ≡ self.old.layers.geometry }
         ensures session { is_some self.new.layers.leaf ≡ is_some self.old.layers.leaf }
+        ensures leaf { leaf_number self.new.layers ≡ leaf_number self.old.layers }
+        ensures merge { MergeFollows (calls.Trim first count) self.old.layers self.new.layers result }
         ensures early { IfRefused (calls.Trim first count) (seen S.disk R.noted R.told self.old) result (IsCounted self.old self.new) }
         ensures notes { Notes who (calls.Trim first count) (seen S.disk R.noted R.told self.old) (seen S.disk R.noted R.told self.new) result }
         ensures cause { HasCause (calls.Trim first count) (seen S.disk R.noted R.told self.old) (seen S.disk R.noted R.told self.new) result }
@@ -305,7 +347,9 @@ impl<S: Store, R: Recorder> Chain<S, R> {
         ensures told { AnswersTold who (calls.Trim first count) (seen S.disk R.noted R.told self.old) (seen S.disk R.noted R.told self.new) result }
     {
         self.accept(who, CallRef::Trim { first, count })?;
-        let done = self.layers.zero(&mut self.store, first, count);
+        let done = self
+            .layers
+            .zero(&mut self.store, first, count, self.recorder.len());
         self.conclude(done)
     }
 
@@ -316,6 +360,8 @@ impl<S: Store, R: Recorder> Chain<S, R> {
         ensures events { self.new.events ≡ counted self.old.events }
         ensures geometry { self.new.layers.geometry ≡ self.old.layers.geometry }
         ensures session { is_some self.new.layers.leaf ≡ is_some self.old.layers.leaf }
+        ensures leaf { leaf_number self.new.layers ≡ leaf_number self.old.layers }
+        ensures merge { MergeFollows calls.Flush self.old.layers self.new.layers result }
         ensures early { IfRefused calls.Flush (seen S.disk R.noted R.told self.old) result (IsCounted self.old self.new) }
         ensures notes { Notes who calls.Flush (seen S.disk R.noted R.told self.old) (seen S.disk R.noted R.told self.new) result }
         ensures cause { HasCause calls.Flush (seen S.disk R.noted R.told self.old) (seen S.disk R.noted R.told self.new) result }
@@ -343,6 +389,8 @@ impl<S: Store, R: Recorder> Chain<S, R> {
         ensures events { self.new.events ≡ counted self.old.events }
         ensures geometry { self.new.layers.geometry ≡ self.old.layers.geometry }
         ensures session { is_some self.new.layers.leaf ≡ is_some self.old.layers.leaf }
+        ensures leaf { leaf_number self.new.layers ≡ leaf_number self.old.layers }
+        ensures merge { MergeFollows (calls.Read first count) self.old.layers self.new.layers result }
         ensures early { IfRefused (calls.Read first count) (seen S.disk R.noted R.told self.old) result (IsCounted self.old self.new) }
         ensures notes { Notes who (calls.Read first count) (seen S.disk R.noted R.told self.old) (seen S.disk R.noted R.told self.new) result }
         ensures cause { HasReadCause (calls.Read first count) (seen S.disk R.noted R.told self.old) (seen S.disk R.noted R.told self.new) result }
@@ -371,6 +419,8 @@ impl<S: Store, R: Recorder> Chain<S, R> {
         ensures events { self.new.events ≡ counted self.old.events }
         ensures geometry { self.new.layers.geometry ≡ self.old.layers.geometry }
         ensures session { is_some self.new.layers.leaf ≡ is_some self.old.layers.leaf }
+        ensures leaf { leaf_number self.new.layers ≡ leaf_number self.old.layers }
+        ensures merge { MergeFollows call.now self.old.layers self.new.layers (placed result) }
         ensures early { IfRefused call.now (seen S.disk R.noted R.told self.old) (placed result) (IsCounted self.old self.new) }
         ensures notes { Notes who call.now (seen S.disk R.noted R.told self.old) (seen S.disk R.noted R.told self.new) (placed result) }
         ensures cause { IsCaused call.now (seen S.disk R.noted R.told self.old) (seen S.disk R.noted R.told self.new) result }
@@ -405,24 +455,24 @@ impl<S: Store, R: Recorder> Chain<S, R> {
         ensures ok { OnOk result (no_stripe stripe self.now.layers ≡ None) }
         ensures err { IfErr result (λ e. no_stripe stripe self.now.layers ≡ Some e) }
     {
-        let Some(merge) = &self.layers.merge else {
+        let Some(marks) = self.layers.marks() else {
             return Err(ChainRefusal::NoMerge);
         };
-        let stripes = merge.marks.stripes();
+        let stripes = marks.stripes();
         if stripe >= stripes {
             return Err(ChainRefusal::NoStripe { stripe, stripes });
         }
         Ok(())
     }
 
-    // A piece was taken, is of a stripe of the merge, and no older than the stripe is. A source that isn't the leaf isn't written: of its
-    // stripes all stamps are 0.
+    // A piece was taken, is of a stripe of the merge, and under the stamp that the stripe has now. A source that isn't the leaf isn't
+    // written: of its stripes all stamps are 0.
     fn judge_piece(&self, piece: &Piece) -> Result<(), ChainRefusal>
         requires { HasEachStripe self.now.layers }
         ensures ok { OnOk result (no_piece piece.now self.now.layers ≡ None) }
         ensures err { IfErr result (λ e. no_piece piece.now self.now.layers ≡ Some e) }
     {
-        if self.layers.merge.is_none() {
+        if self.layers.marks().is_none() {
             return Err(ChainRefusal::NoMerge);
         }
         if !piece.is_filled() {
@@ -430,8 +480,9 @@ impl<S: Store, R: Recorder> Chain<S, R> {
         }
         self.find_stripe(piece.stripe())?;
         let taken = piece.stamp();
-        if taken != 0 {
-            return Err(ChainRefusal::Stale { taken, now: 0 });
+        let now = self.layers.stamp(piece.stripe());
+        if taken != now {
+            return Err(ChainRefusal::Stale { taken, now });
         }
         Ok(())
     }
@@ -444,17 +495,18 @@ impl<S: Store, R: Recorder> Chain<S, R> {
         ensures events { self.new.events ≡ counted self.old.events }
         ensures geometry { self.new.layers.geometry ≡ self.old.layers.geometry }
         ensures session { is_some self.new.layers.leaf ≡ is_some self.old.layers.leaf }
-        ensures merge { self.new.layers.merge ≡ self.old.layers.merge }
+        ensures leaf { leaf_number self.new.layers ≡ leaf_number self.old.layers }
+        ensures merge { KeepsMerge self.old.layers self.new.layers }
         ensures history { self.new.recorder ≡ self.old.recorder }
         ensures early { IfStopped (fetch_refused stripe (seen S.disk R.noted R.told self.old)) result (IsCounted self.old self.new × (piece.new ≡ piece.old)) }
         ensures cause { fetch_refused stripe (seen S.disk R.noted R.told self.old) ≡ None → FetchCause (seen S.disk R.noted R.told self.old) (seen S.disk R.noted R.told self.new) piece.new result }
-        ensures taken { OnOk result (IsOfStripe self.old.layers.geometry stripe piece.new) }
+        ensures taken { OnOk result (IsOfStripe self.old.layers.geometry stripe (stamp_of self.old.layers stripe) piece.new) }
         ensures told { FetchTold piece.new (seen S.disk R.noted R.told self.old) (seen S.disk R.noted R.told self.new) result }
     {
         self.admit()?;
         self.find_stripe(stripe)?;
         match self.layers.take(&mut self.store, stripe, piece) {
-            Ok(()) => Ok(0),
+            Ok(()) => Ok(piece.stamp()),
             Err(fault) => Err(ChainRefusal::ReadFault {
                 file: fault.file,
                 count: fault.count,
@@ -471,6 +523,7 @@ impl<S: Store, R: Recorder> Chain<S, R> {
         ensures geometry { self.new.layers.geometry ≡ self.old.layers.geometry }
         ensures session { is_some self.new.layers.leaf ≡ is_some self.old.layers.leaf }
         ensures history { self.new.recorder ≡ self.old.recorder }
+        ensures leaf { leaf_number self.new.layers ≡ leaf_number self.old.layers }
         ensures early { IfStopped (put_refused piece.now (seen S.disk R.noted R.told self.old)) result (IsCounted self.old self.new) }
         ensures cause { put_refused piece.now (seen S.disk R.noted R.told self.old) ≡ None → PutCause piece.now (seen S.disk R.noted R.told self.old) (seen S.disk R.noted R.told self.new) result }
         ensures room { put_refused piece.now (seen S.disk R.noted R.told self.old) ≡ None → TargetRoomIs piece.now self.old.layers (S.disk self.old.store) result }
@@ -484,19 +537,21 @@ impl<S: Store, R: Recorder> Chain<S, R> {
 
     // Each stripe of the merge is copied; refused where none is under way, or a stripe isn't.
     fn judge_marks(&self) -> Result<(), ChainRefusal>
-        ensures { IsJudged self.now.layers.merge result }
+        ensures { IsJudged (kept_marks self.now.layers) result }
     {
-        let Some(merge) = &self.layers.merge else {
+        let Some(marks) = self.layers.marks() else {
             return Err(ChainRefusal::NoMerge);
         };
-        match merge.marks.missing() {
+        match marks.missing() {
             Some(stripe) => Err(ChainRefusal::NotYet { stripe }),
             None => Ok(()),
         }
     }
 
     /// Finishes the merge, whose stripes are all copied: the target and the file directly above the source are committed, that file is
-    /// linked to the target, and the source leaves the chain. A change that fails breaks the session.
+    /// linked to the target, and the source leaves the chain. Where the leaf is the source, leaf and target are committed, the leaf is
+    /// retired in favour of the target, and the target is the leaf from then on, under a new identifier. A change that fails breaks the
+    /// session.
     pub fn finish(&mut self) -> Result<(), ChainRefusal>
         requires sound { IsSound (seen S.disk R.noted R.told self.old) }
         ensures sound { IsSound (seen S.disk R.noted R.told self.new) }
@@ -534,7 +589,7 @@ impl<S: Store, R: Recorder> Chain<S, R> {
         ensures err { IfErr result (λ e. merge_refused (seen S.disk R.noted R.told self.now) ≡ Some e) }
     {
         self.check_fit()?;
-        if self.layers.merge.is_none() {
+        if self.layers.marks().is_none() {
             return Err(ChainRefusal::NoMerge);
         }
         Ok(())
@@ -542,10 +597,10 @@ impl<S: Store, R: Recorder> Chain<S, R> {
 
     /// The lowest stripe that isn't copied; none where all are, or no merge is under way.
     pub fn missing(&self) -> Option<u32>
-        ensures { IsMissing self.now.layers.merge result }
+        ensures { IsMissing (kept_marks self.now.layers) result }
     {
-        match &self.layers.merge {
-            Some(merge) => merge.marks.missing(),
+        match self.layers.marks() {
+            Some(marks) => marks.missing(),
             None => None,
         }
     }

@@ -1,17 +1,17 @@
 //! Stripes are copied, of a merge that is under way.
 
-ghost use Rattle.std.specs.Prelude.{◌≡◌, ◌<◌, ◌+◌, ◌^◌, ℕ, true, false, is_some, length, map, IfErr, IfSome, OnErr, OnOk};
+ghost use Rattle.std.specs.Prelude.{◌≡◌, ◌<◌, ◌+◌, ◌^◌, ℕ, true, false, None, is_some, length, map, IfErr, IfSome, OnErr, OnOk};
 ghost use Rattle.chain_model.specs.Stripes.{stripe_count};
 ghost use Rattle.layer_session.specs.Calls.{Fails};
 ghost use Rattle.layer_session.specs.ReadOnly.{SomeReadFailed};
 ghost use Rattle.layer_session.specs.FileLayers.{AreReadyFiles, log_number};
 ghost use Rattle.merge_core.specs.Pieces.{piece_of};
 ghost use Rattle.chain_core.specs.Answering.{UnlessBroken};
-ghost use Rattle.chain_core.specs.Copying.{AreLow, FitsDisk, HasMarked, MarksIn, PutRoomIs, PutTold, PutsAt, Takes, source_number, target_layer, target_number};
+ghost use Rattle.chain_core.specs.Copying.{AreLow, FitsDisk, HasMarked, MarksIn, MarksToo, PutRoomIs, PutTold, PutsAt, Takes, source_number, stamp_of, target_layer, target_number};
 ghost use Rattle.chain_core.specs.Reading.{HasOnlyRead};
-ghost use Rattle.chain_core.specs.Sessions.{AreReady, IsLow, is_session_at};
+ghost use Rattle.chain_core.specs.Sessions.{AreReady, IsLow, has_merge, leaf_number, is_session_at};
 
-use crate::layers::{Layers, Underway};
+use crate::layers::{Layers, Retiring, Underway};
 use layer_session::{FileLayer, LayerFault};
 use merge_core::{Piece, put_piece};
 use store_model::{Store, StoreFault};
@@ -26,6 +26,33 @@ impl Layers {
         piece: &mut Piece,
     ) -> Result<(), StoreFault>
         requires ready { AreReady self.old (S.disk store.old) }
+        requires merge { has_merge self.old ≡ true }
+        requires stripe { stripe < stripe_count self.old.geometry.sector self.old.geometry.sectors }
+        ensures reads { HasOnlyRead self.old self.new (S.disk store.old) (S.disk store.new) }
+        ensures filled { OnOk result (piece.new.filled ≡ true) }
+        ensures empty { OnErr result (piece.new.filled ≡ false) }
+        ensures fits { OnOk result (FitsDisk self.old.geometry piece.new) }
+        ensures stripe { OnOk result (piece.new.stripe ≡ stripe) }
+        ensures stamp { OnOk result (piece.new.stamp ≡ stamp_of self.old stripe) }
+        ensures taken { OnOk result (Takes self.old (S.disk store.old) (piece_of piece.new)) }
+        ensures stays { OnOk result (S.disk store.new ≡ S.disk store.old) }
+        ensures err { IfErr result (SomeReadFailed (S.disk store.old) (S.disk store.new)) }
+        ensures whose { IfErr result (λ fault. fault.file ≡ source_number self.old) }
+    {
+        match &self.merge {
+            Some(_) => self.take_below(store, stripe, piece),
+            None => self.take_leaf(store, stripe, piece),
+        }
+    }
+
+    // The same of a merge below the leaf.
+    fn take_below<S: Store>(
+        &mut self,
+        store: &mut S,
+        stripe: u32,
+        piece: &mut Piece,
+    ) -> Result<(), StoreFault>
+        requires ready { AreReady self.old (S.disk store.old) }
         requires merge { is_some self.old.merge ≡ true }
         requires stripe { stripe < stripe_count self.old.geometry.sector self.old.geometry.sectors }
         ensures reads { HasOnlyRead self.old self.new (S.disk store.old) (S.disk store.new) }
@@ -33,7 +60,7 @@ impl Layers {
         ensures empty { OnErr result (piece.new.filled ≡ false) }
         ensures fits { OnOk result (FitsDisk self.old.geometry piece.new) }
         ensures stripe { OnOk result (piece.new.stripe ≡ stripe) }
-        ensures stamp { OnOk result (piece.new.stamp ≡ 0) }
+        ensures stamp { OnOk result (piece.new.stamp ≡ stamp_of self.old stripe) }
         ensures taken { OnOk result (Takes self.old (S.disk store.old) (piece_of piece.new)) }
         ensures stays { OnOk result (S.disk store.new ≡ S.disk store.old) }
         ensures err { IfErr result (SomeReadFailed (S.disk store.old) (S.disk store.new)) }
@@ -46,6 +73,35 @@ impl Layers {
         piece.take(store, source, self.geometry, stripe, 0)
     }
 
+    // And of the merge of the leaf.
+    fn take_leaf<S: Store>(
+        &mut self,
+        store: &mut S,
+        stripe: u32,
+        piece: &mut Piece,
+    ) -> Result<(), StoreFault>
+        requires ready { AreReady self.old (S.disk store.old) }
+        requires none { self.old.merge ≡ None }
+        requires merge { is_some self.old.retiring ≡ true }
+        requires stripe { stripe < stripe_count self.old.geometry.sector self.old.geometry.sectors }
+        ensures reads { HasOnlyRead self.old self.new (S.disk store.old) (S.disk store.new) }
+        ensures filled { OnOk result (piece.new.filled ≡ true) }
+        ensures empty { OnErr result (piece.new.filled ≡ false) }
+        ensures fits { OnOk result (FitsDisk self.old.geometry piece.new) }
+        ensures stripe { OnOk result (piece.new.stripe ≡ stripe) }
+        ensures stamp { OnOk result (piece.new.stamp ≡ stamp_of self.old stripe) }
+        ensures taken { OnOk result (Takes self.old (S.disk store.old) (piece_of piece.new)) }
+        ensures stays { OnOk result (S.disk store.new ≡ S.disk store.old) }
+        ensures err { IfErr result (SomeReadFailed (S.disk store.old) (S.disk store.new)) }
+        ensures whose { IfErr result (λ fault. fault.file ≡ source_number self.old) }
+    {
+        let stamp = self.stamp(stripe);
+        match &mut self.leaf {
+            Some(leaf) => piece.take_own(store, leaf, self.geometry, stripe, stamp),
+            None => Ok(()),
+        }
+    }
+
     /// Puts a piece into the target of the merge, and marks its stripe.
     pub(crate) fn put_piece<S: Store>(
         &mut self,
@@ -54,14 +110,41 @@ impl Layers {
     ) -> Result<(), LayerFault>
         requires ready { AreReady self.old (S.disk store.old) }
         requires low { IsLow (2 ^ 63 + 3) self.old }
-        requires merge { is_some self.old.merge ≡ true }
+        requires merge { has_merge self.old ≡ true }
         requires fits { FitsDisk self.old.geometry piece.now }
         requires stripe { piece.now.stripe < stripe_count self.old.geometry.sector self.old.geometry.sectors }
-        requires stamp { piece.now.stamp ≡ 0 }
+        requires stamp { piece.now.stamp ≡ stamp_of self.old piece.now.stripe }
         ensures told { PutTold (piece_of piece.now) self.old self.new (S.disk store.old) (S.disk store.new) result }
         ensures ready { UnlessBroken result (AreReady self.new (S.disk store.new)) }
         ensures low { (most : ℕ) → IsLow most self.old → IsLow (most + 1) self.new }
         ensures session { is_some self.new.leaf ≡ is_some self.old.leaf }
+        ensures leaf { leaf_number self.new ≡ leaf_number self.old }
+        ensures geometry { self.new.geometry ≡ self.old.geometry }
+        ensures marked { HasMarked piece.now.stripe self.old self.new result }
+        ensures counts { OnOk result (S.disk store.new ≡ record (S.disk store.old) { told = (S.disk store.new).told }) }
+        ensures err { IfErr result (Fails (target_number self.old) (S.disk store.old) (S.disk store.new)) }
+        ensures within { target_number self.old < (S.disk store.old).files }
+        ensures room { IfSome (target_layer self.old) (λ l. PutRoomIs piece.now l (S.disk store.old) result) }
+    {
+        match &self.merge {
+            Some(_) => self.put_below(store, piece),
+            None => self.put_behind(store, piece),
+        }
+    }
+
+    // The same of a merge below the leaf.
+    fn put_below<S: Store>(&mut self, store: &mut S, piece: &Piece) -> Result<(), LayerFault>
+        requires ready { AreReady self.old (S.disk store.old) }
+        requires low { IsLow (2 ^ 63 + 3) self.old }
+        requires merge { is_some self.old.merge ≡ true }
+        requires fits { FitsDisk self.old.geometry piece.now }
+        requires stripe { piece.now.stripe < stripe_count self.old.geometry.sector self.old.geometry.sectors }
+        requires stamp { piece.now.stamp ≡ stamp_of self.old piece.now.stripe }
+        ensures told { PutTold (piece_of piece.now) self.old self.new (S.disk store.old) (S.disk store.new) result }
+        ensures ready { UnlessBroken result (AreReady self.new (S.disk store.new)) }
+        ensures low { (most : ℕ) → IsLow most self.old → IsLow (most + 1) self.new }
+        ensures session { is_some self.new.leaf ≡ is_some self.old.leaf }
+        ensures leaf { leaf_number self.new ≡ leaf_number self.old }
         ensures geometry { self.new.geometry ≡ self.old.geometry }
         ensures marked { HasMarked piece.now.stripe self.old self.new result }
         ensures counts { OnOk result (S.disk store.new ≡ record (S.disk store.old) { told = (S.disk store.new).told }) }
@@ -80,15 +163,54 @@ impl Layers {
         }
         done
     }
+
+    // And of the merge of the leaf, whose target is the file behind it.
+    fn put_behind<S: Store>(&mut self, store: &mut S, piece: &Piece) -> Result<(), LayerFault>
+        requires ready { AreReady self.old (S.disk store.old) }
+        requires low { IsLow (2 ^ 63 + 3) self.old }
+        requires none { self.old.merge ≡ None }
+        requires merge { is_some self.old.retiring ≡ true }
+        requires fits { FitsDisk self.old.geometry piece.now }
+        requires stripe { piece.now.stripe < stripe_count self.old.geometry.sector self.old.geometry.sectors }
+        requires stamp { piece.now.stamp ≡ stamp_of self.old piece.now.stripe }
+        ensures told { PutTold (piece_of piece.now) self.old self.new (S.disk store.old) (S.disk store.new) result }
+        ensures ready { UnlessBroken result (AreReady self.new (S.disk store.new)) }
+        ensures low { (most : ℕ) → IsLow most self.old → IsLow (most + 1) self.new }
+        ensures session { is_some self.new.leaf ≡ is_some self.old.leaf }
+        ensures leaf { leaf_number self.new ≡ leaf_number self.old }
+        ensures geometry { self.new.geometry ≡ self.old.geometry }
+        ensures marked { HasMarked piece.now.stripe self.old self.new result }
+        ensures counts { OnOk result (S.disk store.new ≡ record (S.disk store.old) { told = (S.disk store.new).told }) }
+        ensures err { IfErr result (Fails (target_number self.old) (S.disk store.old) (S.disk store.new)) }
+        ensures within { target_number self.old < (S.disk store.old).files }
+        ensures room { IfSome (target_layer self.old) (λ l. PutRoomIs piece.now l (S.disk store.old) result) }
+    {
+        let below = self.below.as_mut_slice();
+        let done = put_at(below, store, 0, self.geometry, piece);
+        if done.is_ok() {
+            mark_too(&mut self.retiring, piece.stripe());
+        }
+        done
+    }
 }
 
-// Marks a stripe of the merge.
+// Marks a stripe of the merge of a file below the leaf.
 fn mark(merge: &mut Option<Underway>, stripe: u32)
     requires { IfSome merge.old (λ u. stripe < u.marks.stripes) }
     ensures marks { MarksIn stripe merge.old merge.new }
 {
     if let Some(merge) = merge {
         merge.marks.mark(stripe);
+    }
+}
+
+// And of that of the leaf.
+fn mark_too(retiring: &mut Option<Retiring>, stripe: u32)
+    requires { IfSome retiring.old (λ r. stripe < r.marks.stripes) }
+    ensures marks { MarksToo stripe retiring.old retiring.new }
+{
+    if let Some(retiring) = retiring {
+        retiring.marks.mark(stripe);
     }
 }
 

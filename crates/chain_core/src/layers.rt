@@ -1,6 +1,6 @@
 //! The layers of a chain's files.
 
-ghost use Rattle.std.specs.Prelude.{◌≡◌, ◌≤◌, ◌+◌, ◌*◌, ◌/◌, ◌%◌, ◌^◌, ℕ, true, false, not, None, Ok, length, is_some, IfErr, OnOk};
+ghost use Rattle.std.specs.Prelude.{◌≡◌, ◌≤◌, ◌+◌, ◌*◌, ◌/◌, ◌%◌, ◌^◌, ℕ, true, false, not, None, Ok, length, is_some, option_map, ◌<◌, IfErr, IfSome, OnOk};
 ghost use Rattle.guest_model.specs.declared.call.Call.TheVariants as calls;
 ghost use Rattle.layer_session.specs.declared.file.Layer.{Layer};
 ghost use Rattle.layer_session.specs.Calls.{Fails};
@@ -11,13 +11,15 @@ ghost use Rattle.layer_session.specs.FileLayers.{AreOthers, file_numbers};
 ghost use Rattle.store_model.specs.Disk.{WhereBothTold};
 ghost use Rattle.chain_core.specs.Ending.{AreAllReady, AreNumbered, EndsOnTold, IsInSession, IsOfSession, SomeChangeFailed};
 ghost use Rattle.chain_core.specs.Reading.{AddsPart, Finds, HasOnlyRead, of_read, of_session};
-ghost use Rattle.chain_core.specs.Sessions.{AreApart, AreReady, IsLow};
+ghost use Rattle.chain_core.specs.Copying.{IsSized, LayerFollows, TouchesIf, stamp_of};
+ghost use Rattle.chain_core.specs.Sessions.{AreApart, AreReady, IsLow, KeepsMerge, kept_marks, leaf_number};
+ghost use Rattle.vhdx_format.specs.AllocationTables.{IsSectorSize};
 
 use layer_session::{FileLayer, Layer, LayerFault, own_files};
-use merge_core::Marks;
+use merge_core::{Marks, Stamps, stripes_touched};
 use meta_edit::Updates;
 use store_model::{Store, StoreFault};
-use vx_base::Geometry;
+use vx_base::{Geometry, Guid};
 
 /// A merge that is under way, of the file at a place below the leaf into the one behind it.
 #[derive(Drop)]
@@ -30,6 +32,21 @@ pub struct Underway {
     pub(crate) relink: Updates,
 }
 
+/// A merge of the leaf that is under way, into the file behind it, which is to stand for it.
+#[derive(Drop)]
+pub struct Retiring {
+    /// Which stripes are copied.
+    pub(crate) marks: Marks,
+    /// When each was last changed: the place of that call in the history.
+    pub(crate) stamps: Stamps,
+    /// The pages that take the target's own retired name away, if it has one.
+    pub(crate) clear: Option<Updates>,
+    /// The pages that retire the leaf in favour of the target.
+    pub(crate) retire: Updates,
+    /// The identifier that the target's data get once it is the leaf.
+    pub(crate) third: Guid,
+}
+
 /// The layers of a chain's files, whose disk has this geometry.
 #[derive(Drop)]
 pub struct Layers {
@@ -38,11 +55,60 @@ pub struct Layers {
     pub(crate) leaf: Option<Layer>,
     /// The other files, the upper one first: those below the leaf's session, or all.
     pub(crate) below: Vec<FileLayer>,
-    /// The merge, once one is prepared and until it is finished.
+    /// The merge of a file below the leaf, once one is prepared and until it is finished.
     pub(crate) merge: Option<Underway>,
+    /// Or that of the leaf.
+    pub(crate) retiring: Option<Retiring>,
+}
+
+// Where a call was done that has this place in the history, the stripes of its sectors were changed.
+fn touch(
+    retiring: &mut Option<Retiring>,
+    is_done: bool,
+    geometry: Geometry,
+    first: u64,
+    count: u64,
+    place: u64,
+)
+    requires sector { IsSectorSize geometry.sector }
+    requires on_disk { first + count ≤ geometry.sectors }
+    requires each { IfSome retiring.old (IsSized geometry) }
+    ensures { TouchesIf is_done geometry.sector (calls.Trim first count) place retiring.old retiring.new }
+{
+    let Some(retiring) = retiring else {
+        return;
+    };
+    if !is_done || count == 0 {
+        return;
+    }
+    let (low, high) = stripes_touched(first, count, geometry);
+    retiring.marks.unmark_range(low, high);
+    retiring.stamps.set_range(low, high, place);
 }
 
 impl Layers {
+    /// Which stripes are copied, of the merge that is under way.
+    pub(crate) fn marks(&self) -> Option<&Marks>
+        ensures { option_map (λ m. m.now) result ≡ kept_marks self.now }
+    {
+        match (&self.merge, &self.retiring) {
+            (Some(merge), _) => Some(&merge.marks),
+            (None, Some(retiring)) => Some(&retiring.marks),
+            (None, None) => None,
+        }
+    }
+
+    /// The stamp of a stripe: 0 where the leaf isn't the source.
+    pub(crate) fn stamp(&self, stripe: u32) -> u64
+        requires { IfSome self.now.retiring (λ r. stripe < length r.stamps.words.items) }
+        ensures { result ≡ stamp_of self.now stripe }
+    {
+        match &self.retiring {
+            Some(retiring) => retiring.stamps.get(stripe),
+            None => 0,
+        }
+    }
+
     /// Whether the leaf has a session.
     pub fn has_session(&self) -> bool
         ensures { result ≡ is_some self.now.leaf }
@@ -118,76 +184,102 @@ impl Layers {
         self.own_below(store, first, count, out, &mut mask)
     }
 
-    /// Writes sectors into the leaf.
+    /// Writes sectors into the leaf, by the call that has this place in the history.
     pub fn put<S: Store>(
         &mut self,
         store: &mut S,
         first: u64,
         bytes: &[u8],
+        place: u64,
     ) -> Result<(), LayerFault>
         requires session { is_some self.old.leaf ≡ true }
         requires ready { AreReady self.old (S.disk store.old) }
-        requires low { IsLow (2 ^ 63 + 3) self.old }
+        requires low { IsLow (2 ^ 63 + 4) self.old }
         requires whole { length bytes.now % self.old.geometry.sector ≡ 0 }
         requires on_disk { first + length bytes.now / self.old.geometry.sector ≤ self.old.geometry.sectors }
         requires few { length bytes.now / self.old.geometry.sector ≤ 2048 }
-        ensures told { LayerTold (calls.Write first bytes.now) self.old self.new (S.disk store.old) (S.disk store.new) result }
+        ensures told { LayerTold place (calls.Write first bytes.now) self.old self.new (S.disk store.old) (S.disk store.new) result }
         ensures ready { UnlessBroken result (AreReady self.new (S.disk store.new)) }
         ensures low { (most : ℕ) → IsLow most self.old → IsLow (most + 1) self.new }
         ensures session { is_some self.new.leaf ≡ true }
         ensures geometry { self.new.geometry ≡ self.old.geometry }
-        ensures merge { self.new.merge ≡ self.old.merge }
+        ensures leaf { leaf_number self.new ≡ leaf_number self.old }
+        ensures merge { LayerFollows place (calls.Write first bytes.now) self.old self.new result }
         ensures counts { OnOk result (S.disk store.new ≡ record (S.disk store.old) { told = (S.disk store.new).told }) }
-        ensures err { IfErr result (Fails 0 (S.disk store.old) (S.disk store.new)) }
+        ensures err { IfErr result (Fails (leaf_number self.old) (S.disk store.old) (S.disk store.new)) }
         ensures room { LayerRoomIs (λ leaf. false) first (length bytes.now / self.old.geometry.sector) self.old (S.disk store.old) result }
     {
-        match &mut self.leaf {
-            Some(leaf) => leaf.put(store, first, bytes),
-            None => Ok(()),
-        }
+        let Some(leaf) = &mut self.leaf else {
+            return Ok(());
+        };
+        let done = leaf.put(store, first, bytes);
+        let count = bytes.len() as u64 / u64::from(self.geometry.sector);
+        let geometry = self.geometry;
+        touch(
+            &mut self.retiring,
+            done.is_ok(),
+            geometry,
+            first,
+            count,
+            place,
+        );
+        done
     }
 
-    /// Makes sectors zeros in the leaf.
+    /// Makes sectors zeros in the leaf, by the call that has this place in the history.
     pub fn zero<S: Store>(
         &mut self,
         store: &mut S,
         first: u64,
         count: u64,
+        place: u64,
     ) -> Result<(), LayerFault>
         requires session { is_some self.old.leaf ≡ true }
         requires ready { AreReady self.old (S.disk store.old) }
-        requires low { IsLow (2 ^ 63 + 3) self.old }
+        requires low { IsLow (2 ^ 63 + 4) self.old }
         requires on_disk { first + count ≤ self.old.geometry.sectors }
         requires few { count ≤ 524288 }
-        ensures told { LayerTold (calls.Trim first count) self.old self.new (S.disk store.old) (S.disk store.new) result }
+        ensures told { LayerTold place (calls.Trim first count) self.old self.new (S.disk store.old) (S.disk store.new) result }
         ensures ready { UnlessBroken result (AreReady self.new (S.disk store.new)) }
         ensures low { (most : ℕ) → IsLow most self.old → IsLow (most + 1) self.new }
         ensures session { is_some self.new.leaf ≡ true }
         ensures geometry { self.new.geometry ≡ self.old.geometry }
-        ensures merge { self.new.merge ≡ self.old.merge }
+        ensures leaf { leaf_number self.new ≡ leaf_number self.old }
+        ensures merge { LayerFollows place (calls.Trim first count) self.old self.new result }
         ensures counts { OnOk result (S.disk store.new ≡ record (S.disk store.old) { told = (S.disk store.new).told }) }
-        ensures err { IfErr result (Fails 0 (S.disk store.old) (S.disk store.new)) }
+        ensures err { IfErr result (Fails (leaf_number self.old) (S.disk store.old) (S.disk store.new)) }
         ensures room { LayerRoomIs (λ (leaf : Layer). not leaf.leave) first count self.old (S.disk store.old) result }
     {
-        match &mut self.leaf {
-            Some(leaf) => leaf.zero(store, first, count),
-            None => Ok(()),
-        }
+        let Some(leaf) = &mut self.leaf else {
+            return Ok(());
+        };
+        let done = leaf.zero(store, first, count);
+        let geometry = self.geometry;
+        touch(
+            &mut self.retiring,
+            done.is_ok(),
+            geometry,
+            first,
+            count,
+            place,
+        );
+        done
     }
 
     /// Commits the leaf.
     pub fn commit<S: Store>(&mut self, store: &mut S) -> Result<(), LayerFault>
         requires session { is_some self.old.leaf ≡ true }
         requires ready { AreReady self.old (S.disk store.old) }
-        requires low { IsLow (2 ^ 63 + 3) self.old }
-        ensures told { LayerTold calls.Flush self.old self.new (S.disk store.old) (S.disk store.new) result }
+        requires low { IsLow (2 ^ 63 + 4) self.old }
+        ensures told { (place : ℕ) → LayerTold place calls.Flush self.old self.new (S.disk store.old) (S.disk store.new) result }
         ensures ready { UnlessBroken result (AreReady self.new (S.disk store.new)) }
         ensures low { UnlessBroken result ((most : ℕ) → IsLow most self.old → IsLow (most + 1) self.new) }
         ensures session { is_some self.new.leaf ≡ true }
         ensures geometry { self.new.geometry ≡ self.old.geometry }
-        ensures merge { self.new.merge ≡ self.old.merge }
+        ensures leaf { leaf_number self.new ≡ leaf_number self.old }
+        ensures merge { KeepsMerge self.old self.new }
         ensures counts { OnOk result (S.disk store.new ≡ record (S.disk store.old) { told = (S.disk store.new).told }) }
-        ensures err { IfErr result (Fails 0 (S.disk store.old) (S.disk store.new)) }
+        ensures err { IfErr result (Fails (leaf_number self.old) (S.disk store.old) (S.disk store.new)) }
         ensures change { FailsByChange result }
     {
         match &mut self.leaf {
@@ -199,7 +291,7 @@ impl Layers {
     /// Ends the session of every file that has one, from the base upward, the leaf last; nothing where the leaf has none.
     pub fn end<S: Store>(self, store: &mut S) -> Result<(), StoreFault>
         requires ready { AreReady self (S.disk store.old) }
-        requires low { IsLow (2 ^ 63 + 3) self }
+        requires low { IsLow (2 ^ 63 + 4) self }
         ensures told { EndsTold self (S.disk store.old) (S.disk store.new) result }
         ensures read { self.leaf ≡ None → (result ≡ Ok tt) × (store.new ≡ store.old) }
         ensures counts { OnOk result (S.disk store.new ≡ record (S.disk store.old) { told = (S.disk store.new).told }) }
@@ -210,6 +302,7 @@ impl Layers {
             leaf,
             below,
             merge: _,
+            retiring: _,
         } = self;
         match leaf {
             Some(leaf) => {

@@ -7,6 +7,7 @@ mod copying;
 mod finishing;
 mod laws;
 mod layers;
+mod leaf_start;
 mod merge_start;
 mod starting;
 

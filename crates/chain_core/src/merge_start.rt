@@ -37,7 +37,7 @@ use store_model::{Ids, SealFault, Store};
 use vx_base::{Geometry, Name, NoRoom};
 
 // The identifiers of a session in which the file's data change.
-fn data_session(ids: NewIds) -> SessionIds
+pub(crate) fn data_session(ids: NewIds) -> SessionIds
     ensures { result ≡ starting.data_session ids }
 {
     SessionIds {
@@ -185,7 +185,7 @@ impl Room {
 }
 
 // The number of a file's header where it leaves no room for those of a session.
-fn high(file: &LinkedFile) -> Option<u64>
+pub(crate) fn high(file: &LinkedFile) -> Option<u64>
     ensures { result ≡ high_of file.now }
 {
     let number = file.parts.header.number;
@@ -245,7 +245,11 @@ fn high_number(files: &[LinkedFile], name: &Name) -> Option<u64>
 }
 
 // The source is linked to the target by both of its identifiers.
-fn link_twice<S: Store>(store: &mut S, source: &mut Layer, pages: &[Page]) -> Result<(), SealFault>
+pub(crate) fn link_twice<S: Store>(
+    store: &mut S,
+    source: &mut Layer,
+    pages: &[Page],
+) -> Result<(), SealFault>
     requires ready { IsReady source.old (S.disk store.old) }
     requires empty { source.old.tables.pending ≡ [] }
     requires numbers { source.old.log.number ≤ 2 ^ 64 - 2 ^ 32 }
@@ -287,7 +291,7 @@ fn close<S: Store>(store: &mut S, source: Layer) -> Result<ReadLayer, SealFault>
 #[derive(Clone, Copy, Debug, PartialEq, Eq)]
 pub enum MergeStartRefusal {
     /// 36: the number of a header of the files to be written leaves no room for those of a session: the leaf's, or the first of child,
-    /// source and target that has such a number. Nothing was drawn or changed.
+    /// source and target that has such a number, of the merge of the leaf its target's. Nothing was drawn or changed.
     Spent { number: u64 },
     /// No merge is planned. Nothing was changed.
     Plan(PrepareRefusal),
@@ -388,6 +392,7 @@ impl Layers {
                 marks: room.marks,
                 relink: merge.relink,
             }),
+            retiring: None,
         })
     }
 

@@ -4,7 +4,7 @@ ghost use Rattle.std.specs.Prelude.{◌≡◌, ◌≤◌, ◌+◌, ◌∷◌, No
 ghost use Rattle.store_model.specs.Disk.{WhereTold};
 ghost use Rattle.link_rules.specs.Effects.{IsServed};
 ghost use Rattle.layer_session.specs.Begins.{CanServe};
-ghost use Rattle.chain_core.specs.Sessions.{AreReady, IsLow};
+ghost use Rattle.chain_core.specs.Sessions.{AreReady, HasNoMerge, IsLow, leaf_number};
 ghost use Rattle.merge_plan.specs.Attached.{CanStart};
 ghost use Rattle.chain_core.specs.Starting.{AreReadOf, BeginsHigh, BeginsLow, BeginsNot, EachOpensAlike, HasBegun, HasStarted, IsOfDisk, JudgesIds, LeavesOthersFrom, RefusesGuests, RefusesSession, RefusesStart, StartsWith, session_ids, under};
 
@@ -169,6 +169,7 @@ impl Layers {
         ensures ready { IfOk result (λ layers. AreReady layers (S.disk store.new)) }
         ensures low { IfOk result (IsLow 1) }
         ensures session { IfOk result (λ layers. is_some layers.leaf ≡ true) }
+        ensures leaf { IfOk result (λ layers. leaf_number layers ≡ 0) }
         ensures geometry { IfOk result (λ layers. layers.geometry ≡ leaf.now.parts.geometry) }
         ensures counts { OnOk result (S.disk store.new ≡ record (S.disk store.old) { told = (S.disk store.new).told }) }
         ensures err { IfErr result (BeginsNot (S.disk store.old) (S.disk store.new)) }
@@ -180,6 +181,7 @@ impl Layers {
             leaf: Some(session),
             below,
             merge: None,
+            retiring: None,
         })
     }
 
@@ -212,7 +214,7 @@ impl Layers {
         requires few { length files.now ≤ 64 }
         requires served { All IsServed files.now }
         ensures leaf { IfOk result (λ layers. layers.leaf ≡ None) }
-        ensures merge { IfOk result (λ layers. layers.merge ≡ None) }
+        ensures merge { IfOk result (λ layers. HasNoMerge layers) }
         ensures geometry { IfOk result (λ layers. IsOfDisk files.now layers.geometry) }
         ensures below { IfOk result (λ layers. AreReadOf 0 files.now layers.below.items) }
     {
@@ -225,6 +227,7 @@ impl Layers {
             leaf: None,
             below,
             merge: None,
+            retiring: None,
         })
     }
 

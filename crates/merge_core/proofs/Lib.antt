@@ -1,2 +1,2 @@
 mod PieceLemmas
-mod Touching
+pub mod Touching

@@ -46,6 +46,7 @@ touches_range z call t some change any = same_test (touches z call t) (nat_le (f
 
 pub calls_touch_ranges : CallsTouchRanges
 calls_touch_ranges = record {
+  range = touches_range;
   marks = λ z call marks t some change any. ap (λ b. marks t && not b) (touches_range z call t some change any) ∙ and_swap (marks t) (not (nat_le (first_touched z call) t && nat_le t (last_touched z call)));
   stamps = λ z h e t some change any. stamps_by_call.more z h e t ∙ ap (λ b. if b then length h + 1 else stamp z h t) (touches_range z e.call t some change any);
 }

@@ -1,11 +1,11 @@
 -- The sectors of a stripe that a disk has.
-use Rattle.std.specs.Prelude.{◌≡◌, ◌<◌, ℕ, ◌+◌, ◌-◌, ◌*◌, Bool, true, [], ◌∷◌, ◌++◌, length, min}
+use Rattle.std.specs.Prelude.{◌≡◌, ◌<◌, ℕ, ◌+◌, ◌-◌, ◌*◌, Bool, true, [], ◌∷◌, ◌++◌, length, min, nat_le, ◌&&◌}
 use Rattle.guest_model.specs.declared.call.Call.{Call}
 use Rattle.guest_model.specs.declared.call.Entry.{Entry}
 use Rattle.guest_model.specs.Calls.{changes, first_sector, sector_count}
 use Rattle.guest_model.specs.History.{History}
 use Rattle.chain_model.specs.Merges.{marks_after}
-use Rattle.chain_model.specs.Stripes.{per_stripe, stamp, stripe_of}
+use Rattle.chain_model.specs.Stripes.{per_stripe, stamp, stripe_of, touches}
 use Rattle.merge_core.specs.Copied.{without_marks}
 use Rattle.merge_core.specs.Stamping.{with_stamps}
 
@@ -20,8 +20,9 @@ first_touched z call = stripe_of z (first_sector call)
 abbrev pub last_touched : ℕ → Call → ℕ
 last_touched z call = stripe_of z (first_sector call + sector_count z call - 1)
 
--- A Write or a Trim of some sectors takes the marks of those stripes away, and gives them its place as their stamp.
+-- A Write or a Trim of some sectors touches those stripes: it takes their marks away, and gives them its place as their stamp.
 pub record CallsTouchRanges : Type 0 where
+  pub range : (z : ℕ) (call : Call) (t : ℕ) → 0 < per_stripe z → changes call ≡ true → 0 < sector_count z call → touches z call t ≡ (nat_le (first_touched z call) t && nat_le t (last_touched z call))
   pub marks : (z : ℕ) (call : Call) (marks : ℕ → Bool) (t : ℕ) → 0 < per_stripe z → changes call ≡ true → 0 < sector_count z call
       → marks_after z call marks t ≡ without_marks (first_touched z call) (last_touched z call) marks t
   pub stamps : (z : ℕ) (h : History) (e : Entry) (t : ℕ) → 0 < per_stripe z → changes e.call ≡ true → 0 < sector_count z e.call

@@ -31,6 +31,7 @@ pub fn put_piece<S: Store>(
     ensures quiet { OnRefused result (WhereBothTold (KeepsOver target.old) (S.disk store.old).told (S.disk store.new).told) }
     ensures broken { OnBroken result (IsReadable target.new (S.disk store.new) × WhereBothTold (HoldsBesidePiece target.old target.new piece.now) (S.disk store.old).told (S.disk store.new).told) }
     ensures parts { target.new.tables.parts ≡ target.old.tables.parts }
+    ensures header { target.new.log.header ≡ target.old.log.header }
     // It commits once at most.
     ensures number { target.new.log.number ≤ target.old.log.number + 1 }
     ensures counts { OnOk result (S.disk store.new ≡ record (S.disk store.old) { told = (S.disk store.new).told }) }

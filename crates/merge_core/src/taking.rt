@@ -7,11 +7,15 @@ ghost use Rattle.chain_model.specs.Images.{Placed};
 ghost use Rattle.chain_model.specs.Layers as chain;
 ghost use Rattle.chain_model.specs.Stripes as stripes;
 ghost use Rattle.layer_session.specs.FileLayers.{FileCanBeRead, HasFile, Holds, IsReadableFile, IsSameFile, number_of, table_parts};
+ghost use Rattle.layer_session.specs.Calls.{IsSame, own_file};
+ghost use Rattle.layer_session.specs.Keeping.{IsReadable, Serves};
+ghost use Rattle.layer_session.specs.declared.file_layer.FileLayer.TheVariants as kind;
 ghost use Rattle.merge_core.specs.Pieces.{FitsIn, IsTaken, Tells, piece_of};
+ghost use Rattle.vhdx_format.specs.SectorBitmaps.{HasRunSet};
 
 use crate::piece::Piece;
 use crate::stripes::stripe_range;
-use layer_session::FileLayer;
+use layer_session::{FileLayer, Layer};
 use sector_bits::set_range;
 use std::alloc::Global;
 use store_model::{Store, StoreFault};
@@ -28,6 +32,15 @@ fn zeros_of(alloc: Global, n: usize) -> Result<Vec<u8>, NoRoom>
     ensures { IfOk result (λ made. length made.items ≡ n) }
 {
     Ok(vec![in alloc; 0u8; n]?)
+}
+
+// No bit says that a file has one of so many sectors.
+fn set_none(mask: &mut [u8], count: u64)
+    requires mask { count ≤ 8 * length mask.old }
+    requires few { count ≤ 2048 }
+    ensures { HasRunSet mask.old mask.new 0 count false }
+{
+    set_range(mask, 0, count as usize, false);
 }
 
 // Reads what a file has of so many sectors: bits of the mask say which, and their bytes stand in their places.
@@ -52,7 +65,33 @@ fn read_sectors<S: Store>(
     ensures err { IfErr result (ReadFailed (number_of source.old) (S.disk store.old) (S.disk store.new)) }
 {
     let long = (u64::from(sector) * count) as usize;
-    set_range(mask, 0, count as usize, false);
+    set_none(mask, count);
+    source.own(store, first, count, &mut bytes[..long], mask, 0)
+}
+
+// The same of a file that is in a session.
+fn read_own<S: Store>(
+    store: &mut S,
+    source: &mut Layer,
+    sector: u32,
+    first: u64,
+    count: u64,
+    bytes: &mut [u8],
+    mask: &mut [u8],
+) -> Result<(), StoreFault>
+    requires readable { IsReadable source.old (S.disk store.old) }
+    requires sector { sector ≡ source.old.tables.parts.sector }
+    requires on_disk { first + count ≤ source.old.tables.parts.sectors }
+    requires bytes { sector * count ≤ length bytes.old }
+    requires mask { count ≤ 8 * length mask.old }
+    requires few { count ≤ 2048 }
+    ensures tells { OnOk result ((layer : chain.Layer) → WhereTold (S.disk store.old).told (λ trace. Holds (kind.Session source.old) trace layer → Tells sector first count layer mask.new bytes.new)) }
+    ensures same { IsSame source.old source.new (S.disk store.old) }
+    ensures stays { OnOk result (S.disk store.new ≡ S.disk store.old) }
+    ensures err { IfErr result (ReadFailed (own_file source.old) (S.disk store.old) (S.disk store.new)) }
+{
+    let long = (u64::from(sector) * count) as usize;
+    set_none(mask, count);
     source.own(store, first, count, &mut bytes[..long], mask, 0)
 }
 
@@ -101,6 +140,14 @@ impl Piece {
         self.stamp
     }
 
+    // Keeps the stamp of what was read, and whether it was read whole.
+    fn note(&mut self, stamp: u64, is_read: bool)
+        ensures { self.new ≡ record self.old { filled = is_read; stamp = stamp } }
+    {
+        self.filled = is_read;
+        self.stamp = stamp;
+    }
+
     /// Takes what a file has of a stripe, under the stripe's stamp. After a fault there is no piece.
     pub fn take<S: Store>(
         &mut self,
@@ -128,12 +175,46 @@ impl Piece {
         let bytes = self.bytes.as_mut_slice();
         let mask = self.mask.as_mut_slice();
         let done = read_sectors(store, source, geometry.sector, first, count, bytes, mask);
-        self.filled = done.is_ok();
         self.stripe = stripe;
-        self.stamp = stamp;
         self.first = first;
         self.count = count;
         self.sector = geometry.sector;
+        self.note(stamp, done.is_ok());
+        done
+    }
+
+    /// Takes what a file in a session has of a stripe, as `take` does.
+    pub fn take_own<S: Store>(
+        &mut self,
+        store: &mut S,
+        source: &mut Layer,
+        geometry: Geometry,
+        stripe: u32,
+        stamp: u64,
+    ) -> Result<(), StoreFault>
+        requires readable { IsReadableFile geometry (S.disk store.old) (kind.Session source.old) }
+        requires stripe { stripe < stripes.stripe_count geometry.sector geometry.sectors }
+        ensures filled { OnOk result (self.new.filled ≡ true) }
+        ensures empty { OnErr result (self.new.filled ≡ false) }
+        ensures stripe { self.new.stripe ≡ stripe }
+        ensures stamp { self.new.stamp ≡ stamp }
+        // It fits into each file of a disk of this geometry.
+        ensures fits { (parts : TableParts) → parts.sector ≡ geometry.sector → parts.sectors ≡ geometry.sectors → FitsIn self.new parts }
+        ensures held { OnOk result ((layer : chain.Layer) → WhereTold (S.disk store.old).told (λ trace. Holds (kind.Session source.old) trace layer → IsTaken geometry.sector layer (piece_of self.new))) }
+        ensures taken { OnOk result ((file : Placed) → WhereTold (S.disk store.old).told (λ trace. Serves source.old trace file → IsTaken geometry.sector file.member.layer (piece_of self.new))) }
+        ensures same { IsSame source.old source.new (S.disk store.old) }
+        ensures stays { OnOk result (S.disk store.new ≡ S.disk store.old) }
+        ensures err { IfErr result (ReadFailed (own_file source.old) (S.disk store.old) (S.disk store.new)) }
+    {
+        let (first, count) = stripe_range(stripe, geometry);
+        let bytes = self.bytes.as_mut_slice();
+        let mask = self.mask.as_mut_slice();
+        let done = read_own(store, source, geometry.sector, first, count, bytes, mask);
+        self.stripe = stripe;
+        self.first = first;
+        self.count = count;
+        self.sector = geometry.sector;
+        self.note(stamp, done.is_ok());
         done
     }
 }

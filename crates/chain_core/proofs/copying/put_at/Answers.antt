@@ -30,6 +30,7 @@ returns-in-Session g c =
         quiet = c.put_piece.ensures.quiet;
         parts = c.put_piece.ensures.parts;
         number = c.put_piece.ensures.number;
+        header = c.put_piece.ensures.header;
         counts = c.put_piece.ensures.counts;
         err = c.put_piece.ensures.err;
         room = put_room c.args.piece.now c.in-Session.target (g.S.Store.disk c.args.store.now) c.put_piece.result c.put_piece.ensures.full c.put_piece.ensures.room;

@@ -16,6 +16,7 @@ returns-in-Session g c =
         ready = c.commit.ensures.ready;
         empty = c.commit.ensures.empty;
         number = c.commit.ensures.number;
+        header = c.commit.ensures.header;
         parts = c.commit.ensures.parts;
         counts = c.commit.ensures.counts;
         err = c.commit.ensures.err;

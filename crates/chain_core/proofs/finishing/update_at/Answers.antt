@@ -26,6 +26,7 @@ returns-in-Session g c =
         ready = c.update.ensures.ready;
         empty = c.update.ensures.empty;
         number = c.update.ensures.number;
+        header = c.update.ensures.header;
         parts = c.update.ensures.parts;
         counts = c.update.ensures.counts;
         err = c.update.ensures.err;

@@ -13,10 +13,10 @@ returns-clause-tells g c =
       tells = λ i below.
           let first = take (c.from.result * c.args.count) c.args.bytes.now in
           let rest = drop (c.from.result * c.args.count) c.args.bytes.now in
-          let added : AddsOwned layer z c.args.first c.args.count 0 c.set_range.new.bits c.own.new.mask first c.own.new.out = subst (λ n. AddsOwned layer n c.args.first c.args.count 0 c.set_range.new.bits c.own.new.mask first c.own.new.out) (sym c.requires.sector) (held layer trace told h) in
+          let added : AddsOwned layer z c.args.first c.args.count 0 c.set_none.new.mask c.own.new.mask first c.own.new.out = subst (λ n. AddsOwned layer n c.args.first c.args.count 0 c.set_none.new.mask c.own.new.mask first c.own.new.out) (sym c.requires.sector) (held layer trace told h) in
           let as_long = added.len in
           let all : length first ≡ z * c.args.count = let k = c.requires.bytes in omega (arith, length-take (c.from.result * c.args.count) c.args.bytes.now, long, k) in
           let row = row_fits z i c.args.count below in
-          layers_are_added.tells layer z c.args.first c.args.count 0 c.set_range.new.bits c.own.new.mask first c.own.new.out (none_found c.args.count c.args.mask.now c.set_range.new.bits c.requires.mask c.set_range.ensures) added i below
+          layers_are_added.tells layer z c.args.first c.args.count 0 c.set_none.new.mask c.own.new.mask first c.own.new.out (none_found c.args.count c.args.mask.now c.set_none.new.mask c.requires.mask c.set_none.ensures) added i below
           ∙ told_more z i c.own.new.mask c.own.new.out rest (omega (arith, as_long, all, row));
     }) c.own.ensures.held

@@ -1,5 +1,5 @@
 use Rattle.std.proofs.Common.{refl, ap, sym, subst, ◌∙◌}
-use Rattle.chain_core.specs.Copying.{source_number}
+use Rattle.chain_core.specs.Copying.{source_number, stamp_of}
 use Rattle.chain_core.specs.Sessions.{IsSound, seen}
 use Rattle.layer_session.specs.ReadOnly.{SomeReadFailed}
 use Rattle.guest_model.specs.declared.refusal.ChainRefusal.TheVariants.{ReadFault}
@@ -35,13 +35,13 @@ returns-in-Ok-clause-taken g c =
     record {
       filled = c.in-Ok.ensures.filled;
       stripe_is = c.in-Ok.ensures.stripe;
-      stamp = c.in-Ok.ensures.stamp;
+      stamp_is = c.in-Ok.ensures.stamp ∙ ap (λ k. stamp_of k.layers c.args.stripe) c.admit.ensures.only;
       fits = λ parts sector sectors. c.in-Ok.ensures.fits parts (sector ∙ sym (ap (λ k. k.layers.geometry.sector) c.admit.ensures.only)) (sectors ∙ sym (ap (λ k. k.layers.geometry.sectors) c.admit.ensures.only));
     }
 
 pub returns-in-Ok-clause-told : goal.returns-in-Ok-clause-told
 returns-in-Ok-clause-told g c =
-    fetched c.args.self.now.layers c.admit.new.self.layers c.take.new.self (g.S.Store.disk c.args.self.now.store) (g.S.Store.disk c.admit.new.self.store) (g.S.Store.disk c.take.new.store) (ap (λ k. k.layers) c.admit.ensures.only) (ap (λ k. g.S.Store.disk k.store) c.admit.ensures.only) c.take.new.piece 0 c.take.ensures.reads c.in-Ok.ensures.taken
+    fetched c.args.self.now.layers c.admit.new.self.layers c.take.new.self (g.S.Store.disk c.args.self.now.store) (g.S.Store.disk c.admit.new.self.store) (g.S.Store.disk c.take.new.store) (ap (λ k. k.layers) c.admit.ensures.only) (ap (λ k. g.S.Store.disk k.store) c.admit.ensures.only) c.take.new.piece c.stamp.result c.take.ensures.reads c.in-Ok.ensures.taken
 
 pub returns-in-Err-clause-sound : goal.returns-in-Err-clause-sound
 returns-in-Err-clause-sound g c =

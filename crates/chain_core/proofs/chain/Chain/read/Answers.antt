@@ -1,4 +1,4 @@
-use Rattle.std.proofs.Common.{◌/◌, ap, ◌∙◌, length, ℕ}
+use Rattle.std.proofs.Common.{◌+◌, ◌/◌, ap, ◌∙◌, length, ℕ}
 use Rattle.guest_model.specs.declared.call.Call.TheVariants as calls
 use Rattle.chain_core.specs.Answering.{answer_of, as_read}
 use Rattle.chain_core.specs.States.{entry}
@@ -8,15 +8,15 @@ use Rattle.chain_core.proofs.chain.Chain.read.Goals as goal
 
 pub returns-in_err-accept-clause-told : goal.returns-in_err-accept-clause-told
 returns-in_err-accept-clause-told g c =
-    refused_told (entry c.args.who (calls.Read c.args.first (length c.args.out.now / c.args.self.now.layers.geometry.sector))) c.args.self.now.layers c.accept.new.self.layers (g.S.Store.disk c.args.self.now.store) (g.S.Store.disk c.accept.new.self.store) c.from_residual.result c.from_residual.ensures.0
+    refused_told (g.R.Recorder.noted c.args.self.now.recorder + 1) (entry c.args.who (calls.Read c.args.first (length c.args.out.now / c.args.self.now.layers.geometry.sector))) c.args.self.now.layers c.accept.new.self.layers (g.S.Store.disk c.args.self.now.store) (g.S.Store.disk c.accept.new.self.store) c.from_residual.result c.from_residual.ensures.0
     (ap (λ k. k.layers) c.accept.ensures.only) (ap (λ k. g.S.Store.disk k.store) c.accept.ensures.only)
 
 pub returns-clause-told : goal.returns-clause-told
 returns-clause-told g c =
     let count : ℕ = length c.args.out.now / c.args.self.now.layers.geometry.sector in
-    answered c.args.who (calls.Read c.args.first count) (g.R.Recorder.noted c.accept.new.self.recorder) c.args.self.now.layers c.accept.new.self.layers c.find.new.self c.conclude.new.self.layers
+    answered c.args.who (calls.Read c.args.first count) (g.R.Recorder.noted c.args.self.now.recorder + 1) (g.R.Recorder.noted c.accept.new.self.recorder) c.args.self.now.layers c.accept.new.self.layers c.find.new.self c.conclude.new.self.layers
     (g.S.Store.disk c.args.self.now.store) (g.S.Store.disk c.accept.new.self.store) (g.S.Store.disk c.find.new.store) (g.S.Store.disk c.conclude.new.self.store) (as_read c.find.result) c.conclude.result
     (ap (λ k. k.layers) c.in_ok-accept.ensures.only) (ap (λ k. g.S.Store.disk k.store) c.in_ok-accept.ensures.only)
     (ap (λ k. k.layers) c.conclude.ensures.only) (ap (λ k. g.S.Store.disk k.store) c.conclude.ensures.only)
     (c.conclude.ensures.answer ∙ ap (answer_of (g.R.Recorder.noted c.accept.new.self.recorder)) c.unread-done.ensures)
-    (looked c.args.first count c.accept.new.self.layers c.find.new.self (g.S.Store.disk c.accept.new.self.store) (g.S.Store.disk c.find.new.store) c.find.result c.find.ensures.reads)
+    (looked c.args.first count c.accept.new.self.layers c.find.new.self (g.S.Store.disk c.accept.new.self.store) (g.S.Store.disk c.find.new.store) c.find.result c.find.ensures.reads (g.R.Recorder.noted c.args.self.now.recorder + 1))

@@ -32,15 +32,15 @@ returns-clause-still g c =
 
 pub returns-clause-serving : goal.returns-clause-serving
 returns-clause-serving g c =
-    let layers : Layers = record { geometry = c.args.leaf.now.parts.geometry; leaf = Some c.in_ok-session.session; below = c.in_ok-below.below; merge = None } in
+    let layers : Layers = record { geometry = c.args.leaf.now.parts.geometry; leaf = Some c.in_ok-session.session; below = c.in_ok-below.below; merge = None; retiring = None } in
     subst (λ (ids : SessionIds). StartsWith (λ parts. in_session parts ids) (c.args.leaf.now ∷ c.args.others.now) layers (g.S.Store.disk c.args.store.now).told (g.S.Store.disk c.begin.new.store).told) c.of_session.ensures
-    (begun_serving c.args.leaf.now c.args.others.now c.of_session.result layers c.in_ok-session.session (g.S.Store.disk c.args.store.now) (g.S.Store.disk c.begin.new.store) c.requires.files refl refl refl c.in_ok-below.ensures
+    (begun_serving c.args.leaf.now c.args.others.now c.of_session.result layers c.in_ok-session.session (g.S.Store.disk c.args.store.now) (g.S.Store.disk c.begin.new.store) c.requires.files refl refl (refl, refl) c.in_ok-below.ensures
     c.begin.ensures.moments c.in_ok-session.ensures.served)
 
 pub returns-clause-ready : goal.returns-clause-ready
 returns-clause-ready g c =
-    let layers : Layers = record { geometry = c.args.leaf.now.parts.geometry; leaf = Some c.in_ok-session.session; below = c.in_ok-below.below; merge = None } in
-    begun_ready c.args.leaf.now c.args.others.now c.of_session.result layers c.in_ok-session.session (g.S.Store.disk c.args.store.now) (g.S.Store.disk c.begin.new.store) c.requires.files refl refl refl c.in_ok-below.ensures
+    let layers : Layers = record { geometry = c.args.leaf.now.parts.geometry; leaf = Some c.in_ok-session.session; below = c.in_ok-below.below; merge = None; retiring = None } in
+    begun_ready c.args.leaf.now c.args.others.now c.of_session.result layers c.in_ok-session.session (g.S.Store.disk c.args.store.now) (g.S.Store.disk c.begin.new.store) c.requires.files refl refl (refl, refl) c.in_ok-below.ensures
     c.begin.ensures.moments c.in_ok-session.ensures.ready c.in_ok-session.ensures.parts c.in_ok-session.ensures.counts
 
 pub layers_of-requires-clause-served : goal.layers_of-requires-clause-served

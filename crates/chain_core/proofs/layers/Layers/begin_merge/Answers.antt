@@ -251,4 +251,4 @@ returns g c =
     (record { old = a; was = c.in_ok-leaf.ensures.ready; counts = r1.counts; of = subst (λ (x : LinkedFile). IsOf x.parts 0 leaf) c.leaf_of-top.ensures c.in_ok-leaf.ensures.parts })
     (record { old = f; was = c.in_ok-target.ensures.ready; counts = r4.counts; of = c.in_ok-target.ensures.parts })
     (made_of_child m c.args.merge d c.requires.files c.requires.plan child h r5.counts c.in_ok-child.ensures.ready c.in_ok-child.ensures.parts)
-    c.in_ok-source.ensures.parts (c.in_ok-source-2.ensures.parts ∙ c.link_twice.ensures.parts) c.in_ok-source-2.ensures.can _ _ (ap (λ (x : LinkedFile). x.parts.geometry) c.leaf_of-top.ensures) refl refl c.in-Ok.ensures refl refl refl
+    c.in_ok-source.ensures.parts (c.in_ok-source-2.ensures.parts ∙ c.link_twice.ensures.parts) c.in_ok-source-2.ensures.can _ _ (ap (λ (x : LinkedFile). x.parts.geometry) c.leaf_of-top.ensures) refl refl refl c.in-Ok.ensures refl refl refl

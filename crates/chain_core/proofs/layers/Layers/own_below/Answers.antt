@@ -11,7 +11,7 @@ pub returns-clause-reads : goal.returns-clause-reads
 returns-clause-reads g c =
     let new : Layers = record c.args.self.now { below = with_items c.args.self.now.below c.own_files.new.layers } in
     below_reads c.args.self.now new c.as_mut_slice-below.result.now c.own_files.new.layers (g.S.Store.disk c.args.store.now) (g.S.Store.disk c.own_files.new.store) c.own_files.result
-    c.as_mut_slice-below.ensures.value refl refl refl (with_items_is c.args.self.now.below c.own_files.new.layers (search (rules, places))) c.own_files.ensures.same c.own_files.ensures.numbers c.own_files.ensures.stays c.own_files.ensures.err c.requires.ready
+    c.as_mut_slice-below.ensures.value refl refl refl refl (with_items_is c.args.self.now.below c.own_files.new.layers (search (rules, places))) c.own_files.ensures.same c.own_files.ensures.numbers c.own_files.ensures.headers c.own_files.ensures.stays c.own_files.ensures.err c.requires.ready
 
 pub returns-clause-adds : goal.returns-clause-adds
 returns-clause-adds g c =

@@ -7,7 +7,7 @@ use Rattle.chain_core.proofs.layers.Layers.own_leaf.Goals as goal
 pub returns-in-Some-clause-reads : goal.returns-in-Some-clause-reads
 returns-in-Some-clause-reads g c =
     leaf_reads c.args.self.now _ c.in-Some.leaf c.own.new.self _ (g.S.Store.disk c.args.store.now) (g.S.Store.disk c.own.new.store) c.own.result
-    (record { geometry = refl; below = refl; merge = refl; parts = c.own.ensures.same.parts; was = c.in-Some.is; now = refl }) c.own.ensures.same c.own.ensures.stays c.own.ensures.err c.requires.ready
+    (record { geometry = refl; below = refl; merge = refl; parts = c.own.ensures.same.parts; was = c.in-Some.is; now = refl }) refl c.own.ensures.same c.own.ensures.stays c.own.ensures.err c.requires.ready
 
 pub returns-in-Some-clause-adds : goal.returns-in-Some-clause-adds
 returns-in-Some-clause-adds g c =

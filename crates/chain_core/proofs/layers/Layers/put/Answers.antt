@@ -1,23 +1,41 @@
-use Rattle.std.proofs.Common.{◌/◌, ℕ, false, length, refl, ap}
-use Rattle.chain_core.proofs.Leafs.{write_told}
+use Rattle.std.proofs.Common.{rules, ◌/◌, ℕ, false, not, length, refl, ap}
+use Rattle.std.specs.Prelude.{Some}
+use Rattle.guest_model.specs.declared.call.Call.TheVariants as calls
+use Rattle.layer_session.specs.declared.file.Layer.{Layer}
+use Rattle.layer_session.proofs.FileLayers.{others_stand}
+use Rattle.chain_core.specs.Copying.{LayerFollows}
+use Rattle.chain_core.specs.declared.layers.Layers.{Layers}
+use Rattle.chain_core.proofs.Leafs.{follows_alike, follows_by, write_told, write_touches, zero_told}
 use Rattle.chain_core.proofs.Standing.{leaf_of, ready_still, room_is}
 use Rattle.chain_core.proofs.Turning.{put_ties}
-use Rattle.layer_session.proofs.FileLayers.{others_stand}
 use Rattle.chain_core.proofs.layers.Layers.put.Goals as goal
 
-pub returns-in-Some-clause-told : goal.returns-in-Some-clause-told
-returns-in-Some-clause-told g c =
-    write_told c.args.first c.args.bytes.now c.args.self.now _ c.in-Some.leaf c.put.new.self (g.S.Store.disk c.args.store.now) (g.S.Store.disk c.put.new.store) c.put.result
-    (record { geometry = refl; below = refl; merge = refl; parts = c.put.ensures.parts; was = c.in-Some.is; now = refl }) c.put.ensures.moments c.put.ensures.put c.put.ensures.kept c.put.ensures.quiet
+pub returns-clause-told : goal.returns-clause-told
+returns-clause-told g c =
+    let old : Layers = c.args.self.now in
+    let new : Layers = record old { leaf = Some c.put-done.new.self; retiring = c.touch.new.retiring } in
+    let follows : LayerFollows c.args.place (calls.Write c.args.first c.args.bytes.now) old new c.put-done.result = follows_by c.args.place (calls.Write c.args.first c.args.bytes.now) old new c.put-done.result c.is_ok.result c.is_ok.ensures.value refl (write_touches c.is_ok.result old.geometry.sector c.args.first _ c.args.place c.args.bytes.now old.retiring c.touch.new.retiring (search rules) c.touch.ensures) in
+    write_told c.args.place c.args.first c.args.bytes.now old new c.in-Some.leaf c.put-done.new.self (g.S.Store.disk c.args.store.now) (g.S.Store.disk c.put-done.new.store) c.put-done.result
+    (record { geometry = refl; below = refl; merge = refl; parts = c.put-done.ensures.parts; was = c.in-Some.is; now = refl }) follows c.put-done.ensures.moments c.put-done.ensures.put c.put-done.ensures.kept c.put-done.ensures.quiet
 
-pub returns-in-Some-clause-ready : goal.returns-in-Some-clause-ready
-returns-in-Some-clause-ready g c =
-    ready_still c.args.self.now _ c.in-Some.leaf c.put.new.self _ (g.S.Store.disk c.args.store.now) (g.S.Store.disk c.put.new.store) c.put.result
-    (record { geometry = refl; below = refl; merge = refl; parts = c.put.ensures.parts; was = c.in-Some.is; now = refl }) c.put.ensures.parts c.requires.ready
-    (others_stand.put c.in-Some.leaf _ _ (g.S.Store.disk c.args.store.now) (g.S.Store.disk c.put.new.store) (leaf_of c.args.self.now c.in-Some.leaf (g.S.Store.disk c.args.store.now) c.in-Some.is c.requires.ready).ready c.put.ensures.moments) c.put.ensures.counts c.put.ensures.err c.put.ensures.ready c.put.ensures.refused (put_ties c.in-Some.leaf c.put.new.self _ _ _ (g.S.Store.disk c.args.store.now).told (g.S.Store.disk c.put.new.store).told c.put.result c.put.ensures.put c.put.ensures.kept)
+pub returns-clause-merge : goal.returns-clause-merge
+returns-clause-merge g c =
+    let old : Layers = c.args.self.now in
+    let new : Layers = record old { leaf = Some c.put-done.new.self; retiring = c.touch.new.retiring } in
+    follows_by c.args.place (calls.Write c.args.first c.args.bytes.now) old new c.put-done.result c.is_ok.result c.is_ok.ensures.value refl (write_touches c.is_ok.result old.geometry.sector c.args.first _ c.args.place c.args.bytes.now old.retiring c.touch.new.retiring (search rules) c.touch.ensures)
 
-pub returns-in-Some-clause-room : goal.returns-in-Some-clause-room
-returns-in-Some-clause-room g c =
+pub returns-clause-ready : goal.returns-clause-ready
+returns-clause-ready g c =
+    let old : Layers = c.args.self.now in
+    let new : Layers = record old { leaf = Some c.put-done.new.self; retiring = c.touch.new.retiring } in
+    let follows : LayerFollows c.args.place (calls.Write c.args.first c.args.bytes.now) old new c.put-done.result = follows_by c.args.place (calls.Write c.args.first c.args.bytes.now) old new c.put-done.result c.is_ok.result c.is_ok.ensures.value refl (write_touches c.is_ok.result old.geometry.sector c.args.first _ c.args.place c.args.bytes.now old.retiring c.touch.new.retiring (search rules) c.touch.ensures) in
+    ready_still old new c.in-Some.leaf c.put-done.new.self _ (g.S.Store.disk c.args.store.now) (g.S.Store.disk c.put-done.new.store) c.put-done.result
+    (record { geometry = refl; below = refl; merge = refl; parts = c.put-done.ensures.parts; was = c.in-Some.is; now = refl }) (follows_alike c.args.place (calls.Write c.args.first c.args.bytes.now) old new c.put-done.result follows) c.put-done.ensures.parts c.requires.ready
+    (others_stand.put c.in-Some.leaf _ _ (g.S.Store.disk c.args.store.now) (g.S.Store.disk c.put-done.new.store) (leaf_of old c.in-Some.leaf (g.S.Store.disk c.args.store.now) c.in-Some.is c.requires.ready).ready c.put-done.ensures.moments)
+    c.put-done.ensures.counts c.put-done.ensures.err c.put-done.ensures.ready c.put-done.ensures.refused (put_ties c.in-Some.leaf c.put-done.new.self _ _ _ (g.S.Store.disk c.args.store.now).told (g.S.Store.disk c.put-done.new.store).told c.put-done.result c.put-done.ensures.put c.put-done.ensures.kept)
+
+pub returns-clause-room : goal.returns-clause-room
+returns-clause-room g c =
     let leaf = leaf_of c.args.self.now c.in-Some.leaf (g.S.Store.disk c.args.store.now) c.in-Some.is c.requires.ready in
-    room_is (λ l. false) c.args.first (length c.args.bytes.now / c.args.self.now.geometry.sector) (length c.args.bytes.now / c.in-Some.leaf.tables.parts.sector) c.args.self.now c.in-Some.leaf (g.S.Store.disk c.args.store.now) c.put.result
-    c.in-Some.is (ap (λ (n : ℕ). length c.args.bytes.now / n) leaf.sector) c.put.ensures.full c.put.ensures.room
+    room_is (λ l. false) c.args.first (length c.args.bytes.now / c.args.self.now.geometry.sector) (length c.args.bytes.now / c.in-Some.leaf.tables.parts.sector) c.args.self.now c.in-Some.leaf (g.S.Store.disk c.args.store.now) c.put-done.result
+    c.in-Some.is (ap (λ (n : ℕ). length c.args.bytes.now / n) leaf.sector) c.put-done.ensures.full c.put-done.ensures.room

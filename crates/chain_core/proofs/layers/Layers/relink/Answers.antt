@@ -24,7 +24,7 @@ returns-then-place-gt0 g c =
     (subst (λ l. IsReplaced at e.was e.now l c.update_at.new.layers) c.as_mut_slice.ensures.value e.replaced) in
     let changed : UpdatesBy u.relink e.was e.now before after c.update_at.result = subst (λ pages. UpdatesBy pages e.was e.now before after c.update_at.result) c.as_slice-pages.ensures.pages e.changed in
     let done : ChangesFile (UpdatesBy u.relink) u.source old new before after c.update_at.result =
-    record { was = e.was; now = e.now; geometry = refl; merge = refl; exchanged = at_lower at place refl replaced; changed = changed } in
+    record { was = e.was; now = e.now; geometry = refl; merge = refl; retiring = refl; exchanged = at_lower at place refl replaced; changed = changed } in
     subst (λ o. IfSome o (λ w. ChangesFile (UpdatesBy w.relink) w.source old new before after c.update_at.result)) (sym c.in-Some.is) done
 
 pub update-requires-clause-turns : goal.update-requires-clause-turns
@@ -52,6 +52,7 @@ returns-in-Some-leaf g c =
       ready = c.update.ensures.ready;
       empty = c.update.ensures.empty;
       number = c.update.ensures.number;
+      header = c.update.ensures.header;
       parts = c.update.ensures.parts;
       counts = c.update.ensures.counts;
       err = c.update.ensures.err;
@@ -61,6 +62,7 @@ returns-in-Some-leaf g c =
       now = now;
       geometry = refl;
       merge = refl;
+      retiring = refl;
       exchanged = at_leaf place c.in-Some-leaf.is refl refl;
       changed = subst (λ pages. UpdatesBy pages was now before after c.update.result) c.as_slice-pages.ensures.pages changed;
     } in

@@ -15,7 +15,7 @@ returns-then-place-gt0 g c =
     let replaced : IsReplaced at e.was e.now old.below.items new.below.items =
     subst (λ l. IsReplaced at e.was e.now old.below.items l) (sym (with_items_is old.below c.settle_at.new.layers (search (rules, places))))
     (subst (λ l. IsReplaced at e.was e.now l c.settle_at.new.layers) c.as_mut_slice.ensures.value e.replaced) in
-    record { was = e.was; now = e.now; geometry = refl; merge = refl; exchanged = at_lower at place refl replaced; changed = e.changed }
+    record { was = e.was; now = e.now; geometry = refl; merge = refl; retiring = refl; exchanged = at_lower at place refl replaced; changed = e.changed }
 
 pub returns-in-Some : goal.returns-in-Some
 returns-in-Some g c =
@@ -25,6 +25,7 @@ returns-in-Some g c =
       now = c.commit.new.self;
       geometry = refl;
       merge = refl;
+      retiring = refl;
       exchanged = at_leaf place c.in-Some.is refl refl;
       changed = record {
         moments = c.commit.ensures.moments;
@@ -32,6 +33,7 @@ returns-in-Some g c =
         ready = c.commit.ensures.ready;
         empty = c.commit.ensures.empty;
         number = c.commit.ensures.number;
+        header = c.commit.ensures.header;
         parts = c.commit.ensures.parts;
         counts = c.commit.ensures.counts;
         err = c.commit.ensures.err;

@@ -27,7 +27,7 @@ returns-in-len1-up-clause-begun g c =
     let others : List LinkedFile = take (length c.args.files.now - 1) (drop 1 c.args.files.now) in
     let is : c.args.files.now ≡ c.leaf-item.result ∷ others = parted c.args.files.now c.leaf-item.result c.in-len1-up.len_at_least ∙ ap (λ (f : LinkedFile). f ∷ others) (sym c.leaf-item.is) in
     session_answers c.args.files.now c.leaf-item.result others c.in_ok-new.new c.begin.result (g.S.Store.disk c.args.store.now) (g.S.Store.disk c.choose_ids.new.store) (g.S.Store.disk c.begin.new.store)
-    (g.I.Ids.drawn c.args.ids.now) (g.I.Ids.drawn c.choose_ids.new.ids) is c.in_ok-new.ensures.stays c.in_ok-new.ensures.fit c.begin.ensures.session c.begin.ensures.serving c.begin.ensures.counts
+    (g.I.Ids.drawn c.args.ids.now) (g.I.Ids.drawn c.choose_ids.new.ids) is c.in_ok-new.ensures.stays c.in_ok-new.ensures.fit c.begin.ensures.session c.begin.ensures.leaf c.begin.ensures.serving c.begin.ensures.counts
 
 pub returns-in-len1-up-clause-geometry : goal.returns-in-len1-up-clause-geometry
 returns-in-len1-up-clause-geometry g c =

@@ -1,22 +1,39 @@
-use Rattle.std.proofs.Common.{refl, not}
-use Rattle.chain_core.proofs.Leafs.{zero_told}
-use Rattle.chain_core.proofs.Standing.{leaf_of, ready_still, room_is}
+use Rattle.std.proofs.Common.{◌/◌, ℕ, false, not, length, refl, ap}
+use Rattle.std.specs.Prelude.{Some}
+use Rattle.guest_model.specs.declared.call.Call.TheVariants as calls
 use Rattle.layer_session.specs.declared.file.Layer.{Layer}
-use Rattle.chain_core.proofs.Turning.{put_ties}
 use Rattle.layer_session.proofs.FileLayers.{others_stand}
+use Rattle.chain_core.specs.Copying.{LayerFollows}
+use Rattle.chain_core.specs.declared.layers.Layers.{Layers}
+use Rattle.chain_core.proofs.Leafs.{follows_alike, follows_by, write_told, write_touches, zero_told}
+use Rattle.chain_core.proofs.Standing.{leaf_of, ready_still, room_is}
+use Rattle.chain_core.proofs.Turning.{put_ties}
 use Rattle.chain_core.proofs.layers.Layers.zero.Goals as goal
 
-pub returns-in-Some-clause-told : goal.returns-in-Some-clause-told
-returns-in-Some-clause-told g c =
-    zero_told c.args.first c.args.count c.args.self.now _ c.in-Some.leaf c.zero.new.self (g.S.Store.disk c.args.store.now) (g.S.Store.disk c.zero.new.store) c.zero.result
-    (record { geometry = refl; below = refl; merge = refl; parts = c.zero.ensures.parts; was = c.in-Some.is; now = refl }) c.zero.ensures.moments c.zero.ensures.put c.zero.ensures.kept c.zero.ensures.quiet
+pub returns-clause-told : goal.returns-clause-told
+returns-clause-told g c =
+    let old : Layers = c.args.self.now in
+    let new : Layers = record old { leaf = Some c.zero-done.new.self; retiring = c.touch.new.retiring } in
+    let follows : LayerFollows c.args.place (calls.Trim c.args.first c.args.count) old new c.zero-done.result = follows_by c.args.place (calls.Trim c.args.first c.args.count) old new c.zero-done.result c.is_ok.result c.is_ok.ensures.value refl c.touch.ensures in
+    zero_told c.args.place c.args.first c.args.count old new c.in-Some.leaf c.zero-done.new.self (g.S.Store.disk c.args.store.now) (g.S.Store.disk c.zero-done.new.store) c.zero-done.result
+    (record { geometry = refl; below = refl; merge = refl; parts = c.zero-done.ensures.parts; was = c.in-Some.is; now = refl }) follows c.zero-done.ensures.moments c.zero-done.ensures.put c.zero-done.ensures.kept c.zero-done.ensures.quiet
 
-pub returns-in-Some-clause-ready : goal.returns-in-Some-clause-ready
-returns-in-Some-clause-ready g c =
-    ready_still c.args.self.now _ c.in-Some.leaf c.zero.new.self _ (g.S.Store.disk c.args.store.now) (g.S.Store.disk c.zero.new.store) c.zero.result
-    (record { geometry = refl; below = refl; merge = refl; parts = c.zero.ensures.parts; was = c.in-Some.is; now = refl }) c.zero.ensures.parts c.requires.ready
-    (others_stand.put c.in-Some.leaf _ _ (g.S.Store.disk c.args.store.now) (g.S.Store.disk c.zero.new.store) (leaf_of c.args.self.now c.in-Some.leaf (g.S.Store.disk c.args.store.now) c.in-Some.is c.requires.ready).ready c.zero.ensures.moments) c.zero.ensures.counts c.zero.ensures.err c.zero.ensures.ready c.zero.ensures.refused (put_ties c.in-Some.leaf c.zero.new.self _ _ _ (g.S.Store.disk c.args.store.now).told (g.S.Store.disk c.zero.new.store).told c.zero.result c.zero.ensures.put c.zero.ensures.kept)
+pub returns-clause-merge : goal.returns-clause-merge
+returns-clause-merge g c =
+    let old : Layers = c.args.self.now in
+    let new : Layers = record old { leaf = Some c.zero-done.new.self; retiring = c.touch.new.retiring } in
+    follows_by c.args.place (calls.Trim c.args.first c.args.count) old new c.zero-done.result c.is_ok.result c.is_ok.ensures.value refl c.touch.ensures
 
-pub returns-in-Some-clause-room : goal.returns-in-Some-clause-room
-returns-in-Some-clause-room g c =
-    room_is (λ (l : Layer). not l.leave) c.args.first c.args.count c.args.count c.args.self.now c.in-Some.leaf (g.S.Store.disk c.args.store.now) c.zero.result c.in-Some.is refl c.zero.ensures.full c.zero.ensures.room
+pub returns-clause-ready : goal.returns-clause-ready
+returns-clause-ready g c =
+    let old : Layers = c.args.self.now in
+    let new : Layers = record old { leaf = Some c.zero-done.new.self; retiring = c.touch.new.retiring } in
+    let follows : LayerFollows c.args.place (calls.Trim c.args.first c.args.count) old new c.zero-done.result = follows_by c.args.place (calls.Trim c.args.first c.args.count) old new c.zero-done.result c.is_ok.result c.is_ok.ensures.value refl c.touch.ensures in
+    ready_still old new c.in-Some.leaf c.zero-done.new.self _ (g.S.Store.disk c.args.store.now) (g.S.Store.disk c.zero-done.new.store) c.zero-done.result
+    (record { geometry = refl; below = refl; merge = refl; parts = c.zero-done.ensures.parts; was = c.in-Some.is; now = refl }) (follows_alike c.args.place (calls.Trim c.args.first c.args.count) old new c.zero-done.result follows) c.zero-done.ensures.parts c.requires.ready
+    (others_stand.put c.in-Some.leaf _ _ (g.S.Store.disk c.args.store.now) (g.S.Store.disk c.zero-done.new.store) (leaf_of old c.in-Some.leaf (g.S.Store.disk c.args.store.now) c.in-Some.is c.requires.ready).ready c.zero-done.ensures.moments)
+    c.zero-done.ensures.counts c.zero-done.ensures.err c.zero-done.ensures.ready c.zero-done.ensures.refused (put_ties c.in-Some.leaf c.zero-done.new.self _ _ _ (g.S.Store.disk c.args.store.now).told (g.S.Store.disk c.zero-done.new.store).told c.zero-done.result c.zero-done.ensures.put c.zero-done.ensures.kept)
+
+pub returns-clause-room : goal.returns-clause-room
+returns-clause-room g c =
+    room_is (λ (l : Layer). not l.leave) c.args.first c.args.count c.args.count c.args.self.now c.in-Some.leaf (g.S.Store.disk c.args.store.now) c.zero-done.result c.in-Some.is refl c.zero-done.ensures.full c.zero-done.ensures.room

@@ -3,8 +3,9 @@ use Rattle.std.proofs.lemmas.List.{places, with_items_is}
 use Rattle.std.specs.Vec.{with_items}
 use Rattle.chain_core.specs.Copying.{HasMarked, MarksIn, PutsAt}
 use Rattle.chain_core.specs.declared.layers.Layers.{Layers}
-use Rattle.chain_core.proofs.TargetPuts.{marked_err, marked_ok, target_fails, target_low, target_ready, target_room, target_told, target_within}
-use Rattle.chain_core.proofs.layers.Layers.put_piece.Goals as goal
+use Rattle.chain_core.proofs.Places.{alone}
+use Rattle.chain_core.proofs.TargetPuts.{marked_err, marked_ok, stamp_none, too_none, target_fails, target_low, target_ready, target_room, target_told, target_within}
+use Rattle.chain_core.proofs.layers.Layers.put_below.Goals as goal
 
 pub returns-then-is_ok-clause-told : goal.returns-then-is_ok-clause-told
 returns-then-is_ok-clause-told g c =
@@ -17,8 +18,8 @@ returns-then-is_ok-clause-told g c =
     let put : PutsAt (c.in-Some.merge.source + 1) piece old.below.items new.below.items before after r =
     subst (λ now. PutsAt (c.in-Some.merge.source + 1) piece old.below.items now before after r) (sym (with_items_is old.below c.put_at-done.new.layers (search (rules, places))))
     (subst (λ was. PutsAt (c.in-Some.merge.source + 1) piece was c.put_at-done.new.layers before after r) c.as_mut_slice-below.ensures.value c.put_at-done.ensures.put) in
-    let marked : HasMarked piece.stripe old new r = marked_ok piece.stripe old new r (sym c.is_ok.ensures.value ∙ c.if-is_ok.true) (subst (λ (n : ℕ). MarksIn n old.merge c.mark.new.merge) c.stripe.ensures c.mark.ensures.marks) in
-    target_told old new c.in-Some.merge piece before after r c.in-Some.is c.requires.ready refl refl put c.requires.stamp marked
+    let marked : HasMarked piece.stripe old new r = marked_ok piece.stripe old new r (sym c.is_ok.ensures.value ∙ c.if-is_ok.true) (subst (λ (n : ℕ). MarksIn n old.merge c.mark.new.merge) c.stripe.ensures c.mark.ensures.marks) (too_none piece.stripe old.retiring old.retiring (alone old c.in-Some.merge before c.in-Some.is c.requires.ready) refl) in
+    target_told old new c.in-Some.merge piece before after r c.in-Some.is c.requires.ready refl refl put (c.requires.stamp ∙ stamp_none old c.args.piece.now.stripe (alone old c.in-Some.merge before c.in-Some.is c.requires.ready)) marked
 
 pub returns-then-is_ok-clause-ready : goal.returns-then-is_ok-clause-ready
 returns-then-is_ok-clause-ready g c =
@@ -31,7 +32,7 @@ returns-then-is_ok-clause-ready g c =
     let put : PutsAt (c.in-Some.merge.source + 1) piece old.below.items new.below.items before after r =
     subst (λ now. PutsAt (c.in-Some.merge.source + 1) piece old.below.items now before after r) (sym (with_items_is old.below c.put_at-done.new.layers (search (rules, places))))
     (subst (λ was. PutsAt (c.in-Some.merge.source + 1) piece was c.put_at-done.new.layers before after r) c.as_mut_slice-below.ensures.value c.put_at-done.ensures.put) in
-    let marked : HasMarked piece.stripe old new r = marked_ok piece.stripe old new r (sym c.is_ok.ensures.value ∙ c.if-is_ok.true) (subst (λ (n : ℕ). MarksIn n old.merge c.mark.new.merge) c.stripe.ensures c.mark.ensures.marks) in
+    let marked : HasMarked piece.stripe old new r = marked_ok piece.stripe old new r (sym c.is_ok.ensures.value ∙ c.if-is_ok.true) (subst (λ (n : ℕ). MarksIn n old.merge c.mark.new.merge) c.stripe.ensures c.mark.ensures.marks) (too_none piece.stripe old.retiring old.retiring (alone old c.in-Some.merge before c.in-Some.is c.requires.ready) refl) in
     target_ready old new c.in-Some.merge piece before after r c.in-Some.is c.requires.ready refl refl put marked
 
 pub returns-then-is_ok-clause-low : goal.returns-then-is_ok-clause-low
@@ -58,8 +59,8 @@ returns-else-is_ok-clause-told g c =
     let put : PutsAt (c.in-Some.merge.source + 1) piece old.below.items new.below.items before after r =
     subst (λ now. PutsAt (c.in-Some.merge.source + 1) piece old.below.items now before after r) (sym (with_items_is old.below c.put_at-done.new.layers (search (rules, places))))
     (subst (λ was. PutsAt (c.in-Some.merge.source + 1) piece was c.put_at-done.new.layers before after r) c.as_mut_slice-below.ensures.value c.put_at-done.ensures.put) in
-    let marked : HasMarked piece.stripe old new r = marked_err piece.stripe old new r (sym c.is_ok.ensures.value ∙ c.if-is_ok.false) refl in
-    target_told old new c.in-Some.merge piece before after r c.in-Some.is c.requires.ready refl refl put c.requires.stamp marked
+    let marked : HasMarked piece.stripe old new r = marked_err piece.stripe old new r (sym c.is_ok.ensures.value ∙ c.if-is_ok.false) refl refl in
+    target_told old new c.in-Some.merge piece before after r c.in-Some.is c.requires.ready refl refl put (c.requires.stamp ∙ stamp_none old c.args.piece.now.stripe (alone old c.in-Some.merge before c.in-Some.is c.requires.ready)) marked
 
 pub returns-else-is_ok-clause-ready : goal.returns-else-is_ok-clause-ready
 returns-else-is_ok-clause-ready g c =
@@ -72,7 +73,7 @@ returns-else-is_ok-clause-ready g c =
     let put : PutsAt (c.in-Some.merge.source + 1) piece old.below.items new.below.items before after r =
     subst (λ now. PutsAt (c.in-Some.merge.source + 1) piece old.below.items now before after r) (sym (with_items_is old.below c.put_at-done.new.layers (search (rules, places))))
     (subst (λ was. PutsAt (c.in-Some.merge.source + 1) piece was c.put_at-done.new.layers before after r) c.as_mut_slice-below.ensures.value c.put_at-done.ensures.put) in
-    let marked : HasMarked piece.stripe old new r = marked_err piece.stripe old new r (sym c.is_ok.ensures.value ∙ c.if-is_ok.false) refl in
+    let marked : HasMarked piece.stripe old new r = marked_err piece.stripe old new r (sym c.is_ok.ensures.value ∙ c.if-is_ok.false) refl refl in
     target_ready old new c.in-Some.merge piece before after r c.in-Some.is c.requires.ready refl refl put marked
 
 pub returns-else-is_ok-clause-low : goal.returns-else-is_ok-clause-low

@@ -9,8 +9,8 @@ use Rattle.chain_core.specs.declared.layers.Layers.{Layers}
 use Rattle.chain_core.proofs.Copied.{low_on}
 use Rattle.chain_core.proofs.Exchanged.{child_session, child_waits, exchanged_low, exchanged_numbers}
 use Rattle.chain_core.proofs.Finishes.{finish_done, finish_stopped_first, finish_stopped_second, finish_stopped_third, settled_ready}
-use Rattle.chain_core.proofs.Places.{merge_of}
-use Rattle.chain_core.proofs.layers.Layers.finish.Goals as goal
+use Rattle.chain_core.proofs.Places.{alone, merge_of}
+use Rattle.chain_core.proofs.layers.Layers.drop_source.Goals as goal
 
 pub returns-in_err-settle : goal.returns-in_err-settle
 returns-in_err-settle g c =
@@ -128,7 +128,7 @@ returns-in_err-relink g c =
     let changed : ChangesFile (UpdatesBy u.relink) u.source L2 L3 d2 d3 c.relink.result =
     subst (λ o. IfSome o (λ w. ChangesFile (UpdatesBy w.relink) w.source L2 L3 d2 d3 c.relink.result)) (second.merge ∙ first.merge ∙ c.in-Some.is) c.relink.ensures in
     let third : ChangesFile (UpdatesBy u.relink) u.source L2 L3 d2 d3 (Err fault) = subst (λ (r : Result (Unit {0}) StoreFault). ChangesFile (UpdatesBy u.relink) u.source L2 L3 d2 d3 r) failed changed in
-    let marked = subst (λ o. IfSome o IsAllMarked) c.in-Some.is c.requires.copied in
+    let marked = subst (λ o. IfSome o (λ w. IsAllMarked w.marks)) c.in-Some.is c.requires.copied in
     subst (λ (r : Result (Unit {0}) StoreFault). Finishes L0 L3 d0 d3 r) (sym e) (finish_stopped_third L0 L1 u d0 d1 c.in-Some.is c.requires.ready L2 d2 first L3 d3 second marked fault third)
 
 pub remove-requires : goal.remove-requires
@@ -170,5 +170,5 @@ returns g c =
     let changed : ChangesFile (UpdatesBy u.relink) u.source L2 L3 d2 d3 c.relink.result =
     subst (λ o. IfSome o (λ w. ChangesFile (UpdatesBy w.relink) w.source L2 L3 d2 d3 c.relink.result)) (second.merge ∙ first.merge ∙ c.in-Some.is) c.relink.ensures in
     let third : ChangesFile (UpdatesBy u.relink) u.source L2 L3 d2 d3 (Ok tt) = subst (λ (r : Result (Unit {0}) StoreFault). ChangesFile (UpdatesBy u.relink) u.source L2 L3 d2 d3 r) linked changed in
-    let marked = subst (λ o. IfSome o IsAllMarked) c.in-Some.is c.requires.copied in
-    finish_done L0 L1 u d0 d1 c.in-Some.is c.requires.ready L2 d2 first L3 d3 second marked _ third refl refl refl c.remove.ensures.items
+    let marked = subst (λ o. IfSome o (λ w. IsAllMarked w.marks)) c.in-Some.is c.requires.copied in
+    finish_done L0 L1 u d0 d1 c.in-Some.is c.requires.ready L2 d2 first L3 d3 second marked _ third refl refl refl (third.retiring ∙ second.retiring ∙ first.retiring ∙ alone L0 u d0 c.in-Some.is c.requires.ready) c.remove.ensures.items
