@@ -1,5 +1,5 @@
 -- What lines leave of the store's content where it isn't told, or is only read.
-use Rattle.std.proofs.Common.{◌≡◌, ◌^◌, ℕ, Bool, true, false, List, [], ◌∷◌, Option, Some, None, Result, Ok, Err, refl, sym, ap, subst, ◌∙◌}
+use Rattle.std.proofs.Common.{◌≡◌, ◌^◌, ℕ, Bool, true, false, List, [], ◌∷◌, Option, Some, None, Result, Ok, Err, refl, sym, ap, ap₂, subst, ◌∙◌, ◌||◌}
 use Rattle.std.specs.Prelude.{IfSome, if◌then◌else◌, is_some, nat_lt}
 use Rattle.store_model.specs.Disk.{Disk, WhereBothTold}
 use Rattle.store_model.specs.Trace.{Trace}
@@ -14,7 +14,8 @@ use Rattle.chain_core.specs.Refusing.{broken_by, counted, misplaced, or_else, re
 use Rattle.chain_core.specs.Sessions.{Session}
 use Rattle.merge_core.specs.declared.piece.Piece.{Piece}
 use Rattle.chain_core.specs.Copying.{IfStopped, fetch_refused, merge_refused, no_merge, put_refused}
-use Rattle.chain_core.specs.Sessions.{IsMergeOf, IsSound}
+use Rattle.chain_core.specs.Sessions.{IsMergeOf, IsRetiringOf, IsSound, has_merge}
+use Rattle.chain_core.specs.declared.layers.Retiring.{Retiring}
 use Rattle.chain_core.specs.declared.layers.Underway.{Underway}
 use Rattle.script.specs.declared.form.Line.{Line}
 use Rattle.script_session.specs.Answers.{Answers, AnswersLine, AnswersLines, HasCauseOf}
@@ -122,15 +123,18 @@ line_untold number asks_finish t old new slot left none h = finish_untold h.0 ol
 no_merge_read : (s : Session) → IsSound s → is_some s.layers.leaf ≡ false → (e : ChainRefusal) × (merge_refused s ≡ Some e)
 no_merge_read s sound read_only = by_unfit (unfit s.events s.broken) refl
   where
-    by_merge : (o : Option Underway) → s.layers.merge ≡ o → s.broken ≡ None → no_merge s.layers ≡ Some NoMerge
-    by_merge None is whole = ap (λ o. if is_some o then None else Some NoMerge) is
-    by_merge (Some u) is whole =
+    by_both : (o : Option Underway) (t : Option Retiring) → s.layers.merge ≡ o → s.layers.retiring ≡ t → s.broken ≡ None → no_merge s.layers ≡ Some NoMerge
+    by_both None None is only whole = ap₂ (λ (o : Option Underway) (t : Option Retiring). if is_some o || is_some t then None else Some NoMerge) is only
+    by_both o (Some r) is only whole =
+        let retiring : IsRetiringOf s.layers.geometry s.layers.leaf s.layers.below.items r = subst (λ o. IfSome o (IsRetiringOf s.layers.geometry s.layers.leaf s.layers.below.items)) only (sound.ready whole).retiring in
+        absurd (let bad : false ≡ true = sym read_only ∙ retiring.session in cc)
+    by_both (Some u) None is only whole =
         let merge : IsMergeOf s.layers.geometry s.layers.leaf s.layers.below.items u = subst (λ o. IfSome o (IsMergeOf s.layers.geometry s.layers.leaf s.layers.below.items)) is (sound.ready whole).merge in
         absurd (let bad : false ≡ true = sym read_only ∙ merge.session in cc)
 
     by_unfit : (o : Option ChainRefusal) → unfit s.events s.broken ≡ o → (e : ChainRefusal) × (merge_refused s ≡ Some e)
     by_unfit (Some e) is = (e, ap (λ o. or_else o (no_merge s.layers)) is)
-    by_unfit None is = (NoMerge, ap (λ o. or_else o (no_merge s.layers)) is ∙ by_merge s.layers.merge refl (unbroken s.events s.broken None (ap (λ o. or_else o None) is)))
+    by_unfit None is = (NoMerge, ap (λ o. or_else o (no_merge s.layers)) is ∙ by_both s.layers.merge s.layers.retiring refl refl (unbroken s.events s.broken None (ap (λ o. or_else o None) is)))
 
 fetch_first : (u : Option ChainRefusal) (b : Bool) (x : Option ChainRefusal) (e : ChainRefusal) → or_else u (if b then None else Some NoMerge) ≡ Some e → or_else u (if b then x else Some NoMerge) ≡ Some e
 fetch_first (Some y) b x e h = h
@@ -143,7 +147,7 @@ line_stays number (asks_call call) t old new slot left read_only h =
     (answer_stays number call old new h.0.answer h.0.reply read_only h.0.answers, h.0.answers.session ∙ read_only)
 line_stays number (asks_fetch stripe) t old new slot left read_only h =
     let cause = no_merge_read old h.2.sound read_only in
-    let is : fetch_refused stripe old ≡ Some cause.0 = fetch_first (unfit old.events old.broken) (is_some old.layers.merge) _ cause.0 cause.1 in
+    let is : fetch_refused stripe old ≡ Some cause.0 = fetch_first (unfit old.events old.broken) (has_merge old.layers) _ cause.0 cause.1 in
     let only = (subst (λ o. IfStopped {T = ℕ} o h.0 (IsUnchanged old new)) is h.2.early).1 in
     (ap (λ (s : Session). s.disk.told) only, h.2.keeps.session ∙ read_only)
 line_stays number asks_put t old new slot left read_only h =

@@ -16,9 +16,10 @@ use Rattle.guest_model.specs.Ranges.{range_refusal}
 use Rattle.chain_core.specs.Answering.{IsCausedBy, IsCausedByRead}
 use Rattle.chain_core.specs.Answering as chain
 use Rattle.chain_core.specs.Refusing.{broken_by, counted, misplaced, or_else, out_of, refused, unfit}
-use Rattle.chain_core.specs.Sessions.{Session}
+use Rattle.chain_core.specs.Sessions.{AreReady, IsReadyLeaf, IsSound, Session, has_merge, leaf_number, number_of_leaf}
 use Rattle.chain_core.specs.declared.layers.Layers.{Layers}
-use Rattle.chain_core.specs.Copying.{FetchCause, IfStopped, PutCause, fetch_refused, merge_refused, no_merge, no_piece, no_stripe, past_stripes, put_refused, stale, target_number, unfilled}
+use Rattle.layer_session.specs.declared.file.Layer.{Layer}
+use Rattle.chain_core.specs.Copying.{FetchCause, IfStopped, PutCause, fetch_refused, merge_refused, no_merge, no_piece, no_stripe, past_stripes, put_refused, stale, stamp_of, target_number, unfilled}
 use Rattle.chain_core.specs.Finished.{FinishCause, HasFinished}
 use Rattle.merge_core.specs.declared.piece.Piece.{Piece}
 use Rattle.script.specs.Transcript.{of_call}
@@ -74,12 +75,20 @@ counts_still old new fault e c =
 abbrev EndsOrReads : Session → StoreFault → Type 0
 EndsOrReads new fault = ((new.broken ≡ None) × (fault.count ≡ new.disk.failed_reads fault.file)) ⊎ (new.broken ≡ Some fault)
 
+-- the leaf's file is one of the store's
+leaf_within : (s : Session) → IsSound s → s.broken ≡ None → 0 < s.disk.files → leaf_number s.layers < s.disk.files
+leaf_within s sound whole some = by_leaf s.layers.leaf (sound.ready whole).leaf
+  where
+    by_leaf : (o : Option Layer) → IfSome o (IsReadyLeaf s.layers.geometry s.layers.below.items s.disk) → number_of_leaf o < s.disk.files
+    by_leaf None ready = some
+    by_leaf (Some leaf) ready = ready.ready.readable.there
+
 -- a refusal of a call that reached the files: the counts stay, or the fault that it tells is counted
 data Fault (old new : Session) : ChainRefusal → Type 0 where
   rests : (x : ChainRefusal) → fault_of (Err x) ≡ None → new.broken ≡ None → new.disk ≡ record (old.disk) { told = new.disk.told } → Fault old new x
   faults : (x : ChainRefusal) (fault : StoreFault) → fault_of (Err x) ≡ Some fault → Counts new.disk fault → new.disk.files ≡ old.disk.files → EndsOrReads new fault → Fault old new x
 
-module _ (old new : Session) (some : 0 < old.disk.files) where
+module _ (old new : Session) (some : leaf_number old.layers < old.disk.files) where
   read_fault : (x : ChainRefusal) → IsCausedByRead old new (Err x) → Fault old new x
   read_fault EmptyRange c = absurd c
   read_fault (OutOfRange first count sectors) c = absurd c
@@ -106,12 +115,12 @@ module _ (old new : Session) (some : 0 < old.disk.files) where
   change_fault ReadOnly c = absurd c
   change_fault (Broken file count) c =
       let fault = chain.fault_of file count in
-      faults (Broken file count) fault refl (counts_change 0 old.disk new.disk fault some c.0) (ap (λ (d : Disk). d.files) c.0.stays) (inr c.1)
+      faults (Broken file count) fault refl (counts_change (leaf_number old.layers) old.disk new.disk fault some c.0) (ap (λ (d : Disk). d.files) c.0.stays) (inr c.1)
   change_fault (Spent t) c = absurd c
   change_fault (FileFull next) c = rests (FileFull next) refl c.1 c.0
   change_fault (ReadFault file count) c =
       let fault = chain.fault_of file count in
-      faults (ReadFault file count) fault refl (counts_read 0 old.disk new.disk fault new.disk.told some c.0) (ap (λ (d : Disk). d.files) c.0.stays)
+      faults (ReadFault file count) fault refl (counts_read (leaf_number old.layers) old.disk new.disk fault new.disk.told some c.0) (ap (λ (d : Disk). d.files) c.0.stays)
       (inl (c.1, c.0.count.told ∙ ap new.disk.failed_reads (sym c.0.of_file)))
   change_fault NoMerge c = absurd c
   change_fault (Stale taken at) c = absurd c
@@ -206,7 +215,7 @@ module _ (number : ℕ) (call : Call) (old new : Session) where
         by_fault (faults _ fault f counts files b) = line_faults fault f counts files b
 
         go : (o : Option ChainRefusal) → refused call old ≡ o → LineCounts (Err x) old new
-        go None is = by_fault (call_fault old new some call x h.cause is)
+        go None is = by_fault (call_fault old new (leaf_within old h.sound whole some) call x h.cause is)
         go (Some e) is =
             let early = refused_early (Err x) r e is h in
             line_rests (early_quiet call old x whole (is ∙ ap Some (sym (same_err x e early.0)))) (ap (λ (s : Session). s.broken) early.1 ∙ whole) (same_told old.disk new.disk (ap (λ (s : Session). s.disk) early.1))
@@ -215,7 +224,7 @@ module _ (number : ℕ) (call : Call) (old new : Session) where
     done_counts d h = go (refused call old) refl
       where
         go : (o : Option ChainRefusal) → refused call old ≡ o → LineCounts (Ok (Some d.0, of_call d.1)) old new
-        go None is = let both = done_rests old new some call d.0 h.cause is in line_rests refl both.0 both.1
+        go None is = let both = done_rests old new (leaf_within old h.sound whole some) call d.0 h.cause is in line_rests refl both.0 both.1
         go (Some e) is = let bad : ◌≡◌ {A = Result ℕ ChainRefusal} (Ok d.0) (Err e) = (refused_early (Ok d.0) d.1 e is h).0 in absurd (cc)
 
     call_counts : (t : Told) → AnswersCall number call t old new → LineCounts t old new
@@ -267,7 +276,7 @@ past_quiet stripe stripes x = go (nat_lt stripe stripes)
     go false h = quiet_by (NoStripe stripe stripes) x h refl
 
 stripe_quiet : (stripe : ℕ) (layers : Layers) (x : ChainRefusal) → no_stripe stripe layers ≡ Some x → Quiet x
-stripe_quiet stripe layers x = go (is_some layers.merge) _ (past_quiet stripe _ x)
+stripe_quiet stripe layers x = go (has_merge layers) _ (past_quiet stripe _ x)
   where
     go : (b : Bool) (o : Option ChainRefusal) → (o ≡ Some x → Quiet x) → (if b then o else Some NoMerge) ≡ Some x → Quiet x
     go true o q h = q h
@@ -281,17 +290,17 @@ unfilled_quiet : (b : Bool) (x : ChainRefusal) → (if b then None else Some NoP
 unfilled_quiet true x h = none_quiet x h
 unfilled_quiet false x h = quiet_by NoPiece x h refl
 
-stale_quiet : (stamp : ℕ) (x : ChainRefusal) → stale stamp ≡ Some x → Quiet x
-stale_quiet stamp x = go (stamp == 0)
+stale_quiet : (taken now : ℕ) (x : ChainRefusal) → stale taken now ≡ Some x → Quiet x
+stale_quiet taken now x = go (taken == now)
   where
-    go : (b : Bool) → (if b then None else Some (Stale stamp 0)) ≡ Some x → Quiet x
+    go : (b : Bool) → (if b then None else Some (Stale taken now)) ≡ Some x → Quiet x
     go true h = none_quiet x h
-    go false h = quiet_by (Stale stamp 0) x h refl
+    go false h = quiet_by (Stale taken now) x h refl
 
 piece_quiet : (piece : Piece) (layers : Layers) (x : ChainRefusal) → no_piece piece layers ≡ Some x → Quiet x
 piece_quiet piece layers x =
-    or_quiet (no_merge layers) _ x (merge_quiet (is_some layers.merge) x)
-    (or_quiet (unfilled piece) _ x (unfilled_quiet piece.filled x) (or_quiet (no_stripe piece.stripe layers) (stale piece.stamp) x (stripe_quiet piece.stripe layers x) (stale_quiet piece.stamp x)))
+    or_quiet (no_merge layers) _ x (merge_quiet (has_merge layers) x)
+    (or_quiet (unfilled piece) _ x (unfilled_quiet piece.filled x) (or_quiet (no_stripe piece.stripe layers) (stale piece.stamp (stamp_of layers piece.stripe)) x (stripe_quiet piece.stripe layers x) (stale_quiet piece.stamp (stamp_of layers piece.stripe) x)))
 
 module _ (old new : Session) (left : Piece) where
   fetch_fault : (x : ChainRefusal) → FetchCause old new left (Err x) → Fault old new x
@@ -421,7 +430,7 @@ module _ (old new : Session) (slot left : Piece) (whole : old.broken ≡ None) w
       go None is = copy_ends answer (h.turns is)
       go (Some e) is =
           let early = subst (λ o. IfStopped {T = Unit {0}} o answer ((new ≡ old) × (left ≡ slot))) is h.early in
-          let quiet : Quiet e = step_quiet old.events old.broken (no_merge old.layers) e whole (merge_quiet (is_some old.layers.merge) e) is in
+          let quiet : Quiet e = step_quiet old.events old.broken (no_merge old.layers) e whole (merge_quiet (has_merge old.layers) e) is in
           subst (λ a. LineCounts (as_done a) old new) (sym early.0)
           (line_rests quiet (ap (λ (s : Session). s.broken) early.1.0 ∙ whole) (same_told old.disk new.disk (ap (λ (s : Session). s.disk) early.1.0)))
 
@@ -455,7 +464,7 @@ module _ (old new : Session) (slot left : Piece) (whole : old.broken ≡ None) w
       go None is (Err x) cause early = by_fault x old new (finish_ends x (cause is))
       go (Some e) is answer cause early =
           let first = subst (λ o. IfStopped {T = Unit {0}} o answer (IsUnchanged old new)) is early in
-          let quiet : Quiet e = step_quiet old.events old.broken (no_merge old.layers) e whole (merge_quiet (is_some old.layers.merge) e) is in
+          let quiet : Quiet e = step_quiet old.events old.broken (no_merge old.layers) e whole (merge_quiet (has_merge old.layers) e) is in
           subst (λ a. LineCounts (as_done a) old new) (sym first.0)
           (line_rests quiet (ap (λ (s : Session). s.broken) first.1 ∙ whole) (same_told old.disk new.disk (ap (λ (s : Session). s.disk) first.1)))
 

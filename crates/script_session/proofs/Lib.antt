@@ -3,10 +3,13 @@ pub mod Copying
 pub mod Counting
 pub mod Ending
 pub mod Full
+pub mod LeafScripts
 pub mod LeftFiles
 pub mod LinesTold
 pub mod Long
 pub mod Many
+pub mod Marked
+pub mod MergeEnds
 pub mod MergeScripts
 pub mod Moving
 pub mod Room

@@ -8,6 +8,7 @@ use Rattle.script_session.specs.Answers.{AnswersLine}
 use Rattle.script_session.specs.Histories.{AreTold, Break, Course, Drive, IsOver, LinesTellHistory, Stands, TellsHistory, line_told, none_left}
 use Rattle.script_session.specs.Told.{Asked, Told, asked, asks_call, asks_copy, asks_fetch, asks_finish, asks_put, next_number}
 use Rattle.script_session.proofs.Steps.{copy_line, fetch_line, finish_line, put_line}
+use Rattle.script_session.proofs.LeftFiles.{later_itself}
 use Rattle.script_session.proofs.Telling.{LineTold, call_line}
 
 module _ (drive : Drive) (number : ℕ) (v : State) (course : Course) (broken : Option Break) (old new : Session) (slot left : Piece) (over : IsOver drive v old) (trace : Trace) (seen : old.disk.told ≡ Some trace)
@@ -30,7 +31,7 @@ lines_told drive number [] [] v course broken old new slot left trace seen stand
       now = trace;
       end = course;
       broken = broken;
-      same = record { leaf = refl; retired = refl; number = refl; opening = refl; began = refl; writes = refl; since = refl; left = refl; names = refl; history = refl };
+      same = later_itself v;
       told_so = none_left number v.history course broken;
       over = over;
       seen = seen;

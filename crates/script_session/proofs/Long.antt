@@ -10,7 +10,9 @@ use Rattle.guest_model.specs.declared.refusal.ChainRefusal.TheVariants.{EmptyRan
 use Rattle.guest_model.specs.Ranges.{range_refusal}
 use Rattle.chain_core.specs.Answering.{AnswersTold}
 use Rattle.chain_core.specs.Refusing.{broken_by, or_else, unfit}
-use Rattle.chain_core.specs.Sessions.{Session}
+use Rattle.chain_core.specs.Copying.{MergeFollows}
+use Rattle.chain_core.specs.Sessions.{KeepsMerge, Session}
+use Rattle.chain_core.specs.declared.layers.Layers.{Layers}
 use Rattle.script_session.specs.Answers.{too_long}
 
 pub range_long : (first count sectors : ℕ) → 2048 < count → range_refusal first count 2048 sectors ≡ Err (TooLong count 2048)
@@ -44,6 +46,15 @@ refused_err (Some u) e answer P h = rw h.0 refl
 pub refused_no_ok : (u : Option ChainRefusal) (e : ChainRefusal) (answer : Result ℕ ChainRefusal) (P Q : Type 0) → Refuses (or_else u (Some e)) answer P → OnOk answer Q
 refused_no_ok None e answer P Q h = rw h.0 tt
 refused_no_ok (Some u) e answer P Q h = rw h.0 tt
+
+-- of the merge
+pub short_keeps : (u : Option ChainRefusal) (e : ChainRefusal) (answer : Result ℕ ChainRefusal) (P : Type 0) (call : Call) (old new : Layers) → Refuses (or_else u (Some e)) answer P → MergeFollows call old new answer → KeepsMerge old new
+short_keeps None e answer P call old new h follows = subst (MergeFollows call old new) h.0 follows
+short_keeps (Some u) e answer P call old new h follows = subst (MergeFollows call old new) h.0 follows
+
+pub long_follows : (u : Option ChainRefusal) (e : ChainRefusal) (answer : Result ℕ ChainRefusal) (P : Type 0) (call : Call) (old new : Layers) → KeepsMerge old new → Refuses (or_else u (Some e)) answer P → MergeFollows call old new answer
+long_follows None e answer P call old new keeps h = subst (MergeFollows call old new) (sym h.0) keeps
+long_follows (Some u) e answer P call old new keeps h = subst (MergeFollows call old new) (sym h.0) keeps
 
 -- where content is told
 pub long_told : (count : ℕ) (who : Caller) (short long : Call) (old new : Session) (answer : Result ℕ ChainRefusal) (P : Type 0) → Refuses (or_else (unfit old.events old.broken) (Some EmptyRange)) answer P

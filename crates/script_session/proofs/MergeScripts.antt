@@ -28,24 +28,25 @@ use Rattle.chain_core.specs.Finished.{left_of}
 use Rattle.chain_core.specs.MergeStarting.{HasStartedMerge, LeavesRest, StartsMerge, between_in, chain_files, inner_parts, is_changed, is_written, leaf_of, source_in, started_merge, target_in, target_place}
 use Rattle.chain_core.specs.Sessions.{Session}
 use Rattle.chain_core.specs.Starting.{opening_disk, placed_from}
-use Rattle.chain_core.specs.States.{IsServing, Rest, State, WasSynced, disk_now, files_of, merging, others_of, plain, sector_of}
+use Rattle.chain_core.specs.States.{IsCourse, IsServing, State, WasSynced, files_of, sector_of}
+use Rattle.chain_core.specs.declared.layers.Layers.{Layers}
+use Rattle.chain_core.specs.declared.layers.Underway.{Underway}
 use Rattle.chain_core.proofs.MergeFound.{AreFound}
 use Rattle.chain_core.proofs.MergeTold.{are_found}
 use Rattle.script.specs.declared.form.Line.{Line}
 use Rattle.script_session.specs.Answers.{AnswersLines}
 use Rattle.script_session.specs.Faults.{Counts}
-use Rattle.script_session.specs.Histories.{Break, Drive, IsOnCourse, IsOver, IsPlain, Stands, TellsHistory, disk_after, is_broken, left_numbers, names_left, open_in, serves}
-use Rattle.script_session.specs.MergeRunning.{HasMergeHistory, HasRunMerge, MergeIsAtRest, drive_of_merge, just_started, names_without}
-use Rattle.script_session.specs.Running.{HasRunToEnd, IsEnded, open_by}
-use Rattle.script_session.specs.Told.{Told, sector_size}
+use Rattle.script_session.specs.Histories.{IsMarkedSo, IsOver, below_marked, names_left, numbers_left, serves}
+use Rattle.script_session.specs.MergeRunning.{HasMergeHistory, HasRunMerge, drive_of_merge, just_started, names_without, scope_of}
+use Rattle.script_session.specs.Running.{HasRunToEnd, IsEnded}
+use Rattle.script_session.specs.Told.{Told}
 use Rattle.script_session.specs.declared.session.ScriptRun.{ScriptRun}
 use Rattle.script_session.proofs.Content.{lines_untold}
 use Rattle.script_session.proofs.Counting.{lines_counted, told_both}
 use Rattle.script_session.proofs.Ending.{end_counted, end_untold, last_counted, quiet_end}
-use Rattle.script_session.proofs.LeftFiles.{all_at, all_left, all_numbers, names_started, number_of}
+use Rattle.script_session.proofs.LeftFiles.{all_at, names_started, number_of}
 use Rattle.script_session.proofs.LinesTold.{lines_told}
-use Rattle.script_session.proofs.Scripts.{ended_of, past_as}
-use Rattle.script_session.proofs.Telling.{both_told}
+use Rattle.script_session.proofs.MergeEnds.{IsNewMerge, IsScope, has_history}
 
 -- ---- the history
 
@@ -66,151 +67,72 @@ source_then m ids pages trace mid synced =
     let below : List Placed = placed_from trace (target_place m + 1) m.below in
     all_at (WasSynced v.writes v.since) (between_in trace m.above m.child ids.child) (source_in trace m ids pages) (target_in trace m ids ∷ below) synced.1 (source_unwritten m)
 
--- of the numbers that are left one is the child's, where it isn't the leaf, and one the target's
-module _ (m : MergeFiles) (ids : MergeIds) (pages : List Page) (trace mid now : Trace) (leaf : is_synced (file_of now 0) ≡ true)
-    (others : AllByRecursion (λ n. is_synced (file_of now n) ≡ true) (left_numbers (started_merge trace mid m ids pages).rest)) (source : is_synced (file_of now (source_place m)) ≡ true) where
-  abbrev Synced : ℕ → Type 0
-  Synced n = is_synced (file_of now n) ≡ true
-
+-- Of the numbers that are left one is the child's, where it isn't the leaf, and one the target's.
+module _ (m : MergeFiles) (ids : MergeIds) (pages : List Page) (trace mid : Trace) (P : ℕ → Type 0) (leaf : P 0) (others : AllByRecursion P (numbers_left (started_merge trace mid m ids pages))) where
   abbrev target_behind : List Placed
   target_behind = target_in trace m ids ∷ placed_from trace (target_place m + 1) m.below
 
-  parted : AllByRecursion Synced (map number_of (between_in trace m.above m.child ids.child) ++ map number_of target_behind)
-  parted = subst (AllByRecursion Synced) (map-append number_of (between_in trace m.above m.child ids.child) target_behind) others
+  parted : AllByRecursion P (map number_of (between_in trace m.above m.child ids.child) ++ map number_of target_behind)
+  parted = subst (AllByRecursion P) (map-append number_of (between_in trace m.above m.child ids.child) target_behind) others.1
 
-  target : Synced (target_place m)
-  target = all_at Synced (map number_of (between_in trace m.above m.child ids.child)) (target_place m) (map number_of (placed_from trace (target_place m + 1) m.below)) parted
+  target : P (target_place m)
+  target = all_at P (map number_of (between_in trace m.above m.child ids.child)) (target_place m) (map number_of (placed_from trace (target_place m + 1) m.below)) parted
 
-  first_part : (first last : List ℕ) → AllByRecursion Synced (first ++ last) → AllByRecursion Synced first
+  first_part : (first last : List ℕ) → AllByRecursion P (first ++ last) → AllByRecursion P first
   first_part [] last h = tt
   first_part (n ∷ first) last h = (h.0, first_part first last h.1)
 
-  child : Synced (child_place m)
+  child : P (child_place m)
   child = by_above m.above (first_part (map number_of (between_in trace m.above m.child ids.child)) (map number_of target_behind) parted) where
-    by_above : (above : List LinkedFile) → AllByRecursion Synced (map number_of (between_in trace above m.child ids.child)) → Synced (length above)
+    by_above : (above : List LinkedFile) → AllByRecursion P (map number_of (between_in trace above m.child ids.child)) → P (length above)
     by_above [] h = leaf
     by_above (top ∷ above) h =
         let last = as_found trace (length (top ∷ above)) (inner_parts ids.child m.child.parts) in
-        all_at Synced (map number_of (placed_from trace 1 above)) (length (top ∷ above)) [] (subst (AllByRecursion Synced) (map-append number_of (placed_from trace 1 above) (last ∷ [])) h)
+        all_at P (map number_of (placed_from trace 1 above)) (length (top ∷ above)) [] (subst (AllByRecursion P) (map-append number_of (placed_from trace 1 above) (last ∷ [])) h)
 
-  pub all_synced : (n : ℕ) → is_changed m n ≡ true → Synced n
-  all_synced n changed = elim (or_cases (is_written m n) (n == source_place m) changed) [
-    | inl written ↦ elim (or_cases (n == 0 || n == child_place m) (n == target_place m) written) [
-      | inl upper ↦ elim (or_cases (n == 0) (n == child_place m) upper) [
-        | inl e ↦ subst Synced (sym (eqb-true n 0 e)) leaf
-        | inr e ↦ subst Synced (sym (eqb-true n (child_place m) e)) child
-      ]
-      | inr e ↦ subst Synced (sym (eqb-true n (target_place m) e)) target
+  own_numbers : (n : ℕ) → is_written m n ≡ true → P n
+  own_numbers n written = elim (or_cases (n == 0 || n == child_place m) (n == target_place m) written) [
+    | inl upper ↦ elim (or_cases (n == 0) (n == child_place m) upper) [
+      | inl e ↦ subst P (sym (eqb-true n 0 e)) leaf
+      | inr e ↦ subst P (sym (eqb-true n (child_place m) e)) child
     ]
-    | inr e ↦ subst Synced (sym (eqb-true n (source_place m) e)) source
+    | inr e ↦ subst P (sym (eqb-true n (target_place m) e)) target
   ]
 
-module _ (m : MergeFiles) (merge : Merge) (trace mid : Trace) (lines : List Line) (told : List Told) (behind : Session) (after : Disk) (closed : Result (Unit {0}) StoreFault) (ended : IsEnded behind after closed)
-    (rest : (other : ℕ) → is_changed m other ≡ false → file_of mid other ≡ file_of trace other) (source_synced : is_synced (file_of mid (source_place m)) ≡ true) (names_began : names_left (started_merge trace mid m merge.ids merge.twice) ≡ names_without m) (left : Piece)
-    (tells : TellsHistory (drive_of_merge m trace) 1 lines told (started_merge trace mid m merge.ids merge.twice) just_started None behind left) where
-  abbrev drive : Drive
-  drive = drive_of_merge m trace
+-- what isn't written once the merge is prepared, and was changed before, is the source
+only_source : (m : MergeFiles) (n : ℕ) → is_changed m n ≡ true → is_written m n ≡ false → n ≡ source_place m
+only_source m n changed unwritten = elim (or_cases (is_written m n) (n == source_place m) changed) [
+  | inl written ↦ absurd (let bad : false ≡ true = sym unwritten ∙ written in cc)
+  | inr e ↦ eqb-true n (source_place m) e
+]
 
-  abbrev later : State
-  later = tells.later
-
-  abbrev Has : Trace → Type 0
-  Has now = HasMergeHistory m lines told closed trace now
-
-  moments_as : (b : ℕ → ℕ → Bool) (now : Trace) → EachOpensToPrefix (sector_of later) later.opening later.history (b (sector_of later)) later.leaf later.began now
-      → EachOpensToPrefix sector_size (opening_disk trace (chain_files m)) later.history (b sector_size) (leaf_of m).name trace now
-  moments_as b now past =
-      past_as (sector_of later) sector_size later.opening (opening_disk trace (chain_files m)) later.leaf (leaf_of m).name later.began trace later.history b now tells.over.sector tells.over.opening tells.same.leaf tells.same.began past
-
-  others_as : (now : Trace) → ((other : ℕ) → later.writes other ≡ false → file_of now other ≡ file_of later.since other) → (other : ℕ) → is_changed m other ≡ false → file_of now other ≡ file_of trace other
-  others_as now still other none =
-      still other (ap (λ w. w other) tells.same.writes ∙ either_false (is_written m other) _ none) ∙ ap (λ t. file_of t other) tells.same.since ∙ rest other none
-
-  -- a fault has broken the session
-  behind_break : (b : Break) → tells.broken ≡ Some b → behind.broken ≡ Some b.fault → ((other : ℕ) → later.writes other ≡ false → file_of tells.now other ≡ file_of later.since other)
-      → EachOpensToPrefix (sector_of later) later.opening later.history (open_in (sector_of later) b.call) later.leaf later.began tells.now → WhereBothTold (HasMergeHistory m lines told closed) (Some trace) after.told
-  behind_break b is broken still past =
-      let e = subst (λ o. IfSome o (λ fault. (closed ≡ Err fault) × (after ≡ behind.disk))) broken ended.broken in
-      let now_is : after.told ≡ Some tells.now = ap (λ (d : Disk). d.told) e.1 ∙ tells.seen in
-      let has : Has tells.now = record {
-        history = later.history;
-        course = tells.end;
-        broken = tells.broken;
-        told_so = tells.told_so;
-        moments = subst (λ o. EachOpensToPrefix sector_size (opening_disk trace (chain_files m)) later.history (open_by o) (leaf_of m).name trace tells.now) (sym is) (moments_as (λ z. open_in z b.call) tells.now past);
-        still = others_as tells.now still;
-        at_rest = subst (λ r. OnOk r (MergeIsAtRest m drive later.history tells.now)) (sym e.0) tt;
-        linked = λ done. subst (λ r. OnOk r (EachLinks (leaf_of m).name (names_without m) tells.now)) (sym e.0) tt;
-      } in
-      subst (λ o. WhereBothTold (HasMergeHistory m lines told closed) (Some trace) o) (sym now_is) has
-
-  -- the source wasn't changed since the merge was prepared
-  source_now : (now : Trace) → HasClosed (is_some behind.layers.leaf) later tells.now now (Ok tt) → is_synced (file_of now (source_place m)) ≡ true
-  source_now now h =
-      let end = ended_of (is_some behind.layers.leaf) later tells.now now (Ok tt) h in
-      let same : file_of now (source_place m) ≡ file_of mid (source_place m) = end.still (source_place m) (ap (λ w. w (source_place m)) tells.same.writes ∙ source_unwritten m) ∙ ap (λ t. file_of t (source_place m)) tells.same.since in
-      subst (λ f. is_synced f ≡ true) (sym same) source_synced
-
-  -- it has ended, or its end failed
-  module _ (none : tells.broken ≡ None) (on : IsOnCourse later behind.layers.geometry left tells.end) (now : Trace) (h : HasClosed (is_some behind.layers.leaf) later tells.now now closed) where
-    plain_files : (rest : Rest) → IsPlain rest → left_of rest ≡ others_of rest
-    plain_files (plain others) is = refl
-    plain_files (merging above source target below k) is = absurd is
-
-    links_of : (r : Result (Unit {0}) StoreFault) → HasClosed (is_some behind.layers.leaf) later tells.now now r → IsPlain later.rest → OnOk r (EachLinks (leaf_of m).name (names_without m) now)
-    links_of (Err fault) h is = tt
-    links_of (Ok done) h is =
-        let names : map (λ f. f.member.name) (files_of later) ≡ names_without m = ap (λ files. map (λ f. f.member.name) (later.top ∷ files)) (sym (plain_files later.rest is)) ∙ tells.same.names ∙ names_began in
-        subst (λ l. EachLinks l (names_without m) now) tells.same.leaf (subst (λ ns. EachLinks later.leaf ns now) (of_members (files_of later) ∙ names) h.links)
-      where
-        of_members : (files : List Placed) → names_of (members_of files) ≡ map (λ f. f.member.name) files
-        of_members [] = refl
-        of_members (f ∷ files) = ap (λ rest. f.member.name ∷ rest) (of_members files)
-
-    rest_of : (r : Result (Unit {0}) StoreFault) → HasClosed (is_some behind.layers.leaf) later tells.now now r → OnOk r (MergeIsAtRest m drive later.history now)
-    rest_of (Err fault) h = tt
-    rest_of (Ok done) h =
-        let disk : disk_now later ≡ disk_after drive later.history = ap₂ (λ (z : ℕ) (o : GuestDisk). replay z o later.history) tells.over.sector tells.over.opening in
-        record {
-          synced = all_synced m (merge.ids) merge.twice trace mid now (subst (λ n. is_synced (file_of now n) ≡ true) tells.same.number (h.synced tells.over.change).0)
-              (subst (AllByRecursion (λ n. is_synced (file_of now n) ≡ true)) tells.same.left
-              (all_numbers (λ n. is_synced (file_of now n) ≡ true) (left_of later.rest) (all_left (λ f. is_synced (file_of now f.number) ≡ true) later.rest (h.synced tells.over.change).1)))
-              (source_now now h);
-          opens = subst (λ d. EachOpens (leaf_of m).name (λ s. false) d now) disk (subst (λ l. EachOpens l (λ s. false) (disk_now later) now) tells.same.leaf h.all);
-        }
-
-    behind_end : Has now
-    behind_end =
-        let end = ended_of (is_some behind.layers.leaf) later tells.now now closed h in
-        record {
-          history = later.history;
-          course = tells.end;
-          broken = tells.broken;
-          told_so = tells.told_so;
-          moments = subst (λ o. EachOpensToPrefix sector_size (opening_disk trace (chain_files m)) later.history (open_by o) (leaf_of m).name trace now) (sym none) (moments_as (λ z s. false) now end.past);
-          still = others_as now end.still;
-          at_rest = rest_of closed h;
-          linked = λ done. links_of closed h (subst (IsOnCourse later behind.layers.geometry left) done on);
-        }
-
-  by_stands : (broken : Option Break) → tells.broken ≡ broken → Stands later behind left tells.now tells.end broken → WhereBothTold (HasMergeHistory m lines told closed) (Some trace) after.told
-  by_stands (Some b) is (is_broken _ broken still past) = behind_break b is broken still past
-  by_stands None is (serves whole serving on) =
-      let end = both_told _ behind.disk.told after.told tells.now tells.seen (ended.told whole) in
-      subst (λ o. WhereBothTold (HasMergeHistory m lines told closed) (Some trace) o) (sym end.1) (behind_end is on end.0 (end.2 later serving))
-
-  pub has_history : WhereBothTold (HasMergeHistory m lines told closed) (Some trace) after.told
-  has_history = by_stands tells.broken refl tells.stands
+scope_is : (m : MergeFiles) (merge : Merge) (trace mid : Trace) → ((other : ℕ) → is_changed m other ≡ false → file_of mid other ≡ file_of trace other) → is_synced (file_of mid (source_place m)) ≡ true
+    → names_left (started_merge trace mid m merge.ids merge.twice) ≡ names_without m → IsScope (scope_of m) (started_merge trace mid m merge.ids merge.twice) trace mid
+scope_is m merge trace mid rest synced names = record {
+  leaf = refl;
+  history = refl;
+  opening = refl;
+  began = refl;
+  since = refl;
+  changes = λ n none. either_false (is_written m n) _ none;
+  rest = rest;
+  quiet = λ n changed unwritten. subst (λ k. is_synced (file_of mid k) ≡ true) (sym (only_source m n changed unwritten)) synced;
+  own = λ P first left n written. own_numbers m merge.ids merge.twice trace mid P first left n written;
+  names = names;
+}
 
 -- ---- the whole
 
--- what is asked of a new session
-pub record IsNewMerge (s : Session) : Type 0 where
-  pub events : s.events ≡ 0
-  pub broken : s.broken ≡ None
-  pub noted : s.noted ≡ 0
-  pub told : IfSome s.told (λ h. h ≡ [])
-  pub sector : s.layers.geometry.sector ≡ 512
+-- a merge that has just started has no mark
+started_marks : (layers : Layers) (trace mid : Trace) (m : MergeFiles) (ids : MergeIds) (pages : List Page) → IsServing layers (started_merge trace mid m ids pages) mid → layers.retiring ≡ None → IsMarkedSo layers (λ t. false) false
+started_marks layers trace mid m ids pages serving only = by_merge layers.merge refl serving.course
+  where
+    v : State
+    v = started_merge trace mid m ids pages
+
+    by_merge : (o : Option Underway) → layers.merge ≡ o → IsCourse (sector_of v) v.writes layers o v.top v.rest → IsMarkedSo layers (λ t. false) false
+    by_merge None is course = absurd course
+    by_merge (Some u) is course = below_marked u is only course.marks
 
 module _ (files : List LinkedFile) (name : List ℕ) (before : Session) (old : Disk) (drawn now : Option (List (List ℕ))) (can : CanStart files old) (new : IsNewMerge before) (begun : HasStartedMerge files name old before.disk drawn now before.layers) where
   abbrev m : MergeFiles
@@ -249,9 +171,9 @@ module _ (files : List LinkedFile) (name : List ℕ) (before : Session) (old : D
       go (Some x) None is f serving rest = absurd serving
       go (Some x) (Some y) is f serving rest =
           let found : AreFound x m = are_found m old (subst (λ fs. CanStart fs old) begun.planned.begun.files_are.files_are can) x is in
-          has_history m begun.merge x y (take many lines) told behind after closed ended rest (source_then m begun.merge.ids begun.merge.twice x y serving.synced)
-          (names_started x y m begun.merge.ids begun.merge.twice found) left
-          (lines_told (drive_of_merge m x) 1 (take many lines) told (state x y) just_started None before behind slot left y f (serves new.broken serving ((λ t. refl), empty)) (over_start x y serving)
+          has_history (scope_of m) (state x y) x y (scope_is m begun.merge x y rest (source_then m begun.merge.ids begun.merge.twice x y serving.synced) (names_started x y m begun.merge.ids begun.merge.twice found))
+          (take many lines) told behind after closed ended left
+          (lines_told (drive_of_merge m x) 1 (take many lines) told (state x y) (just_started false) None before behind slot left y f (serves new.broken serving (started_marks before.layers x y m begun.merge.ids begun.merge.twice serving begun.begun.only, empty)) (over_start x y serving)
           (omega (arith, few, new.events, length-take many lines)) answers)
 
   pub merge_ran : (names : List (List ℕ)) (lines : List Line) (slot left : Piece) (run : ScriptRun) (after : Disk) → length lines ≤ 2 ^ 20 → slot.filled ≡ false → HasRunToEnd names lines before slot left run after

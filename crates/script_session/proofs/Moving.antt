@@ -11,11 +11,14 @@ use Rattle.chain_model.specs.Merges.{with_mark}
 use Rattle.merge_core.specs.Copied.{marks_of}
 use Rattle.merge_core.specs.declared.piece.Piece.{Piece}
 use Rattle.chain_core.specs.declared.chain.Chain.{Chain}
+use Rattle.chain_core.specs.declared.layers.Layers.{Layers}
+use Rattle.chain_core.specs.declared.layers.Retiring.{Retiring}
 use Rattle.chain_core.specs.declared.layers.Underway.{Underway}
-use Rattle.chain_core.specs.Copying.{FetchCause, FetchTold, IfStopped, IsMissing, IsOfStripe, MarksIn, PieceTold, PutCause, TargetRoomIs, fetch_refused, merge_refused, no_merge, put_refused}
+use Rattle.merge_core.specs.declared.marks.Marks.{Marks}
+use Rattle.chain_core.specs.Copying.{FetchCause, FetchTold, HasMarked, IfStopped, IsMissing, IsOfStripe, MarksIn, MarksToo, PieceTold, PutCause, TargetRoomIs, fetch_refused, merge_refused, no_merge, put_refused, stamp_of}
 use Rattle.chain_core.specs.Finished.{FinishCause, FinishTold}
 use Rattle.chain_core.specs.Refusing.{counted, or_else, unfit}
-use Rattle.chain_core.specs.Sessions.{IsCounted, IsSound, Session, seen}
+use Rattle.chain_core.specs.Sessions.{IsCounted, IsSound, KeepsMerge, Session, kept_marks, marks_in, seen}
 use Rattle.vx_base.specs.declared.parts.Geometry.{Geometry}
 use Rattle.script_session.specs.Answers.{IsSlot}
 use Rattle.script_session.specs.MergeSteps.{AnswersFetch, AnswersFinish, AnswersPut, AnswersTurn, IsUnchanged, KeepsHistory, fetched_and}
@@ -113,8 +116,8 @@ module _ {S R T : Type 0} (disk : S → Disk) (noted : R → ℕ) (told : R → 
   put_early (Some e) answer h = (h.0, ap (seen disk noted told) h.1)
 
   pub fetch_done : (P : Type 0) (stripe stamp : ℕ) (left : Piece) → IsSound before → IfStopped {T = ℕ} (fetch_refused stripe before) (Ok stamp) (IsCounted old new × P) → (fetch_refused stripe before ≡ None → FetchCause before after left (Ok stamp))
-      → IsOfStripe before.layers.geometry stripe left → FetchTold left before after (Ok stamp) → new.events ≡ counted old.events → new.layers.geometry ≡ old.layers.geometry → is_some new.layers.leaf ≡ is_some old.layers.leaf
-      → new.layers.merge ≡ old.layers.merge → new.recorder ≡ old.recorder → AnswersFetch stripe (Ok stamp) before after left
+      → IsOfStripe before.layers.geometry stripe (stamp_of before.layers stripe) left → FetchTold left before after (Ok stamp) → new.events ≡ counted old.events → new.layers.geometry ≡ old.layers.geometry → is_some new.layers.leaf ≡ is_some old.layers.leaf
+      → KeepsMerge old.layers new.layers → new.recorder ≡ old.recorder → AnswersFetch stripe (Ok stamp) before after left
   fetch_done P stripe stamp left sound early cause taken answers events geometry session merge history = record {
     sound = sound;
     early = fetch_early P (fetch_refused stripe before) (Ok stamp) early;
@@ -130,7 +133,7 @@ module _ {S R T : Type 0} (disk : S → Disk) (noted : R → ℕ) (told : R → 
   pub fetch_failed : (P : Type 0) (stripe : ℕ) (x : ChainRefusal) (piece left : Piece) → left ≡ record piece { filled = false } → IsSound before → IfStopped {T = ℕ} (fetch_refused stripe before) (Err x) (IsCounted old new × P)
       → (fetch_refused stripe before ≡ None → FetchCause before after piece (Err x))
       → FetchTold piece before after (Err x) → new.events ≡ counted old.events → new.layers.geometry ≡ old.layers.geometry → is_some new.layers.leaf ≡ is_some old.layers.leaf
-      → new.layers.merge ≡ old.layers.merge → new.recorder ≡ old.recorder → AnswersFetch stripe (Err x) before after left
+      → KeepsMerge old.layers new.layers → new.recorder ≡ old.recorder → AnswersFetch stripe (Err x) before after left
   fetch_failed P stripe x piece left is sound early cause answers events geometry session merge history =
       let empty : left.filled ≡ false = ap (λ (p : Piece). p.filled) is in
       record {
@@ -201,9 +204,9 @@ unmarked zero marks = 0
 unmarked (suc n) marks = unmarked n marks + cond (marks n) 0 1
 
 -- and of a merge under way
-abbrev pub left_in : Option Underway → ℕ
+abbrev pub left_in : Option Marks → ℕ
 left_in None = 0
-left_in (Some u) = unmarked u.marks.stripes (marks_of u.marks)
+left_in (Some m) = unmarked m.stripes (marks_of m)
 
 one_less : (a b : Bool) → (a ≡ true → b ≡ true) → cond b 0 1 ≤ cond a 0 1
 one_less true true h = omega arith
@@ -238,16 +241,30 @@ is_marked : (stripe : ℕ) (marks : ℕ → Bool) → with_mark stripe marks str
 is_marked stripe marks = ap (λ b. b || marks stripe) (eq-eqb stripe stripe refl)
 
 -- a stripe that had no mark has one
-pub fewer_left : (stripe : ℕ) (old new : Option Underway) → IsMissing old (Some stripe) → MarksIn stripe old new → left_in new < left_in old
-fewer_left stripe None new missing marks = let bad : ◌≡◌ {A = Option ℕ} (Some stripe) None = missing in absurd (cc)
-fewer_left stripe (Some u) None missing marks = absurd marks
-fewer_left stripe (Some u) (Some w) missing marks =
-    let more : (t : ℕ) → marks_of u.marks t ≡ true → marks_of w.marks t ≡ true = λ t h. marks.marks_are t ∙ stays_marked stripe t (marks_of u.marks) h in
-    subst (λ n. unmarked n (marks_of w.marks) < unmarked u.marks.stripes (marks_of u.marks)) (sym marks.stripes)
-    (fewer u.marks.stripes stripe (marks_of u.marks) (marks_of w.marks) more missing.there missing.unmarked (marks.marks_are stripe ∙ is_marked stripe (marks_of u.marks)))
+fewer_by : (stripe : ℕ) (m n : Marks) → IsMissing (Some m) (Some stripe) → n.stripes ≡ m.stripes → ((t : ℕ) → marks_of n t ≡ with_mark stripe (marks_of m) t) → left_in (Some n) < left_in (Some m)
+fewer_by stripe m n missing stripes marks_are =
+    let more : (t : ℕ) → marks_of m t ≡ true → marks_of n t ≡ true = λ t h. marks_are t ∙ stays_marked stripe t (marks_of m) h in
+    subst (λ k. unmarked k (marks_of n) < unmarked m.stripes (marks_of m)) (sym stripes)
+    (fewer m.stripes stripe (marks_of m) (marks_of n) more missing.there missing.unmarked (marks_are stripe ∙ is_marked stripe (marks_of m)))
+
+fewer_in : (stripe : ℕ) (u w : Option Underway) (r t : Option Retiring) → IsMissing (marks_in u r) (Some stripe) → MarksIn stripe u w → MarksToo stripe r t → left_in (marks_in w t) < left_in (marks_in u r)
+fewer_in stripe (Some u) (Some w) r t missing marks more = fewer_by stripe u.marks w.marks missing marks.stripes marks.marks_are
+fewer_in stripe (Some u) None r t missing marks more = absurd marks
+fewer_in stripe None (Some w) r t missing marks more = absurd marks
+fewer_in stripe None None (Some r) (Some t) missing marks more = fewer_by stripe r.marks t.marks missing more.stripes more.marks_are
+fewer_in stripe None None (Some r) None missing marks more = absurd more
+fewer_in stripe None None None t missing marks more = let bad : ◌≡◌ {A = Option ℕ} (Some stripe) None = missing in absurd (cc)
+
+fewer_left : (stripe : ℕ) (old new : Layers) → IsMissing (kept_marks old) (Some stripe) → HasMarked stripe old new (Ok tt) → left_in (kept_marks new) < left_in (kept_marks old)
+fewer_left stripe old new missing marked = fewer_in stripe old.merge new.merge old.retiring new.retiring missing marked.0 marked.1
 
 -- what a turn that was done marked
-pub turn_marks : (stripe : ℕ) (old new : Session) → AnswersTurn stripe (Ok tt) old new → MarksIn stripe old.layers.merge new.layers.merge
+turn_marks : (stripe : ℕ) (old new : Session) → AnswersTurn stripe (Ok tt) old new → HasMarked stripe old.layers new.layers (Ok tt)
 turn_marks stripe old new (fetched_and _ stamp _ mid _ piece fetched put) =
-    let cause = put.cause (ok_reached _ (put_refused piece mid) tt put.early) in
-    subst (λ n. MarksIn n old.layers.merge new.layers.merge) fetched.taken.stripe_is (subst (λ o. MarksIn piece.stripe o new.layers.merge) fetched.merge cause.0)
+    let cause = put.cause (ok_reached _ (put_refused piece mid) tt put.early) in (
+      subst (λ n. MarksIn n old.layers.merge new.layers.merge) fetched.taken.stripe_is (subst (λ o. MarksIn piece.stripe o new.layers.merge) fetched.merge.0 cause.0.0),
+      subst (λ n. MarksToo n old.layers.retiring new.layers.retiring) fetched.taken.stripe_is (subst (λ o. MarksToo piece.stripe o new.layers.retiring) fetched.merge.1 cause.0.1),
+    )
+
+pub fewer_turn : (stripe : ℕ) (old new : Session) → AnswersTurn stripe (Ok tt) old new → IsMissing (kept_marks old.layers) (Some stripe) → left_in (kept_marks new.layers) < left_in (kept_marks old.layers)
+fewer_turn stripe old new turn missing = fewer_left stripe old.layers new.layers missing (turn_marks stripe old new turn)

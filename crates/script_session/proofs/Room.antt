@@ -1,5 +1,5 @@
 -- A call that is refused for want of room, in a session.
-use Rattle.std.proofs.Common.{◌≡◌, ◌<◌, ◌≤◌, ◌+◌, ◌/◌, ◌^◌, ◌==◌, ◌||◌, ℕ, zero, suc, Bool, true, false, List, [], ◌∷◌, length, map, Option, Some, None, Result, Ok, Err, refl, sym, ap, subst, ◌∙◌, arith}
+use Rattle.std.proofs.Common.{◌≡◌, ◌<◌, ◌≤◌, ◌+◌, ◌/◌, ◌^◌, ◌==◌, ◌||◌, ℕ, zero, suc, Bool, true, false, List, [], ◌∷◌, length, map, Option, Some, None, Result, Ok, Err, refl, sym, ap, ap₂, subst, ◌∙◌, arith}
 use Rattle.std.specs.Prelude.{IfSome, if◌then◌else◌, is_some, nat_lt, not, slice_index_or}
 use Rattle.std.proofs.lemmas.Bool.{ltb-false}
 use Rattle.vhdx_format.specs.Layers.{Shape}
@@ -24,7 +24,12 @@ use Rattle.chain_core.specs.Answering.{HasRoom}
 use Rattle.chain_core.specs.Copying.{session_below, session_in, target_layer}
 use Rattle.chain_core.specs.declared.layers.Underway.{Underway}
 use Rattle.chain_core.specs.Refusing.{barred, is_read, or_else, out_of, range_of, refused, unfit}
-use Rattle.chain_core.specs.Sessions.{AreReady, IsMergeOf, Session, is_session_at}
+use Rattle.chain_core.specs.Sessions.{AreReady, IsMergeOf, IsRetiringOf, Session, has_merge, is_session_at, kept_marks, marks_in}
+use Rattle.chain_core.specs.declared.layers.Layers.{Layers}
+use Rattle.chain_core.specs.declared.layers.Retiring.{Retiring}
+use Rattle.chain_model.specs.Stripes.{stripe_count}
+use Rattle.merge_core.specs.declared.marks.Marks.{Marks}
+use Rattle.std.proofs.lemmas.Option.{same_Some}
 use Rattle.chain_core.specs.States.{AreHeld, IsServing, State, others_of, sector_of}
 use Rattle.script_session.proofs.Full.{full_is_far}
 
@@ -112,13 +117,46 @@ below_of : (o : Option Layer) (below : List FileLayer) (trace : Trace) (top : Pl
 below_of None below trace top others some held = let bad : false ≡ true = some in absurd (cc)
 below_of (Some leaf) below trace top others some held = held.1
 
+-- the place of the target, of the merge that is under way
+record TargetAt (layers : Layers) : Type 0 where
+  place : ℕ
+  target : is_session_at layers.below.items place ≡ true
+  session : is_some layers.leaf ≡ true
+  layer_is : (l : Layer) → session_in (slice_index_or (map (λ l. Some l) layers.below.items) place None) ≡ Some l → target_layer layers ≡ Some l
+
+target_at : (layers : Layers) (disk : Disk) → AreReady layers disk → has_merge layers ≡ true → TargetAt layers
+target_at layers disk ready there = go layers.merge layers.retiring refl refl
+  where
+    go : (o : Option Underway) (t : Option Retiring) → layers.merge ≡ o → layers.retiring ≡ t → TargetAt layers
+    go (Some u) t is only =
+        let merge : IsMergeOf layers.geometry layers.leaf layers.below.items u = subst (λ o. IfSome o (IsMergeOf layers.geometry layers.leaf layers.below.items)) is ready.merge in
+        record { place = u.source + 1; target = merge.target; session = merge.session; layer_is = λ l e. ap (session_below layers.below.items) is ∙ e }
+    go None (Some r) is only =
+        let leaving : IsRetiringOf layers.geometry layers.leaf layers.below.items r = subst (λ o. IfSome o (IsRetiringOf layers.geometry layers.leaf layers.below.items)) only ready.retiring in
+        record { place = 0; target = leaving.target; session = leaving.session; layer_is = λ l e. ap (session_below layers.below.items) is ∙ e }
+    go None None is only = let bad : false ≡ true = sym (ap₂ (λ (o : Option Underway) (t : Option Retiring). is_some o || is_some t) is only) ∙ there in absurd (cc)
+
 -- A put that is refused for want of room in the target.
-pub target_is_far : (piece : Piece) (next : ℕ) (v : State) (s : Session) (trace : Trace) (u : Underway) → AreReady s.layers s.disk → s.layers.merge ≡ Some u → IsMergeOf s.layers.geometry s.layers.leaf s.layers.below.items u
+pub target_is_far : (piece : Piece) (next : ℕ) (v : State) (s : Session) (trace : Trace) → AreReady s.layers s.disk → has_merge s.layers ≡ true
     → IsServing s.layers v trace → s.disk.told ≡ Some trace → IfSome (target_layer s.layers) (λ l. is_full false piece.first piece.count next l s.disk) → 2 ^ 43 < next + 1024
-target_is_far piece next v s trace u ready under merge serving told full =
-    let have = below_of s.layers.leaf s.layers.below.items trace v.top (others_of v.rest) merge.session serving.held in
-    let at = session_at s.layers.below.items (others_of v.rest) (u.source + 1) s.layers.geometry s.disk trace have ready.below merge.target in
-    let target : target_layer s.layers ≡ Some at.layer = ap (session_below s.layers.below.items) under ∙ at.is in
+target_is_far piece next v s trace ready there serving told full =
+    let t = target_at s.layers s.disk ready there in
+    let have = below_of s.layers.leaf s.layers.below.items trace v.top (others_of v.rest) t.session serving.held in
+    let at = session_at s.layers.below.items (others_of v.rest) t.place s.layers.geometry s.disk trace have ready.below t.target in
+    let target : target_layer s.layers ≡ Some at.layer = t.layer_is at.layer at.is in
     let few : piece.count ≤ 524288 = omega (arith, piece.bits) in
     full_is_far false piece.first piece.count next at.layer s.disk trace at.serves.as_held.sizes (at.size ∙ ready.sector) few told
     (subst (λ o. IfSome o (λ l. is_full false piece.first piece.count next l s.disk)) target full)
+
+-- A merge has a mark for each stripe of the disk.
+pub each_stripe : (layers : Layers) (disk : Disk) (marks : Marks) → AreReady layers disk → kept_marks layers ≡ Some marks → marks.stripes ≡ stripe_count layers.geometry.sector layers.geometry.sectors
+each_stripe layers disk marks ready is = go layers.merge layers.retiring refl refl is
+  where
+    go : (o : Option Underway) (t : Option Retiring) → layers.merge ≡ o → layers.retiring ≡ t → marks_in o t ≡ Some marks → marks.stripes ≡ stripe_count layers.geometry.sector layers.geometry.sectors
+    go (Some u) t under only is =
+        let merge : IsMergeOf layers.geometry layers.leaf layers.below.items u = subst (λ o. IfSome o (IsMergeOf layers.geometry layers.leaf layers.below.items)) under ready.merge in
+        ap (λ (m : Marks). m.stripes) (sym (same_Some u.marks marks is)) ∙ merge.stripes
+    go None (Some r) under only is =
+        let leaving : IsRetiringOf layers.geometry layers.leaf layers.below.items r = subst (λ o. IfSome o (IsRetiringOf layers.geometry layers.leaf layers.below.items)) only ready.retiring in
+        ap (λ (m : Marks). m.stripes) (sym (same_Some r.marks marks is)) ∙ leaving.stripes
+    go None None under only is = let bad : ◌≡◌ {A = Option Marks} None (Some marks) = is in absurd (cc)

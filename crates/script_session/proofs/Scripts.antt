@@ -17,10 +17,14 @@ use Rattle.link_rules.specs.declared.linked.LinkedFile.{LinkedFile}
 use Rattle.layer_session.specs.declared.file.Layer.{Layer}
 use Rattle.merge_core.specs.declared.piece.Piece.{Piece}
 use Rattle.chain_core.specs.Answering.{HasClosed, HasEnded}
-use Rattle.chain_core.specs.Sessions.{Session}
+use Rattle.chain_core.specs.Sessions.{HasNoMerge, Session}
+use Rattle.chain_core.specs.declared.layers.Layers.{Layers}
+use Rattle.chain_core.specs.declared.layers.Retiring.{Retiring}
+use Rattle.chain_core.specs.declared.layers.Underway.{Underway}
+use Rattle.script_session.proofs.LeftFiles.{own_synced}
 use Rattle.merge_plan.specs.Attached.{CanStart}
 use Rattle.chain_core.specs.Starting.{HasStarted, IsOfDisk, StartsWith, opening_disk, started, under}
-use Rattle.chain_core.specs.States.{IsServing, State, disk_now, sector_of}
+use Rattle.chain_core.specs.States.{IsCourse, IsRetiring, IsServing, State, disk_now, sector_of}
 use Rattle.chain_core.specs.declared.starting.Mode.{Mode}
 use Rattle.chain_core.specs.declared.starting.Mode.TheVariants.{Guests, ReadOnly}
 use Rattle.script.specs.declared.form.Line.{Line}
@@ -74,9 +78,6 @@ past_as z z' o o' leaf leaf' began began' h b now ez eo el et past =
     subst (λ n. EachOpensToPrefix n o' h (b n) leaf' began' now) ez
     (subst (λ d. EachOpensToPrefix z d h (b z) leaf' began' now) eo (subst (λ l. EachOpensToPrefix z o h (b z) l began' now) el (subst (λ t. EachOpensToPrefix z o h (b z) leaf t now) et past)))
 
-still_as : (writes : ℕ → Bool) (began began' now : Trace) → writes ≡ (λ number. number == 0) → began ≡ began' → ((other : ℕ) → writes other ≡ false → file_of now other ≡ file_of began other) → (other : ℕ) → other ≢ 0 → file_of now other ≡ file_of began' other
-still_as writes began began' now ew et still other ne = still other (ap (λ w. w other) ew ∙ ne_eqb other 0 ne) ∙ ap (λ t. file_of t other) et
-
 no_leaf : (o : Option Layer) → is_some o ≡ false → o ≡ None
 no_leaf None e = refl
 no_leaf (Some leaf) e = cc
@@ -105,7 +106,7 @@ module _ (mode : Mode) (leaf : LinkedFile) (others : List LinkedFile) (parts : P
       past_as (sector_of later) sector_size later.opening (opening_disk trace (leaf ∷ others)) later.leaf leaf.name later.began trace later.history b now tells.over.sector tells.over.opening tells.same.leaf tells.same.began past
 
   others_as : (now : Trace) → ((other : ℕ) → later.writes other ≡ false → file_of now other ≡ file_of later.since other) → (other : ℕ) → other ≢ 0 → file_of now other ≡ file_of trace other
-  others_as now still = still_as later.writes later.since trace now tells.same.writes tells.same.since still
+  others_as now still other ne = still other (tells.same.writes other (ne_eqb other 0 ne)) ∙ tells.same.since other (ne_eqb other 0 ne)
 
   -- where the files are only read
   unchanged_in : (now : Trace) → after.told ≡ Some now → (can_change mode ≡ false → after ≡ behind.disk) → can_change mode ≡ false → now ≡ trace
@@ -134,16 +135,17 @@ module _ (mode : Mode) (leaf : LinkedFile) (others : List LinkedFile) (parts : P
     same_store : can_change mode ≡ false → after ≡ behind.disk
     same_store e = (ended.only_read whole (no_leaf behind.layers.leaf (tells.over.change ∙ e))).1
 
-    leaf_synced : (m : Mode) → m ≡ mode → (is_some behind.layers.leaf ≡ true → is_synced (file_of now later.top.number) ≡ true) → is_synced (file_of now 0) ≡ true
-    leaf_synced Guests is own = subst (λ n. is_synced (file_of now n) ≡ true) tells.same.number (own (tells.over.change ∙ ap can_change (sym is)))
-    leaf_synced ReadOnly is own = ap (λ t. is_synced (file_of t 0)) (unchanged_in now now_is same_store (ap can_change (sym is))) ∙ synced
+    leaf_synced : (m : Mode) → m ≡ mode → ((other : ℕ) → later.writes other ≡ false → file_of now other ≡ file_of later.since other) → (is_some behind.layers.leaf ≡ true → is_synced (file_of now later.top.number) ≡ true) → is_synced (file_of now 0) ≡ true
+    leaf_synced Guests is still own =
+        own_synced (started trace leaf others parts) later later.history now tells.same still 0 refl (λ mine. subst (λ n. is_synced (file_of now n) ≡ true) (tells.same.number mine) (own (tells.over.change ∙ ap can_change (sym is))))
+    leaf_synced ReadOnly is still own = ap (λ t. is_synced (file_of t 0)) (unchanged_in now now_is same_store (ap can_change (sym is))) ∙ synced
 
     rest_of : (r : Result (Unit {0}) StoreFault) → HasClosed (is_some behind.layers.leaf) later tells.now now r → OnOk r (IsAtRest leaf drive later.history now)
     rest_of (Err fault) h = tt
     rest_of (Ok done) h =
         let disk : disk_now later ≡ disk_after drive later.history = ap₂ (λ (z : ℕ) (o : GuestDisk). replay z o later.history) tells.over.sector tells.over.opening in
         record {
-          synced = leaf_synced mode refl (λ session. (h.synced session).0);
+          synced = leaf_synced mode refl h.ended.still (λ session. (h.synced session).0);
           opens = subst (λ d. EachOpens leaf.name (λ s. false) d now) disk (subst (λ l. EachOpens l (λ s. false) (disk_now later) now) tells.same.leaf h.all);
         }
 
@@ -171,6 +173,21 @@ module _ (mode : Mode) (leaf : LinkedFile) (others : List LinkedFile) (parts : P
   has_history = by_stands tells.broken refl tells.stands
 
 -- ---- the whole
+
+-- no merge is under way
+none_started : (layers : Layers) (trace : Trace) (leaf : LinkedFile) (others : List LinkedFile) (parts : Parts) (now : Trace) → IsServing layers (started trace leaf others parts) now → HasNoMerge layers
+none_started layers trace leaf others parts now serving = (by_merge layers.merge serving.course, by_leaf layers.retiring serving.leaving)
+  where
+    v : State
+    v = started trace leaf others parts
+
+    by_merge : (o : Option Underway) → IsCourse (sector_of v) v.writes layers o v.top v.rest → o ≡ None
+    by_merge None course = refl
+    by_merge (Some u) course = absurd course
+
+    by_leaf : (o : Option Retiring) → IsRetiring (sector_of v) v.writes v.history layers o v.top v.rest → o ≡ None
+    by_leaf None leaving = refl
+    by_leaf (Some r) leaving = absurd leaving
 
 -- what is asked of a new session over files that may be started
 pub record IsNew (files : List LinkedFile) (s : Session) : Type 0 where
@@ -212,7 +229,7 @@ module _ (mode : Mode) (leaf : LinkedFile) (others : List LinkedFile) (before : 
       go (Some x) e (Some y) f serving =
           has_history mode leaf others (begun.in_it leaf.parts) x (take many lines) told behind after closed (can.told x e).each.0.synced ended
           (λ none. lines_stay 1 (take many lines) told before behind slot left (begun.session ∙ none) answers ∙ ap (λ (d : Disk). d.told) (begun.same none) ∙ e)
-          left (lines_told (drive_of mode leaf others x) 1 (take many lines) told (started x leaf others (begun.in_it leaf.parts)) no_merge None before behind slot left y f (serves new.broken serving tt) (over_start x y serving)
+          left (lines_told (drive_of mode leaf others x) 1 (take many lines) told (started x leaf others (begun.in_it leaf.parts)) no_merge None before behind slot left y f (serves new.broken serving (none_started before.layers x leaf others (begun.in_it leaf.parts) y serving)) (over_start x y serving)
           (omega (arith, few, new.events, length-take many lines)) answers)
 
   of_run : (names : List (List ℕ)) (lines : List Line) (slot left : Piece) (run : ScriptRun) (after : Disk) → length lines ≤ 2 ^ 20 → HasRunToEnd names lines before slot left run after → HasRunScript mode (leaf ∷ others) names lines run old after drawn now

@@ -13,9 +13,10 @@ use Rattle.guest_model.specs.declared.call.Reply.TheVariants as replies
 use Rattle.guest_model.specs.declared.refusal.ChainRefusal.{ChainRefusal}
 use Rattle.chain_core.specs.declared.chain.Chain.{Chain}
 use Rattle.chain_core.specs.Answering.{AnswersTold, HasCause, HasReadCause, HasRoom, Notes}
+use Rattle.chain_core.specs.Copying.{MergeFollows}
 use Rattle.chain_core.specs.Reading.{Finds}
 use Rattle.chain_core.specs.Refusing.{counted, refused}
-use Rattle.chain_core.specs.Sessions.{Session, seen}
+use Rattle.chain_core.specs.Sessions.{IsSound, Session, seen}
 use Rattle.script_session.specs.Answers.{Answers, HasCauseOf, IsReplyOf, IsReplyTo}
 
 pub on_ok : {P : Type 0} (answer : Result ℕ ChainRefusal) → P → OnOk answer P
@@ -40,12 +41,13 @@ module _ {S R T : Type 0} (disk : S → Disk) (noted : R → ℕ) (told : R → 
   early_seen (Some e) answer h f = (h.0, ap (seen disk noted told) h.1 ∙ ap (λ n. record before { events = n }) f)
 
   -- the clauses of one call
-  pub answers_by : (who : Caller) (call : Call) (answer : Result ℕ ChainRefusal) (reply : Reply)
+  pub answers_by : (who : Caller) (call : Call) (answer : Result ℕ ChainRefusal) (reply : Reply) → IsSound before
       → IfSome (refused call before) (λ e. (answer ≡ Err e) × (new ≡ record old { events = new.events }))
       → new.events ≡ counted old.events → new.layers.geometry ≡ old.layers.geometry → is_some new.layers.leaf ≡ is_some old.layers.leaf
       → Notes who call before after answer → HasCauseOf call before after answer → HasRoom call before answer → OnOk answer (IsReplyTo call reply × IsReplyOf call reply before)
-      → AnswersTold who call before after answer → Answers who call answer reply before after
-  answers_by who call answer reply early events geometry session notes cause room replied told_ = record {
+      → MergeFollows call old.layers new.layers answer → AnswersTold who call before after answer → Answers who call answer reply before after
+  answers_by who call answer reply sound early events geometry session notes cause room replied follows told_ = record {
+    sound = sound;
     early = early_seen (refused call before) answer early events;
     notes = notes;
     cause = cause;
@@ -54,6 +56,7 @@ module _ {S R T : Type 0} (disk : S → Disk) (noted : R → ℕ) (told : R → 
     told = λ whole. told_;
     geometry = geometry;
     session = session;
+    merge = follows;
     events = events;
   }
 
@@ -73,37 +76,39 @@ written_length count byte sector e = sectors_of _ sector count e (length-replica
 -- A read of sectors into the front of a room.
 module _ {S R T : Type 0} (disk : S → Disk) (noted : R → ℕ) (told : R → Option (List Entry)) (old new : Chain S R T) where
   pub read_answers : (who want : Caller) (first len count : ℕ) (room out : List ℕ) (answer : Result ℕ ChainRefusal)
-      → who ≡ want → old.layers.geometry.sector ≡ 512 → count ≤ 2048 → length room ≡ 1048576 → length out ≡ len → len ≡ length (take (count * 512) room)
+      → who ≡ want → IsSound (before disk noted told old new) → count ≤ 2048 → length room ≡ 1048576 → length out ≡ len → len ≡ length (take (count * 512) room)
       → IfSome (refused (calls.Read first (len / old.layers.geometry.sector)) (before disk noted told old new)) (λ e. (answer ≡ Err e) × (new ≡ record old { events = new.events }))
       → new.events ≡ counted old.events → new.layers.geometry ≡ old.layers.geometry → is_some new.layers.leaf ≡ is_some old.layers.leaf
       → Notes who (calls.Read first (len / old.layers.geometry.sector)) (before disk noted told old new) (after disk noted told old new) answer
       → HasReadCause (calls.Read first (len / old.layers.geometry.sector)) (before disk noted told old new) (after disk noted told old new) answer
       → OnOk answer (Finds first (len / old.layers.geometry.sector) out old.layers (disk old.store))
+      → MergeFollows (calls.Read first (len / old.layers.geometry.sector)) old.layers new.layers answer
       → AnswersTold who (calls.Read first (len / old.layers.geometry.sector)) (before disk noted told old new) (after disk noted told old new) answer
       → Answers want (calls.Read first count) answer (replies.Bytes (take (512 * count) (out ++ drop (count * 512) room))) (before disk noted told old new) (after disk noted told old new)
-  read_answers who want first len count room out answer is sector few whole out_len is_len early events geometry session notes cause replied told_ =
+  read_answers who want first len count room out answer is sound few whole out_len is_len early events geometry session notes cause replied follows told_ =
       let long : len ≡ count * 512 = is_len ∙ front_length count room few whole in
-      let many : len / old.layers.geometry.sector ≡ count = sectors_of len old.layers.geometry.sector count sector long in
+      let many : len / old.layers.geometry.sector ≡ count = sectors_of len old.layers.geometry.sector count sound.sector long in
       let front : out ≡ take (512 * count) (out ++ drop (count * 512) room) =
       sym (take-append_seam out (drop (count * 512) room)) ∙ ap (λ n. take n (out ++ drop (count * 512) room)) (out_len ∙ long ∙ omega arith) in
       let size : length out ≡ 512 * (len / old.layers.geometry.sector) = out_len ∙ long ∙ (omega (arith, many)) in
       subst (λ (w : Caller). Answers w (calls.Read first count) answer (replies.Bytes (take (512 * count) (out ++ drop (count * 512) room))) (before disk noted told old new) (after disk noted told old new)) is
       (subst (λ n. Answers who (calls.Read first n) answer (replies.Bytes (take (512 * count) (out ++ drop (count * 512) room))) (before disk noted told old new) (after disk noted told old new)) many
       (subst (λ bytes. Answers who (calls.Read first (len / old.layers.geometry.sector)) answer (replies.Bytes bytes) (before disk noted told old new) (after disk noted told old new)) front
-      (answers_by disk noted told old new who (calls.Read first (len / old.layers.geometry.sector)) answer (replies.Bytes out) early events geometry session notes cause tt
-      (ok_more answer replied (λ r. (size, r))) told_)))
+      (answers_by disk noted told old new who (calls.Read first (len / old.layers.geometry.sector)) answer (replies.Bytes out) sound early events geometry session notes cause tt
+      (ok_more answer replied (λ r. (size, r))) follows told_)))
 
 -- A write of sectors all of whose bytes are one.
 module _ {S R T : Type 0} (disk : S → Disk) (noted : R → ℕ) (told : R → Option (List Entry)) (old new : Chain S R T) where
-  pub write_answers : (who want : Caller) (first count byte : ℕ) (bytes : List ℕ) (answer : Result ℕ ChainRefusal) → who ≡ want → bytes ≡ replicate (512 * count) byte
+  pub write_answers : (who want : Caller) (first count byte : ℕ) (bytes : List ℕ) (answer : Result ℕ ChainRefusal) → who ≡ want → IsSound (before disk noted told old new) → bytes ≡ replicate (512 * count) byte
       → IfSome (refused (calls.Write first bytes) (before disk noted told old new)) (λ e. (answer ≡ Err e) × (new ≡ record old { events = new.events }))
       → new.events ≡ counted old.events → new.layers.geometry ≡ old.layers.geometry → is_some new.layers.leaf ≡ is_some old.layers.leaf
       → Notes who (calls.Write first bytes) (before disk noted told old new) (after disk noted told old new) answer
       → HasCause (calls.Write first bytes) (before disk noted told old new) (after disk noted told old new) answer
       → HasRoom (calls.Write first bytes) (before disk noted told old new) answer
+      → MergeFollows (calls.Write first bytes) old.layers new.layers answer
       → AnswersTold who (calls.Write first bytes) (before disk noted told old new) (after disk noted told old new) answer
       → Answers want (calls.Write first (replicate (512 * count) byte)) answer replies.Done (before disk noted told old new) (after disk noted told old new)
-  write_answers who want first count byte bytes answer is filled early events geometry session notes cause room told_ =
+  write_answers who want first count byte bytes answer is sound filled early events geometry session notes cause room follows told_ =
       subst (λ (w : Caller). Answers w (calls.Write first (replicate (512 * count) byte)) answer replies.Done (before disk noted told old new) (after disk noted told old new)) is
       (subst (λ bs. Answers who (calls.Write first bs) answer replies.Done (before disk noted told old new) (after disk noted told old new)) filled
-      (answers_by disk noted told old new who (calls.Write first bytes) answer replies.Done early events geometry session notes cause room (on_ok answer (refl, λ trace is v serving. refl)) told_))
+      (answers_by disk noted told old new who (calls.Write first bytes) answer replies.Done sound early events geometry session notes cause room (on_ok answer (refl, λ trace is v serving. refl)) follows told_))

@@ -1,8 +1,8 @@
 -- Answered calls are told the history.
-use Rattle.std.proofs.Common.{◌≡◌, ◌<◌, ◌≤◌, ◌+◌, ◌^◌, ℕ, Bool, true, false, List, [], ◌∷◌, ◌++◌, length, Option, Some, None, Result, Ok, Err, refl, sym, ap, ap₂, subst, ◌∙◌, arith}
+use Rattle.std.proofs.Common.{◌≡◌, ◌<◌, ◌≤◌, ◌+◌, ◌^◌, ℕ, Bool, true, false, List, [], ◌∷◌, ◌++◌, length, map, Option, Some, None, Result, Ok, Err, refl, sym, ap, ap₂, subst, ◌∙◌, arith}
 use Rattle.std.specs.Prelude.{IfSome, if◌then◌else◌, option_map}
 use Rattle.std.proofs.lemmas.Bool.{lt-ltb}
-use Rattle.std.proofs.lemmas.List.{length-append}
+use Rattle.std.proofs.lemmas.List.{length-append, take-append-le}
 use Rattle.std.proofs.lemmas.Result.{IfErr-at_err}
 use Rattle.vx_base.specs.declared.parts.Geometry.{Geometry}
 use Rattle.store_model.specs.Disk.{WhereBothTold}
@@ -18,13 +18,23 @@ use Rattle.guest_model.specs.History.{History, replay}
 use Rattle.chain_core.specs.Answering.{HasBroken, HasRoom, IsCausedBy, IsCausedByRead, IsDone, IsRefused, fault_of}
 use Rattle.chain_core.specs.Answering as chain
 use Rattle.chain_core.specs.Refusing.{barred, broken_by, counted, is_read, misplaced, or_else, out_of, range_of, refused}
-use Rattle.chain_core.specs.Sessions.{Session}
-use Rattle.chain_core.specs.States.{State, IsServing, disk_now, entry, with_entry}
+use Rattle.chain_core.specs.Sessions.{KeepsMerge, Session}
+use Rattle.chain_core.specs.States.{IsNextPlace, NextIn, Rest, State, IsServing, disk_now, entry, made, merging, plain, retiring, sector_of, with_entry}
+use Rattle.chain_core.specs.Merging.{IsTrueOf, IsTruePiece}
+use Rattle.chain_model.specs.Merges as merges
+use Rattle.merge_core.specs.Pieces.{piece_of}
 use Rattle.merge_core.specs.declared.piece.Piece.{Piece}
 use Rattle.script.specs.Transcript.{of_call}
 use Rattle.script_session.specs.Answers.{Answers, AnswersCall, HasCauseOf, with_reply}
-use Rattle.script_session.specs.Histories.{Break, Course, Drive, IsLater, IsLineTold, IsOnCourse, IsOver, IsTold, Stands, Stops, breaks, cause_of, copying, disk_after, fault_in, is_broken, is_done, is_refused, is_stopped, no_merge, serves, with_line}
-use Rattle.script_session.specs.Told.{Asked, Told, asks_call, caller}
+use Rattle.script_session.specs.Histories.{Break, Course, Drive, HoldsWaiting, IsLater, IsLineTold, IsOnCourse, IsOver, IsTold, Stands, Stops, behind_done, breaks, cause_of, copying, disk_after, fault_in, is_broken, is_done, is_refused, is_stopped, names_left, no_merge, numbers_left, serves, staying, with_line}
+use Rattle.script_session.specs.Told.{Asked, Told, asks_call, caller, sector_size}
+use Rattle.script_session.proofs.LeftFiles.{later_same}
+use Rattle.script_session.proofs.Marked.{marked_called, marked_kept, none_called_on, none_kept}
+use Rattle.guest_model.specs.declared.call.Caller.{Caller}
+use Rattle.chain_core.specs.Copying.{IsOfStripe, MergeFollows}
+use Rattle.chain_core.specs.declared.layers.Layers.{Layers}
+use Rattle.chain_model.specs.Layers.{with_history}
+use Rattle.chain_model.specs.Stripes.{stripe_count}
 use Rattle.script_session.proofs.Moving.{counted_low}
 use Rattle.script_session.proofs.Room.{call_is_far}
 
@@ -36,6 +46,15 @@ both_told R before after trace e h = go after (subst (λ o. WhereBothTold R o af
     go : (after : Option Trace) → WhereBothTold R (Some trace) after → (now : Trace) × (after ≡ Some now) × R trace now
     go None r = absurd r
     go (Some now) r = (now, refl, r)
+
+-- the place of the next call
+next_place : (v : State) (noted : ℕ) → noted ≡ length v.history → IsNextPlace (noted + 1) v
+next_place v noted same = by_rest v.rest
+  where
+    by_rest : (rest : Rest) → NextIn rest (noted + 1 ≡ length v.history + 1)
+    by_rest (plain others) = tt
+    by_rest (merging above source target below m) = tt
+    by_rest (retiring target below first before) = ap (λ n. n + 1) same
 
 cause_same : (drive : Drive) (v : State) (s : Session) (call : Call) → IsOver drive v s → s.events < 2 ^ 63 → refused call s ≡ cause_of drive s.broken call
 cause_same drive v s call over few =
@@ -52,15 +71,42 @@ broken_is v s slot trace course None (serves whole h on) = whole
 broken_is v s slot trace course (Some b) (is_broken _ e others past) = e
 
 pub serving_of : (v : State) (s : Session) (slot : Piece) (trace : Trace) (course : Course) (broken : Option Break) → Stands v s slot trace course broken → broken ≡ None
-    → IsServing s.layers v trace × IsOnCourse v s.layers.geometry slot course
+    → IsServing s.layers v trace × IsOnCourse v s.layers slot course
 serving_of v s slot trace course None (serves whole h on) e = (h, on)
 serving_of v s slot trace course (Some b) (is_broken _ is others past) e = let bad : ◌≡◌ {A = Option Break} (Some b) None = e in absurd (cc)
 
--- a call leaves the merge as it stands
-on_entry : (v : State) (geometry : Geometry) (slot : Piece) (course : Course) (e : Entry) → IsOnCourse v geometry slot course → IsOnCourse (with_entry e v) geometry slot course
-on_entry v geometry slot no_merge e on = on
-on_entry v geometry slot (copying copied None) e on = on
-on_entry v geometry slot (copying copied (Some stripe)) e on = (on.0, record { there = on.1.there; taken = on.1.taken; is_true = on.1.is_true })
+-- a piece stays true of its source, as it was at its stamp, whatever call is made
+still_true : (v : State) (e : Entry) (p : merges.Piece) → IsTruePiece v p → IsTruePiece (with_entry e v) p
+still_true v e p = by_rest v.rest
+  where
+    by_rest : (rest : Rest) → IsTrueOf (sector_of v) v.history rest p → IsTrueOf (sector_of v) (v.history ++ e ∷ []) rest p
+    by_rest (plain others) is = tt
+    by_rest (merging above source target below m) is = is
+    by_rest (retiring target below first before) is = record {
+      reached = omega (arith, is.reached, length-append v.history (e ∷ []));
+      within = is.within;
+      taken = λ s own. is.taken s own ∙ ap (λ h. with_history (sector_of v) first h s) (sym (take-append-le p.stamp v.history (e ∷ []) is.reached));
+    }
+
+-- A call that is done leaves the merge as it stands but for marks and stamps; a piece that waits stays true of its source, as it was at its
+-- stamp.
+on_entry : (v : State) (layers new : Layers) (slot : Piece) (course : Course) (who : Caller) (call : Call) (place : ℕ) → layers.geometry.sector ≡ sector_size → sector_of v ≡ sector_size → new.geometry ≡ layers.geometry
+    → MergeFollows call layers new (Ok place) → IsOnCourse v layers slot course → IsOnCourse (with_entry (entry who call) v) new slot (behind_done call course)
+on_entry v layers new slot no_merge who call place sector own same follows on = none_called_on call place layers new follows on
+on_entry v layers new slot (copying l copied None) who call place sector own same follows on = (marked_called l call place layers new copied sector follows on.0, on.1)
+on_entry v layers new slot (copying l copied (Some w)) who call place sector own same follows on = (
+  marked_called l call place layers new copied sector follows on.0,
+  record {
+    there = subst (λ (g : Geometry). w.stripe < stripe_count g.sector g.sectors) (sym same) on.1.there;
+    taken = subst (λ g. IsOfStripe g w.stripe w.stamp slot) (sym same) on.1.taken;
+    is_true = still_true v (entry who call) (piece_of slot) on.1.is_true;
+  },
+)
+
+-- it is refused
+on_stays : (v : State) (layers new : Layers) (slot : Piece) (course : Course) → new.geometry ≡ layers.geometry → KeepsMerge layers new → IsOnCourse v layers slot course → IsOnCourse v new slot course
+on_stays v layers new slot no_merge same keeps on = none_kept layers new keeps on
+on_stays v layers new slot (copying l copied waits) same keeps on = (marked_kept l layers new copied keeps on.0, subst (λ g. HoldsWaiting v g slot waits) (sym same) on.1)
 
 pub same_err : (x e : ChainRefusal) → ◌≡◌ {A = Result ℕ ChainRefusal} (Err x) (Err e) → x ≡ e
 same_err x e h = IfErr-at_err (λ y. x ≡ y) h refl
@@ -121,6 +167,23 @@ done_whole (calls.Read first count) place old new c fit = (c fit).1
 done_whole (calls.Write first bytes) place old new c fit = (c fit).1
 done_whole (calls.Trim first count) place old new c fit = (c fit).1
 done_whole calls.Flush place old new c fit = (c fit).1
+
+-- the files are the same
+numbers_entry : (e : Entry) (v : State) → numbers_left (with_entry e v) ≡ numbers_left v
+numbers_entry e v = by_rest v.rest
+  where
+    by_rest : (rest : Rest) → map (λ f. f.number) (staying (made (sector_of v) e.call v.top) rest) ≡ map (λ f. f.number) (staying v.top rest)
+    by_rest (plain others) = refl
+    by_rest (merging above source target below m) = refl
+    by_rest (retiring target below first before) = refl
+
+names_entry : (e : Entry) (v : State) → names_left (with_entry e v) ≡ names_left v
+names_entry e v = by_rest v.rest
+  where
+    by_rest : (rest : Rest) → map (λ f. f.member.name) (staying (made (sector_of v) e.call v.top) rest) ≡ map (λ f. f.member.name) (staying v.top rest)
+    by_rest (plain others) = refl
+    by_rest (merging above source target below m) = refl
+    by_rest (retiring target below first before) = refl
 
 -- ---- one line
 
@@ -189,7 +252,7 @@ module _ (drive : Drive) (number : ℕ) (call : Call) (v : State) (course : Cour
 
   -- it stops, or breaks the session
   stopped_line : (x : ChainRefusal) (r : Reply) (trace now : Trace) → new.disk.told ≡ Some now → cause_of drive None call ≡ None → Answers (caller number) call (Err x) r old new → refused call old ≡ None
-      → IsOnCourse v old.layers.geometry slot course → Outcome (is_read call) by_line v new trace now x → Line (Err x) None new
+      → IsOnCourse v old.layers slot course → Outcome (is_read call) by_line v new trace now x → Line (Err x) None new
   stopped_line x r trace now told cause h fit on (stays _ stops b is) = record {
     state = v;
     now = now;
@@ -207,7 +270,7 @@ module _ (drive : Drive) (number : ℕ) (call : Call) (v : State) (course : Cour
       kept = kept_same old.told new.told v.history over.kept (h.notes fit).0;
     };
     seen = told;
-    stands = serves b is.serving (subst (λ g. IsOnCourse v g slot course) (sym h.geometry) on);
+    stands = serves b is.serving (on_stays v old.layers new.layers slot course h.geometry h.merge on);
     few = omega (arith, h.events, counted_low old.events);
   }
   stopped_line _ r trace now told cause h fit on (ends file count reads b is) = record {
@@ -232,7 +295,7 @@ module _ (drive : Drive) (number : ℕ) (call : Call) (v : State) (course : Cour
   }
 
   -- it is done
-  done_line : (d : ℕ × Reply) (trace now : Trace) → old.disk.told ≡ Some trace → new.disk.told ≡ Some now → cause_of drive None call ≡ None → IsServing old.layers v trace → IsOnCourse v old.layers.geometry slot course
+  done_line : (d : ℕ × Reply) (trace now : Trace) → old.disk.told ≡ Some trace → new.disk.told ≡ Some now → cause_of drive None call ≡ None → IsServing old.layers v trace → IsOnCourse v old.layers slot course
       → Answers (caller number) call (Ok d.0) d.1 old new → refused call old ≡ None → IsDone by_line v new.layers trace now → Line (Ok (Some d.0, of_call d.1)) None new
   done_line d trace now seen told cause serving on h fit done =
       let notes = h.notes fit in
@@ -243,22 +306,11 @@ module _ (drive : Drive) (number : ℕ) (call : Call) (v : State) (course : Cour
       record {
         state = with_entry by_line v;
         now = now;
-        on = course;
+        on = behind_done call course;
         after = None;
         told_so = (refl, subst (λ t. IsTold drive v.history None call t None) (ap₂ (λ (p : ℕ) (r : Reply). Ok (Some p, of_call r)) place replied) (is_done cause));
         history = refl;
-        same = λ h later is. record {
-          leaf = is.leaf;
-          retired = is.retired;
-          number = is.number;
-          opening = is.opening;
-          began = is.began;
-          writes = is.writes;
-          since = is.since;
-          left = is.left;
-          names = is.names;
-          history = is.history;
-        };
+        same = λ h later is. later_same v (with_entry by_line v) h later refl refl refl refl refl refl (numbers_entry by_line v) (names_entry by_line v) is;
         over = record {
           geometry = h.geometry ∙ over.geometry;
           change = h.session ∙ over.change;
@@ -268,7 +320,7 @@ module _ (drive : Drive) (number : ℕ) (call : Call) (v : State) (course : Cour
           kept = kept_more old.told new.told v.history by_line over.kept notes.0;
         };
         seen = told;
-        stands = serves b done.serving (on_entry v new.layers.geometry slot course by_line (subst (λ g. IsOnCourse v g slot course) (sym h.geometry) on));
+        stands = serves b done.serving (on_entry v old.layers new.layers slot course (caller number) call d.0 (h.sound.sector) over.sector h.geometry h.merge on);
         few = omega (arith, h.events, counted_low old.events);
       }
 
@@ -290,7 +342,7 @@ module _ (drive : Drive) (number : ℕ) (call : Call) (v : State) (course : Cour
             let far : is_read call ≡ false → IsFar x = λ changes next e. call_is_far call next v old trace serving.0 over.sector seen changes is (subst (λ y. HasRoom call old (Err y)) e h.room) in
             subst (λ o. Line (Err x) o new) (sym none)
             (stopped_line x r trace after.0 after.1 (subst (λ o. cause_of drive (fault_in o) call ≡ None) none (cause_is None is)) h is serving.1
-            (outcome by_line v old new trace after.0 call x far h.cause is (after.2 v serving.0)))
+            (outcome by_line v old new trace after.0 call x far h.cause is (after.2 v serving.0 (next_place v old.noted over.noted))))
 
     told_done : (d : ℕ × Reply) → Answers (caller number) call (Ok d.0) d.1 old new → Line (Ok (Some d.0, of_call d.1)) broken new
     told_done d h = go (refused call old) refl
@@ -305,7 +357,7 @@ module _ (drive : Drive) (number : ℕ) (call : Call) (v : State) (course : Cour
             let after = both_told _ old.disk.told new.disk.told trace seen (h.told (broken_is v old slot trace course broken stands ∙ ap fault_in none)) in
             let serving = serving_of v old slot trace course broken stands none in
             subst (λ o. Line (Ok (Some d.0, of_call d.1)) o new) (sym none)
-            (done_line d trace after.0 seen after.1 (subst (λ o. cause_of drive (fault_in o) call ≡ None) none (cause_is None is)) serving.0 serving.1 h is (after.2 v serving.0))
+            (done_line d trace after.0 seen after.1 (subst (λ o. cause_of drive (fault_in o) call ≡ None) none (cause_is None is)) serving.0 serving.1 h is (after.2 v serving.0 (next_place v old.noted over.noted)))
 
     pub call_line : (t : Told) → AnswersCall number call t old new → Line t broken new
     call_line t h = subst (λ t. Line t broken new) (sym h.is) (go h.answer h.answers)

@@ -1,5 +1,5 @@
 -- What the turns of a copy make of a merge.
-use Rattle.std.proofs.Common.{◌≡◌, ◌<◌, ◌≤◌, ◌+◌, ◌*◌, ◌^◌, ◌==◌, ◌||◌, ℕ, Bool, true, false, Some, Result, Ok, Err, refl, sym, ap, ◌∙◌, arith, ltb-true, ltb-false}
+use Rattle.std.proofs.Common.{◌≡◌, ◌<◌, ◌≤◌, ◌+◌, ◌*◌, ◌^◌, ◌==◌, ◌||◌, ℕ, Bool, true, false, None, Some, Result, Ok, Err, refl, sym, ap, ◌∙◌, arith, ltb-true, ltb-false}
 use Rattle.std.specs.Prelude.{nat_lt}
 use Rattle.std.proofs.lemmas.Bool.{eqb-false, eqb-true, lt-ltb}
 use Rattle.store_model.specs.Trace.{Trace}
@@ -13,10 +13,12 @@ use Rattle.merge_core.specs.declared.piece.Piece.{Piece}
 use Rattle.chain_core.specs.Merging.{with_put}
 use Rattle.chain_core.specs.Sessions.{IsSound, Session}
 use Rattle.chain_core.specs.States.{State}
-use Rattle.script_session.specs.Histories.{Drive, IsLater, IsMissed, IsOver, copied_to, stripes_of}
+use Rattle.script_session.specs.Histories.{Drive, IsLater, IsMissed, IsOver, Waiting, copied_to, stamp_behind, stripes_of}
 use Rattle.script_session.specs.MergeSteps.{AnswersTurn, AnswersTurns, fetched_and, no_turn, not_fetched, one_more}
-use Rattle.script_session.proofs.Copying.{FetchEnds, IsCopying, PutEnds, Unfetched, fetch_err, fetch_ok, has_failed, is_past, marks_as, next_is, over_kept, put_err, not_past, put_ok, put_stops}
-use Rattle.script_session.proofs.LeftFiles.{left_put, names_put}
+use Rattle.script_session.proofs.Copying.{FetchEnds, IsCopying, PutEnds, Unfetched, fetch_err, fetch_ok, has_failed, is_past, never_stale, next_is, over_kept, put_cause, put_err, not_past, put_ok, put_stops}
+use Rattle.script_session.proofs.Marked.{marked_as}
+use Rattle.chain_core.specs.Copying.{put_refused}
+use Rattle.script_session.proofs.LeftFiles.{later_put}
 use Rattle.script_session.proofs.Moving.{not_none}
 
 -- ---- marks up to a stripe
@@ -82,89 +84,88 @@ pub data Moved (stripes : ℕ) (copied : ℕ → Bool) (old new : Session) (slot
   moved_some : (stripe : ℕ) → IsMissed stripes copied stripe → left.filled ≡ false → Moved stripes copied old new slot left
 
 -- where turns led
-pub record Turned (drive : Drive) (v : State) (old : Session) (copied : ℕ → Bool) (new : Session) : Type 0 where
+pub record Turned (drive : Drive) (v : State) (old : Session) (l : Bool) (copied : ℕ → Bool) (new : Session) : Type 0 where
   pub state : State
   pub now : Trace
   pub front : ℕ
-  pub copying : IsCopying drive state new now (copied_to front copied)
+  pub copying : IsCopying drive state new now l (copied_to front copied)
   pub same : (h : History) (later : State) → IsLater state h later → IsLater v h later
   pub history : v.history ≡ state.history
   pub events : new.events ≤ old.events + 2 * front
   pub within : front ≤ stripes_of drive
   pub low : front ≤ 2 ^ 32
 
-same_put : (v : State) (piece : Piece) (h : History) (later : State) → IsLater (with_put (piece_of piece) v) h later → IsLater v h later
-same_put v piece h later is = record { leaf = is.leaf; retired = is.retired; number = is.number; opening = is.opening; began = is.began; writes = is.writes; since = is.since; left = is.left ∙ left_put (piece_of piece) v.rest; names = is.names ∙ names_put (piece_of piece) v; history = is.history }
-
 pub sound_of : (stripe : ℕ) (answer : Result (Unit {0}) ChainRefusal) (old new : Session) → AnswersTurn stripe answer old new → IsSound old
 sound_of stripe answer old new (not_fetched _ _ _ left fetched) = fetched.sound
 sound_of stripe answer old new (fetched_and _ stamp _ mid _ piece fetched put) = fetched.sound
 
 -- one turn, from a session whose front is known
-record TurnedOnce (drive : Drive) (v : State) (old new : Session) (copied : ℕ → Bool) (stripe : ℕ) : Type 0 where
+record TurnedOnce (drive : Drive) (v : State) (old new : Session) (l : Bool) (copied : ℕ → Bool) (stripe : ℕ) : Type 0 where
   state : State
   now : Trace
-  copying : IsCopying drive state new now (copied_to (stripe + 1) copied)
+  copying : IsCopying drive state new now l (copied_to (stripe + 1) copied)
   same : (h : History) (later : State) → IsLater state h later → IsLater v h later
   history : v.history ≡ state.history
   events : new.events ≤ old.events + 2
 
-module _ (drive : Drive) (v : State) (old : Session) (trace : Trace) (n : ℕ) (copied : ℕ → Bool) (c : IsCopying drive v old trace (copied_to n copied)) (few : old.events + 1 < 2 ^ 63) (stripe : ℕ) (low : IsLowest (stripes_of drive) (copied_to n copied) stripe) where
-  turned_once : (new : Session) → AnswersTurn stripe (Ok tt) old new → TurnedOnce drive v old new copied stripe
+module _ (drive : Drive) (v : State) (old : Session) (trace : Trace) (n : ℕ) (l : Bool) (copied : ℕ → Bool) (c : IsCopying drive v old trace l (copied_to n copied)) (few : old.events + 1 < 2 ^ 63) (stripe : ℕ) (low : IsLowest (stripes_of drive) (copied_to n copied) stripe) where
+  turned_once : (new : Session) → AnswersTurn stripe (Ok tt) old new → TurnedOnce drive v old new l copied stripe
   turned_once new (fetched_and _ stamp _ mid _ piece fetched put) =
-      let f = fetch_ok drive v old trace (copied_to n copied) c (omega (arith, few)) stripe stamp mid piece fetched in
-      let p = put_ok drive v mid f.now (copied_to n copied) f.copying stripe piece f.waiting new put in
+      let f = fetch_ok drive v old trace l (copied_to n copied) c (omega (arith, few)) stripe stamp mid piece fetched in
+      let p = put_ok drive v mid f.now l (copied_to n copied) f.copying (record { stripe = stripe; stamp = stamp_behind l v.history stripe }) piece f.waiting new put in
       record {
         state = with_put (piece_of piece) v;
         now = p.now;
         copying = record {
           whole = p.copying.whole;
           serving = p.copying.serving;
-          marks = marks_as (with_put (piece_of piece) v).rest (with_mark stripe (copied_to n copied)) (copied_to (stripe + 1) copied) p.copying.marks (front_more n (stripes_of drive) stripe copied low);
+          marks = marked_as l new.layers (with_mark stripe (copied_to n copied)) (copied_to (stripe + 1) copied) p.copying.marks (front_more n (stripes_of drive) stripe copied low);
           over = p.copying.over;
           seen = p.copying.seen;
         };
-        same = same_put v piece;
+        same = later_put v (piece_of piece);
         history = refl;
         events = omega (arith, fetched.events, put.events);
       }
 
 -- how a turn that is refused ends
-pub record Stopped (drive : Drive) (v : State) (new : Session) (copied : ℕ → Bool) (trace : Trace) (x : ChainRefusal) : Type 0 where
+pub record Stopped (drive : Drive) (v : State) (new : Session) (l : Bool) (copied : ℕ → Bool) (trace : Trace) (x : ChainRefusal) : Type 0 where
   pub from : Trace
   pub now : Trace
   pub seen : new.disk.told ≡ Some now
   pub over : IsOver drive v new
-  pub ends : PutEnds drive v new copied from now x
+  pub ends : PutEnds drive v new l copied from now x
 
-module _ (drive : Drive) (v : State) (old : Session) (trace : Trace) (marks : ℕ → Bool) (c : IsCopying drive v old trace marks) (few : old.events + 1 < 2 ^ 63) (stripe : ℕ) (low : IsLowest (stripes_of drive) marks stripe) where
-  unfetched : (x : ChainRefusal) (new : Session) → Unfetched drive v new marks stripe x → Stopped drive v new marks trace x
+module _ (drive : Drive) (v : State) (old : Session) (trace : Trace) (l : Bool) (marks : ℕ → Bool) (c : IsCopying drive v old trace l marks) (few : old.events + 1 < 2 ^ 63) (stripe : ℕ) (low : IsLowest (stripes_of drive) marks stripe) where
+  unfetched : (x : ChainRefusal) (new : Session) → Unfetched drive v new l marks stripe x → Stopped drive v new l marks trace x
   unfetched x new u = go x u.ends
     where
-      go : (x : ChainRefusal) → FetchEnds drive stripe x → Stopped drive v new marks trace x
+      go : (x : ChainRefusal) → FetchEnds drive stripe x → Stopped drive v new l marks trace x
       go x (is_past _ past) = not_none _ x past (not_past stripe (stripes_of drive) low.there)
       go _ (has_failed file count inside) =
           record { from = trace; now = u.now; seen = u.copying.seen; over = u.copying.over; ends = put_stops (ReadFault file count) tt u.copying }
 
-  pub turn_stopped : (x : ChainRefusal) (new : Session) → AnswersTurn stripe (Err x) old new → Stopped drive v new marks trace x
-  turn_stopped x new (not_fetched _ _ _ left fetched) = unfetched x new (fetch_err drive v old trace marks c (omega (arith, few)) stripe x new left fetched)
+  pub turn_stopped : (x : ChainRefusal) (new : Session) → AnswersTurn stripe (Err x) old new → Stopped drive v new l marks trace x
+  turn_stopped x new (not_fetched _ _ _ left fetched) = unfetched x new (fetch_err drive v old trace l marks c (omega (arith, few)) stripe x new left fetched)
   turn_stopped x new (fetched_and _ stamp _ mid _ piece fetched put) =
-      let f = fetch_ok drive v old trace marks c (omega (arith, few)) stripe stamp mid piece fetched in
-      let p = put_err drive v mid f.now marks f.copying stripe piece f.waiting x new (omega (arith, few, fetched.events)) put in
+      let f = fetch_ok drive v old trace l marks c (omega (arith, few)) stripe stamp mid piece fetched in
+      let w : Waiting = record { stripe = stripe; stamp = stamp_behind l v.history stripe } in
+      let fresh : put_refused piece mid ≡ None = put_cause drive v mid f.now l marks f.copying w piece (omega (arith, few, fetched.events)) f.waiting ∙ never_stale w.stamp in
+      let p = put_err drive v mid f.now l marks f.copying w piece f.waiting x new fresh put in
       record { from = f.now; now = p.0; seen = p.1; over = over_kept drive v mid new f.copying.over put.keeps; ends = p.2 }
 
 pub turn_events : (stripe : ℕ) (answer : Result (Unit {0}) ChainRefusal) (old new : Session) → AnswersTurn stripe answer old new → new.events ≤ old.events + 2
 turn_events stripe answer old new (not_fetched _ _ _ left fetched) = omega (arith, fetched.events)
 turn_events stripe answer old new (fetched_and _ stamp _ mid _ piece fetched put) = omega (arith, fetched.events, put.events)
 
-pub turns_led : (drive : Drive) (v : State) (old : Session) (slot : Piece) (trace : Trace) (copied : ℕ → Bool) → IsCopying drive v old trace copied → old.events + 2 ^ 34 ≤ 2 ^ 63 → (new : Session) (left : Piece)
-    → AnswersTurns old slot new left → Turned drive v old copied new × Moved (stripes_of drive) copied old new slot left
-turns_led drive v old slot trace copied c few _ _ no_turn = (
+pub turns_led : (drive : Drive) (v : State) (old : Session) (slot : Piece) (trace : Trace) (l : Bool) (copied : ℕ → Bool) → IsCopying drive v old trace l copied → old.events + 2 ^ 34 ≤ 2 ^ 63 → (new : Session) (left : Piece)
+    → AnswersTurns old slot new left → Turned drive v old l copied new × Moved (stripes_of drive) copied old new slot left
+turns_led drive v old slot trace l copied c few _ _ no_turn = (
   record {
     state = v;
     now = trace;
     front = 0;
-    copying = record { whole = c.whole; serving = c.serving; marks = marks_as v.rest copied (copied_to 0 copied) c.marks (no_front copied); over = c.over; seen = c.seen };
+    copying = record { whole = c.whole; serving = c.serving; marks = marked_as l old.layers copied (copied_to 0 copied) c.marks (no_front copied); over = c.over; seen = c.seen };
     same = λ h later is. is;
     history = refl;
     events = omega arith;
@@ -173,12 +174,12 @@ turns_led drive v old slot trace copied c few _ _ no_turn = (
   },
   moved_none refl refl,
 )
-turns_led drive v old slot trace copied c few _ _ (one_more stripe mid new held left turns next turn empty) =
-    let led = (turns_led drive v old slot trace copied c few mid held turns).0 in
-    let low : IsLowest (stripes_of drive) (copied_to led.front copied) stripe = next_is drive led.state mid led.now (copied_to led.front copied) led.copying stripe (sound_of stripe (Ok tt) mid new turn) next.missing in
+turns_led drive v old slot trace l copied c few _ _ (one_more stripe mid new held left turns next turn empty) =
+    let led = (turns_led drive v old slot trace l copied c few mid held turns).0 in
+    let low : IsLowest (stripes_of drive) (copied_to led.front copied) stripe = next_is drive led.state mid led.now l (copied_to led.front copied) led.copying stripe (sound_of stripe (Ok tt) mid new turn) next.missing in
     let past = past_front led.front copied stripe low.unmarked in
     let room : mid.events + 1 < 2 ^ 63 = omega (arith, led.events, led.low, few) in
-    let one = turned_once drive led.state mid led.now led.front copied led.copying room stripe low new turn in (
+    let one = turned_once drive led.state mid led.now led.front l copied led.copying room stripe low new turn in (
       record {
         state = one.state;
         now = one.now;

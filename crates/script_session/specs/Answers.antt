@@ -12,9 +12,9 @@ use Rattle.guest_model.specs.Calls as model
 use Rattle.script.specs.declared.form.Line.{Line}
 use Rattle.chain_core.specs.Answering.{AnswersTold, HasCause, HasReadCause, HasRoom, Notes}
 use Rattle.chain_core.specs.Refusing.{counted, refused}
-use Rattle.chain_core.specs.Sessions.{Session}
+use Rattle.chain_core.specs.Sessions.{IsSound, Session}
 use Rattle.chain_core.specs.States.{State, IsServing, disk_now}
-use Rattle.chain_core.specs.Copying.{FitsDisk}
+use Rattle.chain_core.specs.Copying.{FitsDisk, MergeFollows}
 use Rattle.merge_core.specs.declared.piece.Piece.{Piece}
 use Rattle.vx_base.specs.declared.parts.Geometry.{Geometry}
 use Rattle.script.specs.Transcript.{LineReply, has_stamp, is_copied, is_done, of_call}
@@ -47,6 +47,7 @@ HasCauseOf calls.Flush old new result = HasCause calls.Flush old new result
 -- refused before it reaches the files changes nothing; any other is noted, or has the cause of its refusal; and where content is told
 -- a session that isn't broken serves the history with it.
 pub record Answers (who : Caller) (call : Call) (result : Result ℕ ChainRefusal) (reply : Reply) (old new : Session) : Type 0 where
+  pub sound : IsSound old
   pub early : IfSome (refused call old) (λ e. (result ≡ Err e) × (new ≡ record old { events = counted old.events }))
   pub notes : Notes who call old new result
   pub cause : HasCauseOf call old new result
@@ -55,6 +56,7 @@ pub record Answers (who : Caller) (call : Call) (result : Result ℕ ChainRefusa
   pub told : old.broken ≡ None → AnswersTold who call old new result
   pub geometry : new.layers.geometry ≡ old.layers.geometry
   pub session : is_some new.layers.leaf ≡ is_some old.layers.leaf
+  pub merge : MergeFollows call old.layers new.layers result
   pub events : new.events ≡ counted old.events
 
 -- an answer with this reply, where it is no refusal

@@ -2,24 +2,28 @@
 use Rattle.std.specs.Prelude.{◌≡◌, ◌+◌, ◌*◌, ◌<◌, ◌≤◌, ◌^◌, ◌||◌, ⊤, ℕ, Bool, true, false, nat_lt, List, [], ◌∷◌, ◌++◌, length, map, is_some, Option, Some, None, option_map, Ok, Err, IfSome, if◌then◌else◌}
 use Rattle.vx_base.specs.declared.parts.Geometry.{Geometry}
 use Rattle.store_model.specs.declared.fault.StoreFault.{StoreFault}
-use Rattle.store_model.specs.Trace.{Trace}
+use Rattle.store_model.specs.File.{is_synced}
+use Rattle.store_model.specs.Trace.{Trace, file_of}
 use Rattle.guest_model.specs.declared.call.Call.{Call}
 use Rattle.guest_model.specs.declared.refusal.ChainRefusal.{ChainRefusal}
 use Rattle.guest_model.specs.declared.refusal.ChainRefusal.TheVariants.{Broken, FileFull, NoMerge, NoPiece, NoRoom, NotYet, ReadFault}
 use Rattle.guest_model.specs.Calls.{Disk, is_named, reply}
 use Rattle.guest_model.specs.History.{History, replay}
-use Rattle.chain_model.specs.Merges.{AllMarked, with_mark}
+use Rattle.chain_model.specs.Images.{Placed}
+use Rattle.chain_model.specs.Merges.{AllMarked, marks_after, with_mark}
 use Rattle.chain_model.specs.Moments.{EachOpensToPrefix}
-use Rattle.chain_model.specs.Stripes.{stripe_count}
-use Rattle.merge_core.specs.Copied.{IsLowest}
+use Rattle.chain_model.specs.Stripes.{stamp, stripe_count}
+use Rattle.merge_core.specs.Copied.{IsLowest, marks_of}
 use Rattle.merge_core.specs.Pieces.{piece_of}
 use Rattle.merge_core.specs.declared.piece.Piece.{Piece}
-use Rattle.chain_core.specs.Copying.{IsOfStripe, past_stripes}
-use Rattle.chain_core.specs.Finished.{left_of}
+use Rattle.chain_core.specs.Copying.{IsOfStripe, past_stripes, stale}
 use Rattle.chain_core.specs.Merging.{IsTruePiece}
 use Rattle.chain_core.specs.Refusing.{barred, broken_by, is_read, or_else, out_of, range_of}
-use Rattle.chain_core.specs.Sessions.{Session}
-use Rattle.chain_core.specs.States.{IsServing, LeavesOthers, Rest, State, merging, plain, sector_of}
+use Rattle.chain_core.specs.Sessions.{HasNoMerge, Session}
+use Rattle.chain_core.specs.States.{IsServing, LeavesOthers, Rest, State, merging, plain, retiring, sector_of}
+use Rattle.chain_core.specs.declared.layers.Layers.{Layers}
+use Rattle.chain_core.specs.declared.layers.Retiring.{Retiring}
+use Rattle.chain_core.specs.declared.layers.Underway.{Underway}
 use Rattle.script.specs.declared.form.Line.{Line}
 use Rattle.script.specs.Transcript.{has_stamp, is_copied, is_done as is_whole, of_call}
 use Rattle.script_session.specs.Answers.{AnswersLines}
@@ -72,33 +76,64 @@ pub data IsTold (drive : Drive) (h : History) (broken : Option Break) (call : Ca
 
 -- ---- the steps of a merge
 
--- How a merge stands for a script: none is under way; or one is, of which these stripes are copied, and the piece of this one was fetched
--- and waits to be put, if one does.
+-- a piece that waits to be put: of this stripe, fetched under this stamp
+pub record Waiting : Type 0 where
+  pub stripe : ℕ
+  pub stamp : ℕ
+
+-- How a merge stands for a script: none is under way; or one is, of the leaf or of a file below it, of which these stripes are copied, and
+-- a piece waits to be put, if one does.
 pub data Course : Type 0 where
   no_merge : Course
-  copying : (copied : ℕ → Bool) (waits : Option ℕ) → Course
+  copying : (of_leaf : Bool) (copied : ℕ → Bool) (waits : Option Waiting) → Course
+
+-- The stamp that a stripe of the source has behind a history: of the leaf the place of the last call that touches it; of a file below it,
+-- on which no call is made, 0.
+abbrev pub stamp_behind : Bool → History → ℕ → ℕ
+stamp_behind true h stripe = stamp sector_size h stripe
+stamp_behind false h stripe = 0
+
+-- A call that is done takes away the marks of the leaf's stripes that it touches.
+abbrev pub marks_behind : Bool → Call → (ℕ → Bool) → ℕ → Bool
+marks_behind true call copied = marks_after sector_size call copied
+marks_behind false call copied = copied
+
+abbrev pub behind_done : Call → Course → Course
+behind_done call no_merge = no_merge
+behind_done call (copying of_leaf copied waits) = copying of_leaf (marks_behind of_leaf call copied) waits
+
+-- how a merge stands behind a call's line
+abbrev pub behind_call : Call → Told → Course → Course
+behind_call call (Ok answer) course = behind_done call course
+behind_call call (Err refusal) course = course
 
 -- how many stripes the disk has
 abbrev pub stripes_of : Drive → ℕ
 stripes_of drive = stripe_count drive.geometry.sector drive.geometry.sectors
 
--- What a step is refused by, as the merge stands: none is under way; the disk has fewer stripes; nothing waits to be put.
-abbrev pub out_of_course : ℕ → Course → Asked → Option ChainRefusal
-out_of_course stripes no_merge step = Some NoMerge
-out_of_course stripes (copying copied waits) (asks_fetch stripe) = past_stripes stripe stripes
-out_of_course stripes (copying copied waits) asks_put = if is_some waits then None else Some NoPiece
-out_of_course stripes (copying copied waits) other = None
+-- Nothing waits to be put; or its stripe was changed since: its stamp is another now.
+abbrev pub not_waiting : Bool → History → Option Waiting → Option ChainRefusal
+not_waiting of_leaf h None = Some NoPiece
+not_waiting of_leaf h (Some w) = stale w.stamp (stamp_behind of_leaf h w.stripe)
+
+-- What a step is refused by, as the merge stands: none is under way; the disk has fewer stripes; nothing waits to be put, or nothing that is
+-- still what the stripe has.
+abbrev pub out_of_course : ℕ → History → Course → Asked → Option ChainRefusal
+out_of_course stripes h no_merge step = Some NoMerge
+out_of_course stripes h (copying of_leaf copied waits) (asks_fetch stripe) = past_stripes stripe stripes
+out_of_course stripes h (copying of_leaf copied waits) asks_put = not_waiting of_leaf h waits
+out_of_course stripes h (copying of_leaf copied waits) other = None
 
 -- the cause by which a step is refused whatever the files are: a fault broke the session; or how the merge stands
-abbrev pub step_cause : Drive → Option StoreFault → Course → Asked → Option ChainRefusal
-step_cause drive broken course step = or_else (broken_by broken) (out_of_course (stripes_of drive) course step)
+abbrev pub step_cause : Drive → History → Option StoreFault → Course → Asked → Option ChainRefusal
+step_cause drive h broken course step = or_else (broken_by broken) (out_of_course (stripes_of drive) h course step)
 
 -- a fetch or a put that is refused leaves nothing that waits
 abbrev pub left_by : Asked → Course → Course
 left_by step no_merge = no_merge
-left_by (asks_fetch stripe) (copying copied waits) = copying copied None
-left_by asks_put (copying copied waits) = copying copied None
-left_by other (copying copied waits) = copying copied waits
+left_by (asks_fetch stripe) (copying of_leaf copied waits) = copying of_leaf copied None
+left_by asks_put (copying of_leaf copied waits) = copying of_leaf copied None
+left_by other (copying of_leaf copied waits) = copying of_leaf copied waits
 
 -- What stops a put without breaking the session: a fault of the store, or want of room in the target's file, whose end is then within
 -- 1,024 MB of the greatest place that a block may have.
@@ -116,38 +151,43 @@ pub record IsMissed (stripes : ℕ) (copied : ℕ → Bool) (stripe : ℕ) : Typ
   pub there : stripe < stripes
   pub missing : copied stripe ≡ false
 
--- What a step of a merge is told, as the merge stands, and how it stands behind it: the step has its cause and is refused by it. Or a
--- stripe is fetched, under the stamp 0, and waits; or a fault stops it, and nothing waits. Or what waits is put, its stripe is copied, and
--- nothing waits; or that is stopped, or breaks the session. Or all stripes are copied, already before or then; or that is stopped at a
--- stripe that was missing, or breaks the session there: copied then are the stripes below it, besides those before. Or, all stripes being
--- copied, the merge is finished, or that breaks the session; else it is told the lowest stripe that isn't copied.
-pub data IsStepTold (drive : Drive) : Course → Option Break → Asked → Told → Course → Option Break → Type 0 where
-  is_barred : (course : Course) (broken : Option Break) (step : Asked) (e : ChainRefusal) → step_cause drive (fault_in broken) course step ≡ Some e → IsStepTold drive course broken step (Err e) (left_by step course) broken
-  is_fetched : (copied : ℕ → Bool) (waits : Option ℕ) (stripe : ℕ) → stripe < stripes_of drive → IsStepTold drive (copying copied waits) None (asks_fetch stripe) (Ok (None, has_stamp 0)) (copying copied (Some stripe)) None
-  fetch_stopped : (copied : ℕ → Bool) (waits : Option ℕ) (stripe file count : ℕ) → stripe < stripes_of drive
-      → IsStepTold drive (copying copied waits) None (asks_fetch stripe) (Err (ReadFault file count)) (copying copied None) None
-  is_put : (copied : ℕ → Bool) (stripe : ℕ) → IsStepTold drive (copying copied (Some stripe)) None asks_put (Ok (None, is_copied)) (copying (with_mark stripe copied) None) None
-  put_stopped : (copied : ℕ → Bool) (stripe : ℕ) (e : ChainRefusal) → StopsPut e → IsStepTold drive (copying copied (Some stripe)) None asks_put (Err e) (copying copied None) None
-  put_breaks : (copied : ℕ → Bool) (stripe : ℕ) (fault : StoreFault)
-      → IsStepTold drive (copying copied (Some stripe)) None asks_put (Err (Broken fault.file fault.count)) (copying copied None) (Some (record { fault = fault; call = None }))
-  none_missing : (copied : ℕ → Bool) (waits : Option ℕ) → AllMarked (stripes_of drive) copied → IsStepTold drive (copying copied waits) None asks_copy (Ok (None, is_whole)) (copying copied waits) None
-  all_copied : (copied : ℕ → Bool) (waits : Option ℕ) (stripe : ℕ) → IsMissed (stripes_of drive) copied stripe
-      → IsStepTold drive (copying copied waits) None asks_copy (Ok (None, is_whole)) (copying (copied_to (stripes_of drive) copied) None) None
-  copy_stopped : (copied : ℕ → Bool) (waits : Option ℕ) (stripe : ℕ) (e : ChainRefusal) → IsMissed (stripes_of drive) copied stripe → StopsPut e
-      → IsStepTold drive (copying copied waits) None asks_copy (Err e) (copying (copied_to stripe copied) None) None
-  copy_breaks : (copied : ℕ → Bool) (waits : Option ℕ) (stripe : ℕ) (fault : StoreFault) → IsMissed (stripes_of drive) copied stripe
-      → IsStepTold drive (copying copied waits) None asks_copy (Err (Broken fault.file fault.count)) (copying (copied_to stripe copied) None) (Some (record { fault = fault; call = None }))
-  is_finished : (copied : ℕ → Bool) (waits : Option ℕ) → AllMarked (stripes_of drive) copied → IsStepTold drive (copying copied waits) None asks_finish (Ok (None, is_whole)) no_merge None
-  not_yet : (copied : ℕ → Bool) (waits : Option ℕ) (stripe : ℕ) → IsLowest (stripes_of drive) copied stripe → IsStepTold drive (copying copied waits) None asks_finish (Err (NotYet stripe)) (copying copied waits) None
-  finish_breaks : (copied : ℕ → Bool) (waits : Option ℕ) (fault : StoreFault) → AllMarked (stripes_of drive) copied
-      → IsStepTold drive (copying copied waits) None asks_finish (Err (Broken fault.file fault.count)) (copying copied waits) (Some (record { fault = fault; call = None }))
+-- What a step of a merge is told behind a history, as the merge stands, and how it stands behind it: the step has its cause and is refused by
+-- it. Or a stripe is fetched, under the stamp that it has, and waits; or a fault stops it, and nothing waits. Or what waits and is what its
+-- stripe has is put, the stripe is copied, and nothing waits; or that is stopped, or breaks the session. Or all stripes are copied, already
+-- before or then; or that is stopped at a stripe that was missing, or breaks the session there: copied then are the stripes below it, besides
+-- those before. Or, all stripes being copied, the merge is finished, or that breaks the session; else it is told the lowest stripe that isn't
+-- copied.
+pub data IsStepTold (drive : Drive) (h : History) : Course → Option Break → Asked → Told → Course → Option Break → Type 0 where
+  is_barred : (course : Course) (broken : Option Break) (step : Asked) (e : ChainRefusal) → step_cause drive h (fault_in broken) course step ≡ Some e → IsStepTold drive h course broken step (Err e) (left_by step course) broken
+  is_fetched : (l : Bool) (copied : ℕ → Bool) (waits : Option Waiting) (stripe : ℕ) → stripe < stripes_of drive
+      → IsStepTold drive h (copying l copied waits) None (asks_fetch stripe) (Ok (None, has_stamp (stamp_behind l h stripe))) (copying l copied (Some (record { stripe = stripe; stamp = stamp_behind l h stripe }))) None
+  fetch_stopped : (l : Bool) (copied : ℕ → Bool) (waits : Option Waiting) (stripe file count : ℕ) → stripe < stripes_of drive
+      → IsStepTold drive h (copying l copied waits) None (asks_fetch stripe) (Err (ReadFault file count)) (copying l copied None) None
+  is_put : (l : Bool) (copied : ℕ → Bool) (w : Waiting) → w.stamp ≡ stamp_behind l h w.stripe
+      → IsStepTold drive h (copying l copied (Some w)) None asks_put (Ok (None, is_copied)) (copying l (with_mark w.stripe copied) None) None
+  put_stopped : (l : Bool) (copied : ℕ → Bool) (w : Waiting) (e : ChainRefusal) → w.stamp ≡ stamp_behind l h w.stripe → StopsPut e
+      → IsStepTold drive h (copying l copied (Some w)) None asks_put (Err e) (copying l copied None) None
+  put_breaks : (l : Bool) (copied : ℕ → Bool) (w : Waiting) (fault : StoreFault) → w.stamp ≡ stamp_behind l h w.stripe
+      → IsStepTold drive h (copying l copied (Some w)) None asks_put (Err (Broken fault.file fault.count)) (copying l copied None) (Some (record { fault = fault; call = None }))
+  none_missing : (l : Bool) (copied : ℕ → Bool) (waits : Option Waiting) → AllMarked (stripes_of drive) copied → IsStepTold drive h (copying l copied waits) None asks_copy (Ok (None, is_whole)) (copying l copied waits) None
+  all_copied : (l : Bool) (copied : ℕ → Bool) (waits : Option Waiting) (stripe : ℕ) → IsMissed (stripes_of drive) copied stripe
+      → IsStepTold drive h (copying l copied waits) None asks_copy (Ok (None, is_whole)) (copying l (copied_to (stripes_of drive) copied) None) None
+  copy_stopped : (l : Bool) (copied : ℕ → Bool) (waits : Option Waiting) (stripe : ℕ) (e : ChainRefusal) → IsMissed (stripes_of drive) copied stripe → StopsPut e
+      → IsStepTold drive h (copying l copied waits) None asks_copy (Err e) (copying l (copied_to stripe copied) None) None
+  copy_breaks : (l : Bool) (copied : ℕ → Bool) (waits : Option Waiting) (stripe : ℕ) (fault : StoreFault) → IsMissed (stripes_of drive) copied stripe
+      → IsStepTold drive h (copying l copied waits) None asks_copy (Err (Broken fault.file fault.count)) (copying l (copied_to stripe copied) None) (Some (record { fault = fault; call = None }))
+  is_finished : (l : Bool) (copied : ℕ → Bool) (waits : Option Waiting) → AllMarked (stripes_of drive) copied → IsStepTold drive h (copying l copied waits) None asks_finish (Ok (None, is_whole)) no_merge None
+  not_yet : (l : Bool) (copied : ℕ → Bool) (waits : Option Waiting) (stripe : ℕ) → IsLowest (stripes_of drive) copied stripe
+      → IsStepTold drive h (copying l copied waits) None asks_finish (Err (NotYet stripe)) (copying l copied waits) None
+  finish_breaks : (l : Bool) (copied : ℕ → Bool) (waits : Option Waiting) (fault : StoreFault) → AllMarked (stripes_of drive) copied
+      → IsStepTold drive h (copying l copied waits) None asks_finish (Err (Broken fault.file fault.count)) (copying l copied waits) (Some (record { fault = fault; call = None }))
 
 -- ---- lines
 
--- what a line is told: of a call, which leaves the merge as it stands, or of a step of the merge
+-- what a line is told: of a call, or of a step of the merge
 abbrev pub IsLineTold : Drive → History → Course → Option Break → Asked → Told → Course → Option Break → Type 0
-IsLineTold drive h course broken (asks_call call) told on after = (on ≡ course) × IsTold drive h broken call told after
-IsLineTold drive h course broken step told on after = IsStepTold drive course broken step told on after
+IsLineTold drive h course broken (asks_call call) told on after = (on ≡ behind_call call told course) × IsTold drive h broken call told after
+IsLineTold drive h course broken step told on after = IsStepTold drive h course broken step told on after
 
 -- the history behind a line: its call, if it is one, is the next entry, of guest 1 with its number, if it was done
 abbrev pub with_line : ℕ → Asked → Told → History → History
@@ -165,31 +205,26 @@ pub data AreTold (drive : Drive) : ℕ → History → Course → Option Break �
 
 -- ---- and what stands behind them
 
--- a piece was taken of this stripe of the disk, and is true of the merge's source
-pub record IsWaiting (v : State) (geometry : Geometry) (stripe : ℕ) (slot : Piece) : Type 0 where
-  pub there : stripe < stripe_count geometry.sector geometry.sectors
-  pub taken : IsOfStripe geometry stripe slot
+-- a piece was taken of this stripe of the disk, under its stamp, and is true of the merge's source
+pub record IsWaiting (v : State) (geometry : Geometry) (w : Waiting) (slot : Piece) : Type 0 where
+  pub there : w.stripe < stripe_count geometry.sector geometry.sectors
+  pub taken : IsOfStripe geometry w.stripe w.stamp slot
   pub is_true : IsTruePiece v (piece_of slot)
 
 -- the slot has the piece that waits, if one does
-abbrev pub HoldsWaiting : State → Geometry → Piece → Option ℕ → Type 0
+abbrev pub HoldsWaiting : State → Geometry → Piece → Option Waiting → Type 0
 HoldsWaiting v geometry slot None = slot.filled ≡ false
-HoldsWaiting v geometry slot (Some stripe) = IsWaiting v geometry stripe slot
+HoldsWaiting v geometry slot (Some w) = IsWaiting v geometry w slot
 
--- a merge is under way in a state, with these marks
-abbrev pub HasMarks : Rest → (ℕ → Bool) → Type 0
-HasMarks (plain others) marks = ⊥
-HasMarks (merging above source target below m) marks = (t : ℕ) → m.marks t ≡ marks t
+-- A merge is under way in layers, with these marks: of a file below the leaf, or of the leaf.
+pub data IsMarkedSo (layers : Layers) (copied : ℕ → Bool) : Bool → Type 0 where
+  below_marked : (u : Underway) → layers.merge ≡ Some u → layers.retiring ≡ None → ((t : ℕ) → marks_of u.marks t ≡ copied t) → IsMarkedSo layers copied false
+  leaf_marked : (r : Retiring) → layers.merge ≡ None → layers.retiring ≡ Some r → ((t : ℕ) → marks_of r.marks t ≡ copied t) → IsMarkedSo layers copied true
 
--- and none is
-abbrev pub IsPlain : Rest → Type 0
-IsPlain (plain others) = ⊤
-IsPlain (merging above source target below m) = ⊥
-
--- the state and the slot are those of the merge as it stands
-abbrev pub IsOnCourse : State → Geometry → Piece → Course → Type 0
-IsOnCourse v geometry slot no_merge = IsPlain v.rest
-IsOnCourse v geometry slot (copying copied waits) = HasMarks v.rest copied × HoldsWaiting v geometry slot waits
+-- the layers and the slot are those of the merge as it stands
+abbrev pub IsOnCourse : State → Layers → Piece → Course → Type 0
+IsOnCourse v layers slot no_merge = HasNoMerge layers
+IsOnCourse v layers slot (copying of_leaf copied waits) = IsMarkedSo layers copied of_leaf × HoldsWaiting v layers.geometry slot waits
 
 -- the sectors that the call names which broke a session, if one did: behind the whole history a crash may leave anything in them
 abbrev pub open_in : ℕ → Option Call → ℕ → Bool
@@ -199,28 +234,33 @@ open_in z (Some call) s = is_named z call s
 -- A session stands so over the state: it serves the history, and the merge stands so; or a fault has broken it, in a call that is the next
 -- one behind the whole history for good or in a step of the merge, and each moment since it began opens to a prefix of the history.
 pub data Stands (v : State) (s : Session) (slot : Piece) (now : Trace) (course : Course) : Option Break → Type 0 where
-  serves : s.broken ≡ None → IsServing s.layers v now → IsOnCourse v s.layers.geometry slot course → Stands v s slot now course None
+  serves : s.broken ≡ None → IsServing s.layers v now → IsOnCourse v s.layers slot course → Stands v s slot now course None
   is_broken : (b : Break) → s.broken ≡ Some b.fault → LeavesOthers v now
       → EachOpensToPrefix (sector_of v) v.opening v.history (open_in (sector_of v) b.call) v.leaf v.began now → Stands v s slot now course (Some b)
 
--- the numbers of the files below the leaf that stay when a merge is finished
-abbrev pub left_numbers : Rest → List ℕ
-left_numbers rest = map (λ f. f.number) (left_of rest)
+-- the files of a state's chain, but for the source of its merge
+abbrev pub staying : Placed → Rest → List Placed
+staying top (retiring target below first before) = target ∷ below
+staying top (plain others) = top ∷ others
+staying top (merging above source target below m) = top ∷ (above ++ target ∷ below)
 
--- the names of the files of a state's chain, but for the source of its merge
+-- their numbers, and their names
+abbrev pub numbers_left : State → List ℕ
+numbers_left v = map (λ f. f.number) (staying v.top v.rest)
+
 abbrev pub names_left : State → List (List ℕ)
-names_left v = map (λ f. f.member.name) (v.top ∷ left_of v.rest)
+names_left v = map (λ f. f.member.name) (staying v.top v.rest)
 
--- a state of the same session, with this history
+-- A state of the same session, with this history. It may change no other files, and what it no longer may change is at rest.
 pub record IsLater (v : State) (h : History) (later : State) : Type 0 where
   pub leaf : later.leaf ≡ v.leaf
-  pub retired : later.retired ≡ v.retired
-  pub number : later.top.number ≡ v.top.number
+  pub number : later.writes v.top.number ≡ true → later.top.number ≡ v.top.number
   pub opening : later.opening ≡ v.opening
   pub began : later.began ≡ v.began
-  pub writes : later.writes ≡ v.writes
-  pub since : later.since ≡ v.since
-  pub left : left_numbers later.rest ≡ left_numbers v.rest
+  pub writes : (n : ℕ) → v.writes n ≡ false → later.writes n ≡ false
+  pub since : (n : ℕ) → v.writes n ≡ false → file_of later.since n ≡ file_of v.since n
+  pub rests : (n : ℕ) → v.writes n ≡ true → later.writes n ≡ false → is_synced (file_of later.since n) ≡ true
+  pub left : numbers_left later ≡ numbers_left v
   pub names : names_left later ≡ names_left v
   pub history : later.history ≡ h
 

@@ -2,9 +2,9 @@
 use Rattle.std.specs.Prelude.{◌≡◌, ◌+◌, ◌<◌, ◌≤◌, ◌^◌, ℕ, false, is_some, Some, None, Result, Ok, Err, OnErr, OnOk}
 use Rattle.guest_model.specs.declared.refusal.ChainRefusal.{ChainRefusal}
 use Rattle.merge_core.specs.declared.piece.Piece.{Piece}
-use Rattle.chain_core.specs.Copying.{FetchCause, FetchTold, IfStopped, IsMissing, IsOfStripe, PieceTold, PutCause, TargetRoomIs, fetch_refused, merge_refused, put_refused}
+use Rattle.chain_core.specs.Copying.{FetchCause, FetchTold, IfStopped, IsMissing, IsOfStripe, PieceTold, PutCause, TargetRoomIs, fetch_refused, merge_refused, put_refused, stamp_of}
 use Rattle.chain_core.specs.Finished.{FinishCause, FinishTold}
-use Rattle.chain_core.specs.Sessions.{IsSound, Session}
+use Rattle.chain_core.specs.Sessions.{IsSound, KeepsMerge, Session, kept_marks}
 
 -- only the count of events may be another
 abbrev pub IsUnchanged : Session → Session → Type 0
@@ -22,11 +22,11 @@ pub record AnswersFetch (stripe : ℕ) (answer : Result ℕ ChainRefusal) (old n
   pub sound : IsSound old
   pub early : IfStopped (fetch_refused stripe old) answer (IsUnchanged old new)
   pub cause : fetch_refused stripe old ≡ None → FetchCause old new left answer
-  pub taken : OnOk answer (IsOfStripe old.layers.geometry stripe left)
+  pub taken : OnOk answer (IsOfStripe old.layers.geometry stripe (stamp_of old.layers stripe) left)
   pub emptied : OnErr answer (left.filled ≡ false)
   pub told : fetch_refused stripe old ≡ None → FetchTold left old new answer
   pub keeps : KeepsHistory old new
-  pub merge : new.layers.merge ≡ old.layers.merge
+  pub merge : KeepsMerge old.layers new.layers
   pub events : new.events ≤ old.events + 1
 
 -- A piece was put, or the put was refused.
@@ -47,7 +47,7 @@ pub data AnswersTurn (stripe : ℕ) : Result (Unit {0}) ChainRefusal → Session
 
 -- it is the lowest stripe that isn't copied
 pub record IsNext (stripe : ℕ) (s : Session) : Type 0 where
-  pub missing : IsMissing s.layers.merge (Some stripe)
+  pub missing : IsMissing (kept_marks s.layers) (Some stripe)
   pub low : stripe < 2 ^ 32
 
 -- Turns were done one after the other, each with the lowest stripe that wasn't copied then. Behind a turn no piece is left.
@@ -58,7 +58,7 @@ pub data AnswersTurns (old : Session) (slot : Piece) : Session → Piece → Typ
 
 -- A copy ends when no stripe is missing, or with the first turn that is refused.
 pub data EndsCopy (old : Session) (slot : Piece) : Result (Unit {0}) ChainRefusal → Session → Piece → Type 0 where
-  all_moved : (new : Session) (left : Piece) → AnswersTurns old slot new left → IsSound new → IsMissing new.layers.merge None → EndsCopy old slot (Ok tt) new left
+  all_moved : (new : Session) (left : Piece) → AnswersTurns old slot new left → IsSound new → IsMissing (kept_marks new.layers) None → EndsCopy old slot (Ok tt) new left
   one_refused : (e : ChainRefusal) (stripe : ℕ) (mid new : Session) (held left : Piece)
       → AnswersTurns old slot mid held → IsNext stripe mid → AnswersTurn stripe (Err e) mid new → left.filled ≡ false → EndsCopy old slot (Err e) new left
 

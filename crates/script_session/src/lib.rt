@@ -10,4 +10,4 @@ mod session;
 
 pub use laws::{lines_count_faults, lines_tell_history};
 pub use lines::{LinesRun, run_lines, sector_room};
-pub use session::{ScriptRun, run_merge, run_script};
+pub use session::{ScriptRun, run_leaf_merge, run_merge, run_script};

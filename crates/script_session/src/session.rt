@@ -4,8 +4,9 @@ ghost use Rattle.std.specs.Prelude.{◌≡◌, ◌≤◌, ◌^◌, false, length
 ghost use Rattle.chain_core.specs.Sessions.{IsSound, seen};
 ghost use Rattle.merge_plan.specs.Attached.{CanStart};
 ghost use Rattle.chain_core.specs.Starting.{EachOpensAlike, LeavesOthersFrom, RefusesStart};
+ghost use Rattle.chain_core.specs.LeafStarting.{RefusesLeafMerge};
 ghost use Rattle.chain_core.specs.MergeStarting.{RefusesMerge};
-ghost use Rattle.script_session.specs.MergeRunning.{HasRunMerge};
+ghost use Rattle.script_session.specs.MergeRunning.{HasRunLeafMerge, HasRunMerge};
 ghost use Rattle.script_session.specs.Running.{HasRunScript, HasRunToEnd};
 
 use crate::lines::{LinesRun, run_lines};
@@ -113,6 +114,38 @@ pub fn run_merge<S: Store, I: Ids, N: AsStr>(
     ensures kept { OnErr result.1 (EachOpensAlike files.now (S.disk store).told (S.disk result.0).told) }
 {
     match Chain::start_merge(alloc, store, files, source, KeepMarks::new(), ids) {
+        Ok(chain) => {
+            let (store, run) = run_to_end(alloc, chain, names, lines, piece, room);
+            (store, Ok(run))
+        }
+        Err((store, refusal)) => (store, Err(refusal)),
+    }
+}
+
+/// Runs a script of `steps` in a session over the files of a chain that starts with the merge of its leaf into its parent, and ends the
+/// session, whether the merge is finished or not. The store comes back, whatever is answered. The names are those of the files, from the
+/// leaf on; the piece is the room of what is fetched, and nothing was yet; the room has the bytes of one call at a time.
+pub fn run_leaf_merge<S: Store, I: Ids, N: AsStr>(
+    alloc: Global,
+    store: S,
+    files: &[LinkedFile],
+    names: &[N],
+    ids: &mut I,
+    lines: &[Line],
+    piece: &mut Piece,
+    room: &mut [u8],
+) -> (S, Result<ScriptRun, MergeStartRefusal>)
+    requires files { CanStart files.now (S.disk store) }
+    requires parent { 2 ≤ length files.now }
+    requires few { length lines.now ≤ 2 ^ 20 }
+    requires slot { piece.old.filled ≡ false }
+    requires room { length room.old ≡ 1048576 }
+    ensures ran { IfOk result.1 (λ run. HasRunLeafMerge files.now (map N.text names.now) lines.now run (S.disk store) (S.disk result.0) (I.drawn ids.old) (I.drawn ids.new)) }
+    ensures refused { IfErr result.1 (RefusesLeafMerge files.now (S.disk store) (S.disk result.0) (I.drawn ids.old) (I.drawn ids.new)) }
+    // Where no session started.
+    ensures kept { OnErr result.1 (EachOpensAlike files.now (S.disk store).told (S.disk result.0).told) }
+{
+    match Chain::start_leaf_merge(alloc, store, files, KeepMarks::new(), ids) {
         Ok(chain) => {
             let (store, run) = run_to_end(alloc, chain, names, lines, piece, room);
             (store, Ok(run))

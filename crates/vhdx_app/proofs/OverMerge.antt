@@ -357,7 +357,7 @@ module _ (retired : List (List ℕ)) (leaf : LinkedFile) (others : List LinkedFi
           course = k.course;
           broken = k.broken;
           told_so = λ d opens.
-              subst (λ drive. AreTold drive 1 [] just_started None (take h.many lines) h.told k.history k.course k.broken) (drive_as f ∙ drive_of_leaf f told d opens) k.told_so;
+              subst (λ drive. AreTold drive 1 [] (just_started false) None (take h.many lines) h.told k.history k.course k.broken) (drive_as f ∙ drive_of_leaf f told d opens) k.told_so;
           stands = stands retired leaf others old mid lent idle once chain lends disk (Some name) (is_changed of) may_be became now back_is past_is count f told Guests k.history k.broken (moments_as f k.history (open_by k.broken) t.0 k.moments) (λ reading. cc);
           rests = rests_as f told k.history run.closed k.at_rest;
           dropped = dropped_as f told k.history k.course run.closed k.at_rest k.linked;

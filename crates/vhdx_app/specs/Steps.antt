@@ -1,5 +1,5 @@
 -- What `steps` does: a script's calls on the disk to which a leaf's name is opened, and what is printed of them (profile).
-use Rattle.std.specs.Prelude.{◌≡◌, ◌≢◌, ◌⊎◌, ◌++◌, ℕ, Bool, not, true, List, [], ◌∷◌, length, take, codes, decimal, Option, Some, None, Err, IfSome}
+use Rattle.std.specs.Prelude.{◌≡◌, ◌≢◌, ◌⊎◌, ◌++◌, ℕ, Bool, not, true, false, List, [], ◌∷◌, length, take, codes, decimal, Option, Some, None, Err, IfSome}
 use Rattle.store_model.specs.Cause.{Rose}
 use Rattle.store_model.specs.Disk.{WhereTold}
 use Rattle.store_model.specs.Folder.{Hosted}
@@ -50,7 +50,7 @@ drive_over read_only disk = record { geometry = record { sector = sector_size; s
 -- how a merge stands when a session begins: of one with a merge no stripe is copied
 abbrev pub begun_course : Option (List ℕ) → Course
 begun_course None = no_merge
-begun_course (Some name) = just_started
+begun_course (Some name) = just_started false
 
 -- the name of a leaf is opened to this disk
 abbrev pub OpensAt : List ℕ → World → (Disk → Type 0) → Type 0

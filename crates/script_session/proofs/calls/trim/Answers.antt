@@ -11,5 +11,5 @@ returns-clause-answers g c =
     let e = c.trim.ensures in
     let told = seen g.S.Store.disk g.R.Recorder.noted g.R.Recorder.told in
     subst (λ who. Answers who (calls.Trim c.args.first c.args.count) c.trim.result replies.Done (told c.args.chain.now) (told c.trim.new.self)) c.caller.ensures
-    (answers_by g.S.Store.disk g.R.Recorder.noted g.R.Recorder.told c.args.chain.now c.trim.new.self c.caller.result (calls.Trim c.args.first c.args.count) c.trim.result replies.Done
-    e.early e.events e.geometry e.session e.notes e.cause e.room (on_ok c.trim.result (refl, λ trace is v serving. refl)) e.told)
+    (answers_by g.S.Store.disk g.R.Recorder.noted g.R.Recorder.told c.args.chain.now c.trim.new.self c.caller.result (calls.Trim c.args.first c.args.count) c.trim.result replies.Done c.requires
+    e.early e.events e.geometry e.session e.notes e.cause e.room (on_ok c.trim.result (refl, λ trace is v serving. refl)) e.merge e.told)

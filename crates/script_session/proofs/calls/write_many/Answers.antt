@@ -6,4 +6,4 @@ pub returns-clause-answers : goal.returns-clause-answers
 returns-clause-answers g c =
     let e = c.write.ensures in
     λ byte. write_answers g.S.Store.disk g.R.Recorder.noted g.R.Recorder.told c.args.chain.now c.write.new.self c.caller.result _ c.args.first c.args.count byte c.write.result c.too_long.result replies.Done
-    c.caller.ensures c.too_long.ensures c.requires.sound.sector c.requires.many e.early e.events e.geometry e.session e.told
+    c.caller.ensures c.too_long.ensures c.requires.sound c.requires.many e.early e.events e.geometry e.session e.merge e.told

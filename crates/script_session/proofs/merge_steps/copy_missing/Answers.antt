@@ -1,6 +1,6 @@
 use Rattle.std.proofs.Common.{false, true, sym, ◌≡◌, ◌∙◌}
 use Rattle.script_session.specs.MergeSteps.{no_turn, all_moved, one_more, one_refused}
-use Rattle.script_session.proofs.Moving.{fewer_left, turn_marks}
+use Rattle.script_session.proofs.Moving.{fewer_turn}
 use Rattle.script_session.proofs.merge_steps.copy_missing.Goals as goal
 
 pub loop-stripe-init : goal.loop-stripe-init
@@ -11,7 +11,7 @@ returns-in-Err-clause-answers g c =
     one_refused _ c.in-Some.stripe _ _ _ _ c.loop-stripe.invariant.turns (record { missing = c.in-Some.ensures; low = c.in-Err.ensures.low }) c.in-Err.ensures.answers c.in-Err.ensures.empty
 
 pub loop-stripe-smaller : goal.loop-stripe-smaller
-loop-stripe-smaller g c = fewer_left c.in-Some.stripe _ _ c.in-Some.ensures (turn_marks c.in-Some.stripe _ _ c.in_default-move_stripe.ensures.answers)
+loop-stripe-smaller g c = fewer_turn c.in-Some.stripe _ _ c.in_default-move_stripe.ensures.answers c.in-Some.ensures
 
 pub loop-stripe-preserved : goal.loop-stripe-preserved
 loop-stripe-preserved g c = record {

@@ -1,4 +1,4 @@
-use Rattle.chain_core.specs.Sessions.{IsSound, seen}
+use Rattle.chain_core.specs.Sessions.{IsSound, kept_marks, seen}
 use Rattle.script_session.specs.Answers.{IsSlot}
 use Rattle.script_session.specs.MergeSteps.{AnswersTurns}
 use Rattle.script_session.proofs.Moving.{left_in}
@@ -13,4 +13,4 @@ invariant-loop-stripe g l = record {
 }
 
 abbrev pub decreases-loop-stripe : goal.decreases-loop-stripe
-decreases-loop-stripe g l = left_in l.chain.layers.merge
+decreases-loop-stripe g l = left_in (kept_marks l.chain.layers)

@@ -1,0 +1,163 @@
+-- What stands behind a script's session that started with a merge: of the leaf, or of a file below it.
+use Rattle.std.proofs.Common.{◌≡◌, ◌+◌, ℕ, Bool, true, false, List, [], ◌∷◌, ◌++◌, map, Option, Some, None, Result, Ok, Err, refl, sym, ap, ap₂, subst, ◌∙◌}
+use Rattle.std.specs.Prelude.{IfSome, OnOk, is_some}
+use Rattle.std.specs.List.{AllByRecursion}
+use Rattle.store_model.specs.Disk.{Disk, WhereBothTold}
+use Rattle.store_model.specs.File.{is_synced}
+use Rattle.store_model.specs.Trace.{Trace, file_of}
+use Rattle.store_model.specs.declared.fault.StoreFault.{StoreFault}
+use Rattle.guest_model.specs.Calls.{Disk as GuestDisk}
+use Rattle.guest_model.specs.History.{replay}
+use Rattle.chain_model.specs.Images.{Placed, members_of}
+use Rattle.chain_model.specs.Members.{names_of}
+use Rattle.chain_model.specs.Moments.{EachOpens, EachOpensToPrefix}
+use Rattle.merge_core.specs.declared.piece.Piece.{Piece}
+use Rattle.chain_core.specs.Answering.{EachLinks, HasClosed, HasEnded}
+use Rattle.chain_core.specs.Sessions.{HasNoMerge, Session}
+use Rattle.chain_core.specs.Starting.{opening_disk}
+use Rattle.chain_core.specs.States.{IsServing, State, disk_now, files_of, others_of, sector_of}
+use Rattle.script.specs.declared.form.Line.{Line}
+use Rattle.script_session.specs.Histories.{AreTold, Break, Drive, IsOnCourse, Stands, TellsHistory, disk_after, is_broken, names_left, no_merge, numbers_left, open_in, serves, staying}
+use Rattle.script_session.specs.MergeRunning.{HasHistoryOver, IsAtRestOver, Scope, drive_over, just_started}
+use Rattle.script_session.specs.Running.{IsEnded, open_by}
+use Rattle.script_session.specs.Told.{Told, sector_size}
+use Rattle.script_session.proofs.LeftFiles.{all_numbers, all_stay, own_synced}
+use Rattle.script_session.proofs.Marked.{none_plain}
+use Rattle.script_session.proofs.Scripts.{ended_of, past_as}
+use Rattle.script_session.proofs.Telling.{both_told}
+
+-- What the session's first state has of its scope: `mid` is the moment when its merge was prepared.
+pub record IsScope (scope : Scope) (v : State) (trace mid : Trace) : Type 1 where
+  pub leaf : v.leaf ≡ scope.leaf
+  pub history : v.history ≡ []
+  pub opening : v.opening ≡ opening_disk trace scope.files
+  pub began : v.began ≡ trace
+  pub since : v.since ≡ mid
+  pub changes : (n : ℕ) → scope.changes n ≡ false → v.writes n ≡ false
+  pub rest : (other : ℕ) → scope.changes other ≡ false → file_of mid other ≡ file_of trace other
+  pub quiet : (n : ℕ) → scope.changes n ≡ true → v.writes n ≡ false → is_synced (file_of mid n) ≡ true
+  pub own : (P : ℕ → Type 0) → P v.top.number → AllByRecursion P (numbers_left v) → (n : ℕ) → v.writes n ≡ true → P n
+  pub names : names_left v ≡ scope.staying
+
+module _ (scope : Scope) (v : State) (trace mid : Trace) (is : IsScope scope v trace mid) (lines : List Line) (told : List Told) (behind : Session) (after : Disk) (closed : Result (Unit {0}) StoreFault) (ended : IsEnded behind after closed) (left : Piece)
+    (tells : TellsHistory (drive_over scope trace) 1 lines told v (just_started scope.of_leaf) None behind left) where
+  abbrev drive : Drive
+  drive = drive_over scope trace
+
+  abbrev later : State
+  later = tells.later
+
+  abbrev Has : Trace → Type 0
+  Has now = HasHistoryOver scope lines told closed trace now
+
+  told_so : AreTold drive 1 [] (just_started scope.of_leaf) None lines told later.history tells.end tells.broken
+  told_so = subst (λ h. AreTold drive 1 h (just_started scope.of_leaf) None lines told later.history tells.end tells.broken) is.history tells.told_so
+
+  leaf_is : later.leaf ≡ scope.leaf
+  leaf_is = tells.same.leaf ∙ is.leaf
+
+  moments_as : (b : ℕ → ℕ → Bool) (now : Trace) → EachOpensToPrefix (sector_of later) later.opening later.history (b (sector_of later)) later.leaf later.began now
+      → EachOpensToPrefix sector_size (opening_disk trace scope.files) later.history (b sector_size) scope.leaf trace now
+  moments_as b now past =
+      past_as (sector_of later) sector_size later.opening (opening_disk trace scope.files) later.leaf scope.leaf later.began trace later.history b now tells.over.sector tells.over.opening leaf_is (tells.same.began ∙ is.began) past
+
+  others_as : (now : Trace) → ((other : ℕ) → later.writes other ≡ false → file_of now other ≡ file_of later.since other) → (other : ℕ) → scope.changes other ≡ false → file_of now other ≡ file_of trace other
+  others_as now still other none =
+      let unwritten : v.writes other ≡ false = is.changes other none in
+      still other (tells.same.writes other unwritten) ∙ tells.same.since other unwritten ∙ ap (λ t. file_of t other) is.since ∙ is.rest other none
+
+  -- a fault has broken the session
+  behind_break : (b : Break) → tells.broken ≡ Some b → behind.broken ≡ Some b.fault → ((other : ℕ) → later.writes other ≡ false → file_of tells.now other ≡ file_of later.since other)
+      → EachOpensToPrefix (sector_of later) later.opening later.history (open_in (sector_of later) b.call) later.leaf later.began tells.now → WhereBothTold (HasHistoryOver scope lines told closed) (Some trace) after.told
+  behind_break b by broken still past =
+      let e = subst (λ o. IfSome o (λ fault. (closed ≡ Err fault) × (after ≡ behind.disk))) broken ended.broken in
+      let now_is : after.told ≡ Some tells.now = ap (λ (d : Disk). d.told) e.1 ∙ tells.seen in
+      let has : Has tells.now = record {
+        history = later.history;
+        course = tells.end;
+        broken = tells.broken;
+        told_so = told_so;
+        moments = subst (λ o. EachOpensToPrefix sector_size (opening_disk trace scope.files) later.history (open_by o) scope.leaf trace tells.now) (sym by) (moments_as (λ z. open_in z b.call) tells.now past);
+        still = others_as tells.now still;
+        at_rest = subst (λ r. OnOk r (IsAtRestOver scope drive later.history tells.now)) (sym e.0) tt;
+        linked = λ done. subst (λ r. OnOk r (EachLinks scope.leaf scope.staying tells.now)) (sym e.0) tt;
+      } in
+      subst (λ o. WhereBothTold (HasHistoryOver scope lines told closed) (Some trace) o) (sym now_is) has
+
+  -- nothing of the files that are changed is unsynced
+  module _ (now : Trace) (still : (other : ℕ) → later.writes other ≡ false → file_of now other ≡ file_of later.since other) (synced : AllByRecursion (λ f. is_synced (file_of now f.number) ≡ true) (files_of later)) where
+    abbrev Synced : ℕ → Type 0
+    Synced n = is_synced (file_of now n) ≡ true
+
+    staying_synced : AllByRecursion Synced (numbers_left v)
+    staying_synced =
+        subst (AllByRecursion Synced) tells.same.left (all_numbers Synced (staying later.top later.rest) (all_stay (λ f. Synced f.number) later.top later.rest synced.0 synced.1))
+
+    weaker : (ns : List ℕ) → AllByRecursion Synced ns → AllByRecursion (λ n. later.writes n ≡ true → Synced n) ns
+    weaker [] h = tt
+    weaker (n ∷ ns) h = ((λ own. h.0), weaker ns h.1)
+
+    all_synced : (n : ℕ) → scope.changes n ≡ true → Synced n
+    all_synced n changed = by_write (v.writes n) refl
+      where
+        by_write : (b : Bool) → v.writes n ≡ b → Synced n
+        by_write false none = ap is_synced (still n (tells.same.writes n none) ∙ tells.same.since n none ∙ ap (λ t. file_of t n) is.since) ∙ is.quiet n changed none
+        by_write true some =
+            own_synced v later later.history now tells.same still n some
+            (is.own (λ n. later.writes n ≡ true → Synced n) (λ own. subst Synced (tells.same.number own) synced.0) (weaker (numbers_left v) staying_synced) n some)
+
+  -- it has ended, or its end failed
+  module _ (none : tells.broken ≡ None) (serving : IsServing behind.layers later tells.now) (on : IsOnCourse later behind.layers left tells.end) (now : Trace) (h : HasClosed (is_some behind.layers.leaf) later tells.now now closed) where
+    of_members : (files : List Placed) → names_of (members_of files) ≡ map (λ f. f.member.name) files
+    of_members [] = refl
+    of_members (f ∷ files) = ap (λ rest. f.member.name ∷ rest) (of_members files)
+
+    links_of : (r : Result (Unit {0}) StoreFault) → HasClosed (is_some behind.layers.leaf) later tells.now now r → HasNoMerge behind.layers → OnOk r (EachLinks scope.leaf scope.staying now)
+    links_of (Err fault) h gone = tt
+    links_of (Ok done) h gone =
+        let plain_is : staying later.top later.rest ≡ later.top ∷ others_of later.rest =
+        none_plain (sector_of later) later.writes later.history behind.layers behind.layers.merge behind.layers.retiring later.top later.rest gone.0 gone.1 serving.course serving.leaving in
+        let names : map (λ f. f.member.name) (files_of later) ≡ scope.staying = ap (map (λ f. f.member.name)) (sym plain_is) ∙ tells.same.names ∙ is.names in
+        subst (λ l. EachLinks l scope.staying now) leaf_is (subst (λ ns. EachLinks later.leaf ns now) (of_members (files_of later) ∙ names) h.links)
+
+    rest_of : (r : Result (Unit {0}) StoreFault) → HasClosed (is_some behind.layers.leaf) later tells.now now r → OnOk r (IsAtRestOver scope drive later.history now)
+    rest_of (Err fault) h = tt
+    rest_of (Ok done) h =
+        let disk : disk_now later ≡ disk_after drive later.history = ap₂ (λ (z : ℕ) (o : GuestDisk). replay z o later.history) tells.over.sector tells.over.opening in
+        record {
+          synced = all_synced now h.ended.still (h.synced tells.over.change);
+          opens = subst (λ d. EachOpens scope.leaf (λ s. false) d now) disk (subst (λ l. EachOpens l (λ s. false) (disk_now later) now) leaf_is h.all);
+        }
+
+    behind_end : Has now
+    behind_end =
+        let end : HasEnded later tells.now now = ended_of (is_some behind.layers.leaf) later tells.now now closed h in
+        record {
+          history = later.history;
+          course = tells.end;
+          broken = tells.broken;
+          told_so = told_so;
+          moments = subst (λ o. EachOpensToPrefix sector_size (opening_disk trace scope.files) later.history (open_by o) scope.leaf trace now) (sym none) (moments_as (λ z s. false) now end.past);
+          still = others_as now end.still;
+          at_rest = rest_of closed h;
+          linked = λ done. links_of closed h (subst (IsOnCourse later behind.layers left) done on);
+        }
+
+  by_stands : (broken : Option Break) → tells.broken ≡ broken → Stands later behind left tells.now tells.end broken → WhereBothTold (HasHistoryOver scope lines told closed) (Some trace) after.told
+  by_stands (Some b) is (is_broken _ broken still past) = behind_break b is broken still past
+  by_stands None is (serves whole serving on) =
+      let end = both_told _ behind.disk.told after.told tells.now tells.seen (ended.told whole) in
+      subst (λ o. WhereBothTold (HasHistoryOver scope lines told closed) (Some trace) o) (sym end.1) (behind_end is serving on end.0 (end.2 later serving))
+
+  pub has_history : WhereBothTold (HasHistoryOver scope lines told closed) (Some trace) after.told
+  has_history = by_stands tells.broken refl tells.stands
+
+-- ---- a new session
+
+-- what is asked of it
+pub record IsNewMerge (s : Session) : Type 0 where
+  pub events : s.events ≡ 0
+  pub broken : s.broken ≡ None
+  pub noted : s.noted ≡ 0
+  pub told : IfSome s.told (λ h. h ≡ [])
+  pub sector : s.layers.geometry.sector ≡ 512
