@@ -1,13 +1,12 @@
 -- A merge under way in a session, and what fetches and puts make of it.
-use Rattle.std.proofs.Common.{◌≡◌, ◌<◌, ◌+◌, ◌^◌, ◌==◌, ◌||◌, ℕ, Bool, true, false, Option, Some, None, Result, Ok, Err, refl, sym, ap, ap₂, subst, ◌∙◌, ltb-true}
-use Rattle.std.specs.Prelude.{IfSome, if◌then◌else◌, is_some, nat_lt}
+use Rattle.std.proofs.Common.{◌≡◌, ◌<◌, ◌+◌, ◌^◌, ℕ, Bool, true, false, Option, Some, None, Result, Ok, Err, refl, sym, ap, ap₂, subst, ◌∙◌, ltb-true}
+use Rattle.std.specs.Prelude.{IfSome, if◌then◌else◌, nat_lt}
 use Rattle.std.proofs.lemmas.Bool.{eq-eqb, lt-ltb}
 use Rattle.vx_base.specs.declared.parts.Geometry.{Geometry}
 use Rattle.store_model.specs.declared.fault.StoreFault.{StoreFault}
 use Rattle.store_model.specs.Trace.{Trace}
 use Rattle.guest_model.specs.declared.refusal.ChainRefusal.{ChainRefusal}
 use Rattle.guest_model.specs.declared.refusal.ChainRefusal.TheVariants.{Abandoned, Broken, EmptyRange, FileFull, NoMerge, NoPiece, NoRoom, NoStripe, NotYet, OutOfRange, ReadFault, ReadOnly, Spent, Stale, TooLong}
-use Rattle.chain_model.specs.Images.{Placed}
 use Rattle.chain_model.specs.Merges as merges
 use Rattle.chain_model.specs.Merges.{AllMarked, with_mark}
 use Rattle.chain_model.specs.Stripes.{stripe_count}
@@ -17,14 +16,10 @@ use Rattle.merge_core.specs.declared.piece.Piece.{Piece}
 use Rattle.chain_core.specs.Answering.{HasEnded, IsRefused, fault_of}
 use Rattle.chain_core.specs.Copying.{FetchCause, HasMarked, IfStopped, IsMissing, IsOfStripe, PieceAnswers, PutCause, TargetRoomIs, fetch_refused, merge_refused, no_merge, no_stripe, past_stripes, put_refused, stale, stamp_of, unfilled}
 use Rattle.chain_core.specs.Finished.{IsAllMarked}
-use Rattle.chain_core.specs.Merging.{IsCopied, put_on, with_put}
+use Rattle.chain_core.specs.Merging.{IsCopied, with_put}
 use Rattle.chain_core.specs.Refusing.{broken_by, or_else, unfit}
 use Rattle.chain_core.specs.Sessions.{IsSound, KeepsMerge, Session, kept_marks}
 use Rattle.chain_core.specs.States.{IsServing, State, sector_of}
-use Rattle.chain_core.specs.declared.layers.Layers.{Layers}
-use Rattle.chain_core.specs.declared.layers.Retiring.{Retiring}
-use Rattle.chain_core.specs.declared.layers.Underway.{Underway}
-use Rattle.guest_model.specs.History.{History}
 use Rattle.script_session.specs.Histories.{Drive, IsMarkedSo, IsOver, IsWaiting, StopsPut, Waiting, stamp_behind, stripes_of}
 use Rattle.script_session.proofs.Marked.{Marked, marked_kept, marked_of, marked_put, stamped}
 use Rattle.script_session.specs.MergeSteps.{AnswersFetch, AnswersPut, IsUnchanged, KeepsHistory}

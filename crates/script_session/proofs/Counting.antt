@@ -16,7 +16,7 @@ use Rattle.guest_model.specs.Ranges.{range_refusal}
 use Rattle.chain_core.specs.Answering.{IsCausedBy, IsCausedByRead}
 use Rattle.chain_core.specs.Answering as chain
 use Rattle.chain_core.specs.Refusing.{broken_by, counted, misplaced, or_else, out_of, refused, unfit}
-use Rattle.chain_core.specs.Sessions.{AreReady, IsReadyLeaf, IsSound, Session, has_merge, leaf_number, number_of_leaf}
+use Rattle.chain_core.specs.Sessions.{IsReadyLeaf, IsSound, Session, has_merge, leaf_number, number_of_leaf}
 use Rattle.chain_core.specs.declared.layers.Layers.{Layers}
 use Rattle.layer_session.specs.declared.file.Layer.{Layer}
 use Rattle.chain_core.specs.Copying.{FetchCause, IfStopped, PutCause, fetch_refused, merge_refused, no_merge, no_piece, no_stripe, past_stripes, put_refused, stale, stamp_of, target_number, unfilled}

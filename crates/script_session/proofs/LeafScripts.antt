@@ -1,5 +1,5 @@
 -- A script's session that starts with the merge of the leaf, from its start to its end.
-use Rattle.std.proofs.Common.{◌≡◌, ◌<◌, ◌≤◌, ◌+◌, ◌^◌, ◌==◌, ◌||◌, ℕ, Bool, true, false, List, [], ◌∷◌, length, map, take, Option, Some, None, Result, refl, sym, ap, ap₂, subst, ◌∙◌, arith, inl, inr}
+use Rattle.std.proofs.Common.{◌≡◌, ◌<◌, ◌≤◌, ◌^◌, ◌==◌, ℕ, true, false, List, ◌∷◌, length, map, take, Option, Some, None, Result, refl, sym, ap, ap₂, subst, ◌∙◌, arith, inl, inr}
 use Rattle.std.specs.Prelude.{IfSome, is_some}
 use Rattle.std.specs.List.{AllByRecursion}
 use Rattle.std.proofs.lemmas.Bool.{eqb-true, or_cases}
@@ -9,7 +9,6 @@ use Rattle.vx_base.specs.declared.parts.Geometry.{Geometry}
 use Rattle.vhdx_format.specs.declared.log_entry.Page.{Page}
 use Rattle.store_model.specs.declared.fault.StoreFault.{StoreFault}
 use Rattle.store_model.specs.Disk.{Disk, WhereBothTold}
-use Rattle.store_model.specs.File.{is_synced}
 use Rattle.store_model.specs.Trace.{Trace, file_of}
 use Rattle.link_rules.specs.declared.linked.LinkedFile.{LinkedFile}
 use Rattle.merge_core.specs.declared.piece.Piece.{Piece}
@@ -20,13 +19,13 @@ use Rattle.merge_plan.specs.declared.leaf_drawing.LeafMergeIds.{LeafMergeIds}
 use Rattle.chain_core.specs.LeafStarting.{HasStartedLeafMerge, KeepsPlan, StartsLeafMerge, is_first_two, leaf_chain, started_leaf_merge}
 use Rattle.chain_core.specs.MergeStarting.{LeavesAllBut}
 use Rattle.chain_core.specs.Sessions.{Session}
-use Rattle.chain_core.specs.States.{IsRetiring, IsServing, State, sector_of}
+use Rattle.chain_core.specs.States.{IsServing, State}
 use Rattle.chain_core.specs.declared.layers.Layers.{Layers}
 use Rattle.chain_core.specs.declared.layers.Retiring.{Retiring}
 use Rattle.script.specs.declared.form.Line.{Line}
 use Rattle.script_session.specs.Answers.{AnswersLines}
 use Rattle.script_session.specs.Faults.{Counts}
-use Rattle.script_session.specs.Histories.{IsMarkedSo, IsOver, leaf_marked, names_left, numbers_left, serves}
+use Rattle.script_session.specs.Histories.{IsMarkedSo, IsOver, leaf_marked, names_left, serves}
 use Rattle.script_session.specs.MergeRunning.{HasLeafHistory, HasRunLeafMerge, drive_over, just_started, leaf_scope_of}
 use Rattle.script_session.specs.Running.{HasRunToEnd, IsEnded}
 use Rattle.script_session.specs.Told.{Told}

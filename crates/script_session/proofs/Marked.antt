@@ -1,8 +1,7 @@
 -- The marks of a merge that is under way in layers, and what fetches, puts and calls make of them.
-use Rattle.std.proofs.Common.{◌≡◌, ◌∷◌, ◌==◌, ◌||◌, ◌&&◌, ◌<◌, not, ℕ, Bool, true, false, Option, Some, None, Result, Ok, Err, refl, sym, ap, ap₂, subst, ◌∙◌}
+use Rattle.std.proofs.Common.{◌≡◌, ◌∷◌, ◌==◌, ◌||◌, ◌&&◌, ◌<◌, not, ℕ, Bool, true, Option, Some, None, Ok, refl, ap, ap₂, subst, ◌∙◌}
 use Rattle.std.specs.Prelude.{is_some}
 use Rattle.guest_model.specs.declared.call.Call.{Call}
-use Rattle.guest_model.specs.declared.refusal.ChainRefusal.{ChainRefusal}
 use Rattle.guest_model.specs.History.{History}
 use Rattle.chain_model.specs.Images.{Placed}
 use Rattle.chain_model.specs.Merges.{marks_after, with_mark}

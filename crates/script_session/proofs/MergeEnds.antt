@@ -1,5 +1,5 @@
 -- What stands behind a script's session that started with a merge: of the leaf, or of a file below it.
-use Rattle.std.proofs.Common.{◌≡◌, ◌+◌, ℕ, Bool, true, false, List, [], ◌∷◌, ◌++◌, map, Option, Some, None, Result, Ok, Err, refl, sym, ap, ap₂, subst, ◌∙◌}
+use Rattle.std.proofs.Common.{◌≡◌, ℕ, Bool, true, false, List, [], ◌∷◌, map, Option, Some, None, Result, Ok, Err, refl, sym, ap, ap₂, subst, ◌∙◌}
 use Rattle.std.specs.Prelude.{IfSome, OnOk, is_some}
 use Rattle.std.specs.List.{AllByRecursion}
 use Rattle.store_model.specs.Disk.{Disk, WhereBothTold}
@@ -17,7 +17,7 @@ use Rattle.chain_core.specs.Sessions.{HasNoMerge, Session}
 use Rattle.chain_core.specs.Starting.{opening_disk}
 use Rattle.chain_core.specs.States.{IsServing, State, disk_now, files_of, others_of, sector_of}
 use Rattle.script.specs.declared.form.Line.{Line}
-use Rattle.script_session.specs.Histories.{AreTold, Break, Drive, IsOnCourse, Stands, TellsHistory, disk_after, is_broken, names_left, no_merge, numbers_left, open_in, serves, staying}
+use Rattle.script_session.specs.Histories.{AreTold, Break, Drive, IsOnCourse, Stands, TellsHistory, disk_after, is_broken, names_left, numbers_left, open_in, serves, staying}
 use Rattle.script_session.specs.MergeRunning.{HasHistoryOver, IsAtRestOver, Scope, drive_over, just_started}
 use Rattle.script_session.specs.Running.{IsEnded, open_by}
 use Rattle.script_session.specs.Told.{Told, sector_size}

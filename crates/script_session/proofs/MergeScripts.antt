@@ -1,6 +1,6 @@
 -- A script's session that starts with a merge, from its start to its end.
-use Rattle.std.proofs.Common.{◌≡◌, ◌<◌, ◌≤◌, ◌+◌, ◌^◌, ◌==◌, ◌||◌, ℕ, Bool, true, false, List, [], ◌∷◌, ◌++◌, length, map, take, Option, Some, None, Result, Ok, Err, refl, sym, ap, ap₂, subst, ◌∙◌, arith, inl, inr}
-use Rattle.std.specs.Prelude.{IfSome, OnOk, is_some}
+use Rattle.std.proofs.Common.{◌≡◌, ◌<◌, ◌≤◌, ◌+◌, ◌^◌, ◌==◌, ◌||◌, ℕ, Bool, true, false, List, [], ◌∷◌, ◌++◌, length, map, take, Option, Some, None, Result, refl, sym, ap, ap₂, subst, ◌∙◌, arith, inl, inr}
+use Rattle.std.specs.Prelude.{IfSome}
 use Rattle.std.specs.List.{AllByRecursion}
 use Rattle.std.proofs.lemmas.Bool.{eqb-true, ne_eqb, or_cases}
 use Rattle.std.proofs.lemmas.List.{length-append, length-take, map-append}
@@ -10,24 +10,18 @@ use Rattle.store_model.specs.declared.fault.StoreFault.{StoreFault}
 use Rattle.store_model.specs.Disk.{Disk, WhereBothTold}
 use Rattle.store_model.specs.File.{is_synced}
 use Rattle.store_model.specs.Trace.{Trace, file_of}
-use Rattle.guest_model.specs.Calls.{Disk as GuestDisk}
-use Rattle.guest_model.specs.History.{replay}
 use Rattle.vhdx_format.specs.declared.log_entry.Page.{Page}
-use Rattle.chain_model.specs.Images.{Placed, members_of}
-use Rattle.chain_model.specs.Members.{names_of}
-use Rattle.chain_model.specs.Moments.{EachOpens, EachOpensToPrefix}
+use Rattle.chain_model.specs.Images.{Placed}
 use Rattle.link_rules.specs.declared.linked.LinkedFile.{LinkedFile}
 use Rattle.merge_core.specs.declared.piece.Piece.{Piece}
 use Rattle.merge_plan.specs.Attached.{CanStart}
 use Rattle.merge_plan.specs.Merging.{MergeFiles, child_place, source_place}
 use Rattle.merge_plan.specs.declared.drawing.MergeIds.{MergeIds}
 use Rattle.merge_plan.specs.declared.merge.Merge.{Merge}
-use Rattle.chain_core.specs.Answering.{EachLinks, HasClosed}
 use Rattle.layer_session.specs.Begins.{as_found}
-use Rattle.chain_core.specs.Finished.{left_of}
-use Rattle.chain_core.specs.MergeStarting.{HasStartedMerge, LeavesRest, StartsMerge, between_in, chain_files, inner_parts, is_changed, is_written, leaf_of, source_in, started_merge, target_in, target_place}
+use Rattle.chain_core.specs.MergeStarting.{HasStartedMerge, LeavesRest, StartsMerge, between_in, chain_files, inner_parts, is_changed, is_written, source_in, started_merge, target_in, target_place}
 use Rattle.chain_core.specs.Sessions.{Session}
-use Rattle.chain_core.specs.Starting.{opening_disk, placed_from}
+use Rattle.chain_core.specs.Starting.{placed_from}
 use Rattle.chain_core.specs.States.{IsCourse, IsServing, State, WasSynced, files_of, sector_of}
 use Rattle.chain_core.specs.declared.layers.Layers.{Layers}
 use Rattle.chain_core.specs.declared.layers.Underway.{Underway}
