@@ -8,10 +8,11 @@ use Rattle.std.proofs.Math.Seq.{get_or-append_seam}
 use Rattle.link_rules.specs.Chains.{is_among, names_of}
 use Rattle.link_rules.specs.declared.linked.LinkedFile.{LinkedFile}
 use Rattle.link_rules.proofs.Composing.{among_append}
-use Rattle.merge_plan.specs.Merging.{MergeFiles, child_place, source_place}
+use Rattle.merge_plan.specs.Merging.{HasFirst, MergeFiles, child_place, source_place}
+use Rattle.chain_core.specs.LeafStarting.{is_first_two}
 use Rattle.chain_core.specs.MergeStarting.{chain_files, first_or, is_changed, is_written, leaf_of, target_place}
-use Rattle.vhdx_app.specs.Starts.{changed_names, merged_with}
-use Rattle.vhdx_app.proofs.Lent.{is_itself}
+use Rattle.vhdx_app.specs.Starts.{changed_names, first_name, is_leaf, merged_with}
+use Rattle.vhdx_app.proofs.Lent.{is_itself, same_name}
 
 -- ---- places
 
@@ -72,14 +73,18 @@ merged_at (a ∷ b ∷ []) child source target below name x is h = merged_more a
 merged_at (a ∷ b ∷ c ∷ above) child source target below name x is h = merged_more a b c (above ++ child ∷ source ∷ target ∷ below) name x (merged_at (b ∷ c ∷ above) child source target below name x is h)
 
 -- a session with the merge may change each of the four files
-module _ (m : MergeFiles) (leaf : LinkedFile) (others : List LinkedFile) (name : List ℕ) (same : leaf ∷ others ≡ chain_files m) (is : m.source.name ≡ name) where
+module _ (m : MergeFiles) (leaf : LinkedFile) (others : List LinkedFile) (name : List ℕ) (same : leaf ∷ others ≡ chain_files m) (is : m.source.name ≡ name) (other : is_leaf (leaf ∷ others) name ≡ false) where
   abbrev Among : List ℕ → Type 0
   Among x = is_among x (changed_names (Some name) (leaf ∷ others)) ≡ true
+
+  -- the source isn't the leaf
+  below : (x : List ℕ) → is_among x (leaf.name ∷ merged_with (leaf ∷ others) name) ≡ true → Among x
+  below x h = subst (λ b. is_among x (leaf.name ∷ cond b (first_name others) (merged_with (leaf ∷ others) name)) ≡ true) (sym other) h
 
   of_three : (x : List ℕ) → is_among x (m.source.name ∷ m.target.name ∷ m.child.name ∷ []) ≡ true → Among x
   of_three x h =
       let merged : is_among x (merged_with (leaf ∷ others) name) ≡ true = subst (λ files. is_among x (merged_with files name) ≡ true) (sym same) (merged_at m.above m.child m.source m.target m.below name x is h) in
-      or_right (bytes_eq leaf.name x) (is_among x (merged_with (leaf ∷ others) name)) merged
+      below x (or_right (bytes_eq leaf.name x) (is_among x (merged_with (leaf ∷ others) name)) merged)
 
   source_among : Among m.source.name
   source_among = of_three m.source.name (or_left (bytes_eq m.source.name m.source.name) (is_among m.source.name (m.target.name ∷ m.child.name ∷ [])) (is_itself m.source.name))
@@ -96,7 +101,7 @@ module _ (m : MergeFiles) (leaf : LinkedFile) (others : List LinkedFile) (name :
       of_three m.child.name (or_right (bytes_eq m.source.name m.child.name) (is_among m.child.name (m.target.name ∷ m.child.name ∷ [])) in_two)
 
   leaf_among : Among leaf.name
-  leaf_among = or_left (bytes_eq leaf.name leaf.name) (is_among leaf.name (merged_with (leaf ∷ others) name)) (is_itself leaf.name)
+  leaf_among = below leaf.name (or_left (bytes_eq leaf.name leaf.name) (is_among leaf.name (merged_with (leaf ∷ others) name)) (is_itself leaf.name))
 
   at_place : (n place : ℕ) (x : List ℕ) → n ≡ place → slice_index_or (names_of (chain_files m)) place [] ≡ x → Among x → Among (slice_index_or (names_of (leaf ∷ others)) n [])
   at_place n place x n_is x_is among = subst Among (sym (ap (λ k. slice_index_or (names_of (leaf ∷ others)) k []) n_is ∙ ap (λ files. slice_index_or (names_of files) place []) same ∙ x_is)) among
@@ -148,3 +153,30 @@ source_in files m are = named_among (m.above ++ m.child ∷ []) m.source (m.targ
 
 pub child_in : (files : List LinkedFile) (m : MergeFiles) → files ≡ chain_files m → is_among m.child.name (names_of files) ≡ true
 child_in files m are = named_among m.above m.child (m.source ∷ m.target ∷ m.below) files are
+
+-- ---- the leaf's merge
+
+pub first_is_leaf : (files : List LinkedFile) (name : List ℕ) → HasFirst files name → is_leaf files name ≡ true
+first_is_leaf files name h = subst (λ fs. is_leaf fs name ≡ true) (sym h.files_are) (ap (bytes_eq h.source.name) (sym h.named) ∙ is_itself h.source.name)
+
+pub leaf_named : (leaf : LinkedFile) (others : List LinkedFile) (name : List ℕ) → is_leaf (leaf ∷ others) name ≡ true → leaf.name ≡ name
+leaf_named leaf [] name is = let never : false ≡ true = is in cc
+leaf_named leaf (target ∷ below) name is = same_name leaf.name name is
+
+-- a session with it may change the first two files, which are of the chain
+pub may_change_two : (leaf : LinkedFile) (others : List LinkedFile) (name : List ℕ) → is_leaf (leaf ∷ others) name ≡ true → (n : ℕ) → is_first_two n ≡ true
+    → is_among (slice_index_or (names_of (leaf ∷ others)) n []) (changed_names (Some name) (leaf ∷ others)) ≡ true
+may_change_two leaf [] name is n two = let never : false ≡ true = is in cc
+may_change_two leaf (target ∷ below) name is n two =
+    subst (λ b. is_among (slice_index_or (names_of (leaf ∷ target ∷ below)) n []) (leaf.name ∷ cond b (target.name ∷ []) (merged_with (leaf ∷ target ∷ below) name)) ≡ true) (sym is) (elim (or_cases (n == 0) (n == 1) two) [
+      | inl e ↦ subst (λ k. is_among (slice_index_or (names_of (leaf ∷ target ∷ below)) k []) (leaf.name ∷ target.name ∷ []) ≡ true) (sym (eqb-true n 0 e)) (or_left (bytes_eq leaf.name leaf.name) (is_among leaf.name (target.name ∷ [])) (is_itself leaf.name))
+      | inr e ↦ subst (λ k. is_among (slice_index_or (names_of (leaf ∷ target ∷ below)) k []) (leaf.name ∷ target.name ∷ []) ≡ true) (sym (eqb-true n 1 e))
+          (or_right (bytes_eq leaf.name target.name) (is_among target.name (target.name ∷ [])) (or_left (bytes_eq target.name target.name) false (is_itself target.name)))
+    ])
+
+pub two_within : (leaf : LinkedFile) (others : List LinkedFile) (name : List ℕ) → is_leaf (leaf ∷ others) name ≡ true → (n : ℕ) → is_first_two n ≡ true → n < length (leaf ∷ others)
+two_within leaf [] name is n two = let never : false ≡ true = is in cc
+two_within leaf (target ∷ below) name is n two = elim (or_cases (n == 0) (n == 1) two) [
+  | inl e ↦ let at : n ≡ 0 = eqb-true n 0 e in omega (arith, at)
+  | inr e ↦ let at : n ≡ 1 = eqb-true n 1 e in omega (arith, at)
+]

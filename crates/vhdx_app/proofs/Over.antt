@@ -49,8 +49,8 @@ use Rattle.vhdx_app.specs.Commands.{Lends, LendsNone, shown_from}
 use Rattle.vhdx_app.specs.Folders.{files_of}
 use Rattle.vhdx_app.specs.Making.{ShowIds}
 use Rattle.vhdx_app.specs.Refusals.{Refusal}
-use Rattle.vhdx_app.specs.Sessions.{CountsRefusal, DrawsOver, HasCause, HasCauseIn, HasLeafCause, HasNotRun, IfRule, IsChainIn, IsCounted, IsDroppedIn, IsNoRule, JudgesDrawn, LeavesLent, NotRunOver, RanIn, Rests, RunOver, Stands, StaysAsItWas, UnlessMerging, UnlessStore, is_reading, leaf_name, meaning_of_steps, of_start}
-use Rattle.vhdx_app.specs.Starts.{changed_names}
+use Rattle.vhdx_app.specs.Sessions.{CountsRefusal, DrawsOver, HasCause, HasCauseIn, HasLeafCause, HasMergeCauseOf, HasNotRun, IfRule, IsChainIn, IsCounted, IsDroppedIn, IsNoRule, JudgesDrawn, LeavesLent, NotRunOver, RanIn, Rests, RunOver, Stands, StaysAsItWas, UnlessMerging, UnlessStore, is_reading, leaf_name, meaning_of_steps, of_start}
+use Rattle.vhdx_app.specs.Starts.{changed_names, is_leaf}
 use Rattle.vhdx_app.specs.Steps.{begun_course, drive_over}
 use Rattle.vhdx_app.specs.declared.refusal.ChainRefusal.{ChainRefusal}
 use Rattle.vhdx_app.specs.declared.refusal.StepsRefusal.{StepsRefusal}
@@ -203,7 +203,6 @@ module _ (mode : Mode) (retired : List (List ℕ)) (leaf : LinkedFile) (others :
   cause_by steps.ReadOnly c = absurd c
   cause_by (steps.NotInChain name) c = absurd c
   cause_by (steps.IsBase name) c = absurd c
-  cause_by (steps.LeafSource name) c = absurd c
   cause_by (steps.LocatorTooLarge len) c = absurd c
   cause_by (steps.MetadataFull file) c = absurd c
 
@@ -258,7 +257,7 @@ module _ (mode : Mode) (retired : List (List ℕ)) (leaf : LinkedFile) (others :
     -- ---- a session that ran
 
     module _ (lines : List Line) (run : ScriptRun) (h : HasRunScript mode (leaf ∷ others) (names_of (leaf ∷ others)) lines run lent disk before after) (first : (n : ℕ) → written n ≡ true → n ≡ 0) (drawn : DrawsOver mode merge L old.folder before after)
-        (plain : begun_course merge ≡ no_merge) where
+        (plain : begun_course merge (leaf ∷ others) ≡ no_merge) where
       reading_is : (m : Mode) → is_reading m ≡ true → can_change m ≡ false
       reading_is Guests e = cc
       reading_is ReadOnly e = refl
@@ -280,7 +279,7 @@ module _ (mode : Mode) (retired : List (List ℕ)) (leaf : LinkedFile) (others :
             dropped = none_dropped merge plain run.closed k.course;
           }
         where
-          none_dropped : (merge : Option (List ℕ)) → begun_course merge ≡ no_merge → (closed : Result (Unit {0}) StoreFault) (course : Course) → OnOk closed (course ≡ no_merge → IfSome merge (λ name. IsDroppedIn L name now))
+          none_dropped : (merge : Option (List ℕ)) → begun_course merge (leaf ∷ others) ≡ no_merge → (closed : Result (Unit {0}) StoreFault) (course : Course) → OnOk closed (course ≡ no_merge → IfSome merge (λ name. IsDroppedIn L name now))
           none_dropped None plain (Ok done) course = λ ended. tt
           none_dropped None plain (Err fault) course = tt
           none_dropped (Some name) plain closed course = cc
@@ -370,9 +369,13 @@ module _ (mode : Mode) (retired : List (List ℕ)) (leaf : LinkedFile) (others :
 -- ---- files that aren't lent
 
 -- no rule refuses it, with a merge or without
+pub no_rule_of : (b : Bool) (name : List ℕ) (linked : Linked) (folder : Option (List Held)) (before now : Option (List (List ℕ))) (r : ChainRefusal) → IsNoRule (meaning_of_chain r) → HasMergeCauseOf b linked name folder before now (steps.Chain r)
+no_rule_of true name linked folder before now r c = c
+no_rule_of false name linked folder before now r c = c
+
 pub no_rule : (mode : Mode) (merge : Option (List ℕ)) (linked : Linked) (folder : Option (List Held)) (before now : Option (List (List ℕ))) (r : ChainRefusal) → IsNoRule (meaning_of_chain r) → HasCauseIn mode merge linked folder before now (steps.Chain r)
 no_rule mode None linked folder before now r c = c
-no_rule Guests (Some name) linked folder before now r c = c
+no_rule Guests (Some name) linked folder before now r c = no_rule_of (is_leaf linked.files name) name linked folder before now r c
 no_rule ReadOnly (Some name) linked folder before now r c = c
 
 module _ (mode : Mode) (merge : Option (List ℕ)) (linked : Linked) (old new : Hosted) (drawn : Option (List (List ℕ))) (r : ChainRefusal) (idle : WhereTold old.folder AllIdle) (h : LendsNone old new (meaning_of_chain r)) where

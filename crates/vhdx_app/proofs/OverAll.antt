@@ -1,7 +1,8 @@
 -- A script over a chain's files, with a merge or without: what the host is left with.
-use Rattle.std.proofs.Common.{◌≡◌, ℕ, ◌<◌, List, [], ◌∷◌, ◌++◌, length, Option, Some, None, Result, Ok, Err, refl, sym, ap, subst, ◌∙◌}
+use Rattle.std.proofs.Common.{◌≡◌, ℕ, ◌<◌, Bool, true, false, List, [], ◌∷◌, ◌++◌, length, take, Option, Some, None, Result, Ok, Err, refl, sym, ap, subst, ◌∙◌, arith, inl}
 use Rattle.std.proofs.lemmas.List.{length-map}
 use Rattle.std.specs.Prelude.{All, IfErr, IfOk, option_map}
+use Rattle.file_open.specs.Causes.{Meaning, refuses, host_failed, store_failed, no_memory}
 use Rattle.store_model.specs.Disk.{Disk as StoreDisk, WhereTold}
 use Rattle.store_model.specs.Folder.{AreAway, HasFailed, Hosted, KeepsStore, RoseWhere, given_back}
 use Rattle.chain_model.specs.Members.{NoneTwice}
@@ -10,11 +11,15 @@ use Rattle.link_rules.specs.Effects.{IsServed}
 use Rattle.link_rules.specs.Folders.{AllIdle}
 use Rattle.link_rules.specs.Lines.{IsLine}
 use Rattle.link_rules.specs.declared.linked.LinkedFile.{LinkedFile}
+use Rattle.merge_plan.specs.LeafMerging.{LeafFiles}
+use Rattle.merge_plan.specs.LeafPlanning.{IsLeafFull, IsLeafStopped, for_clearing, for_link, for_name}
 use Rattle.merge_plan.specs.Merging.{MergeFiles, child_place, source_place}
 use Rattle.merge_plan.specs.Planning.{IsFull, Refuses, in_child, in_source}
 use Rattle.merge_plan.specs.declared.drawing.MergeIds.{MergeIds}
+use Rattle.merge_plan.specs.declared.leaf_drawing.LeafMergeIds.{LeafMergeIds}
 use Rattle.merge_plan.specs.declared.refusal.PrepareRefusal.{PrepareRefusal}
 use Rattle.merge_plan.specs.declared.refusal.PrepareRefusal.TheVariants as plan
+use Rattle.chain_core.specs.LeafStarting.{RefusesLeafMerge, is_first_two, leaf_chain}
 use Rattle.chain_core.specs.MergeStarting.{RefusesMerge, chain_files, is_changed}
 use Rattle.chain_core.specs.Starting.{EachOpensAlike}
 use Rattle.chain_core.specs.declared.merge_start.MergeStartRefusal.{MergeStartRefusal}
@@ -22,17 +27,61 @@ use Rattle.chain_core.specs.declared.merge_start.MergeStartRefusal.TheVariants a
 use Rattle.chain_core.specs.declared.starting.Mode.{Mode}
 use Rattle.chain_core.specs.declared.starting.Mode.TheVariants.{Guests, ReadOnly}
 use Rattle.script.specs.declared.form.Line.{Line}
-use Rattle.script_session.specs.MergeRunning.{HasRunMerge}
+use Rattle.script_session.specs.MergeRunning.{names_without}
 use Rattle.script_session.specs.declared.session.ScriptRun.{ScriptRun}
+use Rattle.vhdx_app.specs.Causes.{LeavesStoreBy, meaning_of_chain}
 use Rattle.vhdx_app.specs.Commands.{Lends}
+use Rattle.vhdx_app.specs.Refusals.{Refusal}
 use Rattle.link_rules.specs.declared.linked.Linked.{Linked}
-use Rattle.vhdx_app.specs.Sessions.{CanMerge, HasNotMerged, IsBarredMerge, IsMergeRefusal, PlanHasFile, StartHasFile, not_started, HasNotRunWith, HasRunWith, IsChainIn, NotRunOver, RunOver}
+use Rattle.vhdx_app.specs.Sessions.{CanMerge, HasNotMerged, HasNotRunWith, HasRunMergeOf, HasRunWith, IsBarredMerge, IsChainIn, IsMergeRefusal, NotRunOver, PlanHasFile, RefusesMergeOf, RunOver, StartHasFile, not_started, unread}
+use Rattle.vhdx_app.specs.Starts.{is_leaf}
+use Rattle.vhdx_app.specs.Steps.{leaf_left_names}
 use Rattle.vhdx_app.specs.declared.refusal.StepsRefusal.{StepsRefusal}
 use Rattle.vhdx_app.specs.declared.refusal.StepsRefusal.TheVariants as steps
-use Rattle.vhdx_app.proofs.MergePlaces.{child_changed, places_within, source_changed}
-use Rattle.vhdx_app.proofs.Over.{back_for, changed_of, not_run_over, run_over}
-use Rattle.vhdx_app.proofs.OverMerge.{left_of_store, may, not_merged, ran_changed, run_merged}
+use Rattle.vhdx_app.proofs.MergePlaces.{child_changed, first_is_leaf, places_within, source_changed}
+use Rattle.vhdx_app.proofs.Over.{back_for, changed_of, left_lent, no_rule_of, not_run_over, read_counts, run_over}
+use Rattle.vhdx_app.proofs.OverLeaf.{leaves_leaf_merge}
+use Rattle.vhdx_app.proofs.OverLeaf as leaf_merge
+use Rattle.vhdx_app.proofs.OverMerge.{leaves_merge}
+use Rattle.vhdx_app.proofs.OverMerge as merge
+use Rattle.vhdx_app.proofs.OverScope.{Counted, LeavesMerge, LeftMerged, as_told, left_none, not_merged, scope_changed, scope_ran}
 use Rattle.vhdx_app.proofs.Ran.{back_requires, still_rests, still_stands}
+
+-- ---- what a session with a merge leaves, of the leaf or of another file
+
+module _ (retired : List (List ℕ)) (leaf : LinkedFile) (others : List LinkedFile) (old mid : Hosted) (lent disk : StoreDisk) (chain : WhereTold old.folder (IsChainIn (record { retired = retired; files = leaf ∷ others })))
+    (lends : Lends (names_of (leaf ∷ others)) old mid lent) (before after : Option (List (List ℕ))) (name : List ℕ) where
+  leaves_all : (x : StepsRefusal) → HasNotMerged (leaf ∷ others) name lent disk before after x → LeavesMerge retired leaf others old.folder lent disk before after name x
+  leaves_all _ (unread refusal l same) =
+      let read = left_lent Guests (leaf ∷ others) lent disk before refusal l (meaning_of_chain refusal) l in
+      record { left = left_none leaf others name lent disk read.2; counted = by_meaning (meaning_of_chain refusal) l; cause = no_rule_of (is_leaf (leaf ∷ others) name) name (record { retired = retired; files = leaf ∷ others }) old.folder before after refusal read.1; kept = inl read.2 }
+    where
+      by_meaning : (m : Meaning Refusal) → LeavesStoreBy lent disk m → Counted lent disk m
+      by_meaning (refuses r) l = absurd l
+      by_meaning (host_failed fault) l = absurd l
+      by_meaning (store_failed fault) l = read_counts lent disk fault l.0 l.1
+      by_meaning no_memory l = as_told lent disk l
+  leaves_all x (not_started r _ h alike told) = by_kind (is_leaf (leaf ∷ others) name) refl h
+    where
+      by_kind : (b : Bool) → is_leaf (leaf ∷ others) name ≡ b → RefusesMergeOf b (leaf ∷ others) name lent disk before after r → LeavesMerge retired leaf others old.folder lent disk before after name x
+      by_kind true is h = leaves_leaf_merge retired leaf others old mid lent disk chain lends before after name is r x h alike told
+      by_kind false is h = leaves_merge retired leaf others old mid lent disk chain lends before after name is r x h alike told
+
+  -- what one that ran changed
+  changed_all : (lines : List Line) (run : ScriptRun) → HasRunMergeOf (is_leaf (leaf ∷ others) name) (leaf ∷ others) name (names_of (leaf ∷ others)) lines run lent disk before after → LeftMerged leaf others name lent disk
+  changed_all lines run h = by_kind (is_leaf (leaf ∷ others) name) refl h
+    where
+      by_kind : (b : Bool) → is_leaf (leaf ∷ others) name ≡ b → HasRunMergeOf b (leaf ∷ others) name (names_of (leaf ∷ others)) lines run lent disk before after → LeftMerged leaf others name lent disk
+      by_kind true is h = record {
+        written = is_first_two;
+        may = leaf_merge.may retired leaf others old mid lent disk chain lends before after name is;
+        changed = scope_changed leaf others name is_first_two (leaf_left_names h.m) (take h.many lines) h.told run.closed lent.told disk.told (leaf_merge.past retired leaf others old mid lent disk chain lends before after name is lines run h);
+      }
+      by_kind false is h = record {
+        written = is_changed h.m;
+        may = merge.may retired leaf others old mid lent disk chain lends before after name is lines run h;
+        changed = scope_changed leaf others name (is_changed h.m) (names_without h.m) (take h.many lines) h.told run.closed lent.told disk.told (merge.past retired leaf others old mid lent disk chain lends before after name is lines run h);
+      }
 
 -- ---- before the files come back
 
@@ -47,11 +96,10 @@ module _ (mode : Mode) (retired : List (List ℕ)) (old mid : Hosted) (lent disk
       back_for retired files old mid lent disk line idle once chain lends (changed_of mode files names lines lent disk before after result line ran none)
   back_all (Some name) [] names result same line once chain lends ran none = absurd line
   back_all (Some name) (leaf ∷ others) names (Ok run) same line once chain lends ran none =
-      let h = subst (λ ns. HasRunMerge (leaf ∷ others) name ns lines run lent disk before after) same ran in
-      back_requires retired leaf others old mid lent idle once chain lends disk (Some name) (is_changed h.m) (may retired leaf others old mid lent disk chain lends before after name lines run h)
-      (ran_changed retired leaf others old mid lent disk chain lends before after name lines run h)
+      let left = changed_all retired leaf others old mid lent disk chain lends before after name lines run (subst (λ ns. HasRunMergeOf (is_leaf (leaf ∷ others) name) (leaf ∷ others) name ns lines run lent disk before after) same ran) in
+      back_requires retired leaf others old mid lent idle once chain lends disk (Some name) left.written left.may left.changed
   back_all (Some name) (leaf ∷ others) names (Err x) same line once chain lends ran none =
-      let left = left_of_store retired leaf others old mid lent disk chain lends before after name x none in
+      let left = (leaves_all retired leaf others old mid lent disk chain lends before after name x none).left in
       back_requires retired leaf others old mid lent idle once chain lends disk (Some name) left.written left.may left.changed
 
 -- ---- and then
@@ -69,8 +117,18 @@ module _ (mode : Mode) (retired : List (List ℕ)) (old mid now : Hosted) (lent 
   run_all (Some name) (leaf ∷ others) names (Ok run) can same line served once chain lends back_is past_is count ran none = by_mode mode can
     where
       by_mode : (mode : Mode) → CanMerge mode (Some name) → RunOver mode (Some name) (record { retired = retired; files = leaf ∷ others }) lines run old now before after
-      by_mode Guests can =
-          run_merged retired leaf others old mid now lent disk idle served once chain lends back_is past_is count before after name lines run (subst (λ ns. HasRunMerge (leaf ∷ others) name ns lines run lent disk before after) same ran)
+      by_mode Guests can = by_kind (is_leaf (leaf ∷ others) name) refl (subst (λ ns. HasRunMergeOf (is_leaf (leaf ∷ others) name) (leaf ∷ others) name ns lines run lent disk before after) same ran)
+        where
+          by_kind : (b : Bool) → is_leaf (leaf ∷ others) name ≡ b → HasRunMergeOf b (leaf ∷ others) name (names_of (leaf ∷ others)) lines run lent disk before after
+              → RunOver Guests (Some name) (record { retired = retired; files = leaf ∷ others }) lines run old now before after
+          by_kind true is h =
+              scope_ran retired leaf others old mid now lent disk idle served once chain lends back_is past_is count before after name is_first_two (leaf_left_names h.m) (leaf_merge.may retired leaf others old mid lent disk chain lends before after name is)
+              (leaf_merge.left retired leaf others old mid lent disk chain lends before after name is lines run h) h.many lines h.told run (leaf_merge.past retired leaf others old mid lent disk chain lends before after name is lines run h) h.whole h.fault_is
+              h.counted h.ended h.quiet (leaf_merge.drawn retired leaf others old mid lent disk chain lends before after name is lines run h)
+          by_kind false is h =
+              scope_ran retired leaf others old mid now lent disk idle served once chain lends back_is past_is count before after name (is_changed h.m) (names_without h.m) (merge.may retired leaf others old mid lent disk chain lends before after name is lines run h)
+              (merge.left retired leaf others old mid lent disk chain lends before after name is lines run h) h.many lines h.told run (merge.past retired leaf others old mid lent disk chain lends before after name is lines run h) h.whole h.fault_is
+              h.counted h.ended h.quiet (merge.drawn retired leaf others old mid lent disk chain lends before after name is lines run h)
       by_mode ReadOnly can = absurd can
 
   pub not_run_all : (merge : Option (List ℕ)) (files : List LinkedFile) (names : List (List ℕ)) (result : Result ScriptRun StepsRefusal) → CanMerge mode merge → names ≡ names_of files → IsLine files → All IsServed files
@@ -85,7 +143,8 @@ module _ (mode : Mode) (retired : List (List ℕ)) (old mid now : Hosted) (lent 
   not_run_all (Some name) (leaf ∷ others) names (Err x) can same line served once chain lends back_is past_is count ran none = by_mode mode can
     where
       by_mode : (mode : Mode) → CanMerge mode (Some name) → NotRunOver mode (Some name) (record { retired = retired; files = leaf ∷ others }) old now before after x
-      by_mode Guests can = not_merged retired leaf others old mid now lent disk idle served once chain lends back_is past_is count before after name x none
+      by_mode Guests can =
+          not_merged retired leaf others old mid now lent disk idle served once chain lends back_is past_is count before after name x (leaves_all retired leaf others old mid lent disk chain lends before after name x none)
       by_mode ReadOnly can = absurd can
 
 -- ---- a merge where files are only read
@@ -104,11 +163,11 @@ barred ReadOnly (Some name) linked old drawn idle is = record {
 
 -- ---- over the store alone
 
--- a file of which a refusal tells is one of the chain's
-pub start_has_file : (files : List LinkedFile) (names : List (List ℕ)) (name : List ℕ) (old new : StoreDisk) (before after : Option (List (List ℕ))) (r : MergeStartRefusal) → names ≡ names_of files → RefusesMerge files name old new before after r
-    → StartHasFile (length names) r
-start_has_file files names name old new before after (start.Spent number) same h = tt
-start_has_file files names name old new before after (start.Plan r) same h = by_plan r h.1 where
+-- A file of which a refusal tells is one of the chain's: where the source isn't the leaf, it isn't refused for that.
+pub start_has_file : (files : List LinkedFile) (names : List (List ℕ)) (name : List ℕ) (old new : StoreDisk) (before after : Option (List (List ℕ))) (r : MergeStartRefusal) → is_leaf files name ≡ false → names ≡ names_of files
+    → RefusesMerge files name old new before after r → StartHasFile (length names) r
+start_has_file files names name old new before after (start.Spent number) other same h = tt
+start_has_file files names name old new before after (start.Plan r) other same h = by_plan r h.1 where
   long : length names ≡ length files
   long = ap length same ∙ length-map files (λ (f : LinkedFile). f.name)
 
@@ -119,16 +178,44 @@ start_has_file files names name old new before after (start.Plan r) same h = by_
   by_plan : (r : PrepareRefusal) → Refuses files name old new before after r → PlanHasFile (length names) r
   by_plan plan.NotInChain h = tt
   by_plan plan.IsBase h = tt
-  by_plan plan.LeafSource h = tt
+  by_plan plan.LeafSource h = let never : false ≡ true = sym other ∙ first_is_leaf files name h.0 in cc
   by_plan (plan.LocatorTooLarge len) h = tt
   by_plan (plan.MetadataFull file) h = there h.m h.ids file h.begun.files_are.files_are h.why.0.full
   by_plan (plan.IdUnfit id) h = tt
   by_plan (plan.Store fault) h = tt
   by_plan plan.NoRoom h = tt
-start_has_file files names name old new before after (start.Begin fault) same h = tt
+start_has_file files names name old new before after (start.Begin fault) other same h = tt
+
+-- so it is with the leaf's merge
+pub leaf_start_has_file : (files : List LinkedFile) (names : List (List ℕ)) (old new : StoreDisk) (before after : Option (List (List ℕ))) (r : MergeStartRefusal) → names ≡ names_of files → RefusesLeafMerge files old new before after r
+    → StartHasFile (length names) r
+leaf_start_has_file files names old new before after (start.Spent number) same h = tt
+leaf_start_has_file files names old new before after (start.Plan r) same h = by_plan r h.1 where
+  long : length names ≡ length files
+  long = ap length same ∙ length-map files (λ (f : LinkedFile). f.name)
+
+  there : (m : LeafFiles) (ids : LeafMergeIds) (file : ℕ) → files ≡ leaf_chain m → IsLeafFull old m ids file → file < length names
+  there m ids file is full = let two : length names ≡ length (leaf_chain m) = long ∙ ap length is in by_full file full
+    where
+      by_full : (file : ℕ) → IsLeafFull old m ids file → file < length names
+      by_full _ (for_link lacks) = subst (λ n. 0 < n) (sym (long ∙ ap length is)) (omega arith)
+      by_full _ (for_clearing none named) = subst (λ n. 1 < n) (sym (long ∙ ap length is)) (omega arith)
+      by_full _ (for_name has lacks) = subst (λ n. 0 < n) (sym (long ∙ ap length is)) (omega arith)
+
+  by_plan : (r : PrepareRefusal) → IsLeafStopped files old new before after r → PlanHasFile (length names) r
+  by_plan plan.NotInChain h = tt
+  by_plan plan.IsBase h = tt
+  by_plan plan.LeafSource h = absurd h.why
+  by_plan (plan.LocatorTooLarge len) h = tt
+  by_plan (plan.MetadataFull file) h = there h.m h.ids file h.begun.files_are h.why.0.full
+  by_plan (plan.IdUnfit id) h = tt
+  by_plan (plan.Store fault) h = tt
+  by_plan plan.NoRoom h = tt
+leaf_start_has_file files names old new before after (start.Begin fault) same h = tt
 
 -- a start that is refused, by the store as it was before the files' lengths were read
-pub start_not_merged : (files : List LinkedFile) (names : List (List ℕ)) (name : List ℕ) (old read new : StoreDisk) (before after : Option (List (List ℕ))) (r : MergeStartRefusal) (x : StepsRefusal) → read ≡ old → names ≡ names_of files
-    → RefusesMerge files name read new before after r → EachOpensAlike files read.told new.told → IsMergeRefusal names name r x → HasNotMerged files name old new before after x
-start_not_merged files names name old read new before after r x stays same h alike told =
-    not_started r x (subst (λ d. RefusesMerge files name d new before after r) stays h) (subst (λ (d : StoreDisk). EachOpensAlike files d.told new.told) stays alike) (subst (λ ns. IsMergeRefusal ns name r x) same told)
+pub start_not_merged : (b : Bool) (files : List LinkedFile) (names : List (List ℕ)) (name : List ℕ) (old read new : StoreDisk) (before after : Option (List (List ℕ))) (r : MergeStartRefusal) (x : StepsRefusal) → is_leaf files name ≡ b → read ≡ old
+    → names ≡ names_of files → RefusesMergeOf b files name read new before after r → EachOpensAlike files read.told new.told → IsMergeRefusal names name r x → HasNotMerged files name old new before after x
+start_not_merged b files names name old read new before after r x is stays same h alike told =
+    not_started r x (subst (λ d. RefusesMergeOf (is_leaf files name) files name d new before after r) stays (subst (λ b. RefusesMergeOf b files name read new before after r) (sym is) h))
+    (subst (λ (d : StoreDisk). EachOpensAlike files d.told new.told) stays alike) (subst (λ ns. IsMergeRefusal ns name r x) same told)

@@ -37,7 +37,7 @@ use Rattle.vhdx_app.proofs.Home.{home_of_idle}
 use Rattle.vhdx_app.proofs.Lent.{all_back, anew_contents, anew_idle, are_away, names_attached, names_in, opened_there}
 use Rattle.vhdx_app.proofs.Resting.{rest_opens}
 use Rattle.vhdx_app.proofs.Sparing.{anew_spared, still_spared}
-use Rattle.vhdx_app.proofs.Serving.{first_at, first_now, idle_now, last_once_of, leads_now, opens_now, spared_at, spared_now}
+use Rattle.vhdx_app.proofs.Serving.{first_at, first_leads_now, first_now, idle_now, last_once_of, leads_now, opens_now, spared_at, spared_now}
 
 -- ---- what is told before and after
 
@@ -242,6 +242,12 @@ module _ (retired : List (List ℕ)) (leaf : LinkedFile) (others : List LinkedFi
       leads h files synced opens links =
           in_now (λ g. LeadsTo (files_of g) (leaf_name L) files)
           (leads_now retired leaf others f idle_f once is_chain.opened (leaf_name L) is_chain.chain (changed_names merge (leaf ∷ others)) written may t is_changed.attached is_changed.still h files synced opens links)
+
+      pub first_leads : (h : History) (files : List (List ℕ)) → ((n : ℕ) → written n ≡ true → is_synced (file_of t n) ≡ true) → EachOpens leaf.name (λ s. false) (replay sector_size (opening_disk (trace_of f) (leaf ∷ others)) h) t → EachLinks leaf.name files t
+          → WhereTold now.folder (λ g. LeadsTo (files_of g) leaf.name files)
+      first_leads h files synced opens links =
+          in_now (λ g. LeadsTo (files_of g) leaf.name files)
+          (first_leads_now retired leaf others f idle_f once is_chain.opened (leaf_name L) is_chain.chain (changed_names merge (leaf ∷ others)) written may t is_changed.attached is_changed.still h files synced opens links)
 
       -- ---- where nothing was done to the files
 

@@ -138,3 +138,17 @@ module _ (folder : List Held) (names : List (List ℕ)) (idle : AllIdle folder) 
       let clean = clean_image trace now image is.left is.whole are_now in
       let o = opens (within image is) clean in
       record { retired = outer ++ o.retired; chain = o.chain; linked = linked_behind image is o.retired o.chain o.linked; are = links (within image is) clean o.retired o.chain o.linked }
+
+  -- so is the name of the chain's own first file
+  pub images_link : (among : ℕ → Bool) (disk : Disk) (files : List (List ℕ)) → EachOpens (first_name chain) among disk trace → EachLinks (first_name chain) files trace → (image : List NamedBytes) → IsCleanFolderImage (given_back trace (without names folder)) image
+      → LeadsTo (files_in image) (first_name chain) files
+  unfolding now within
+  images_link among disk files opens links image is =
+      let clean = clean_image trace now image is.left is.whole are_now in
+      let o = opens (within image is) clean in
+      record {
+        retired = o.retired;
+        chain = o.chain;
+        linked = more_files_link_alike (files_in (within image is)) (files_in image) (first_name chain) o.retired o.chain (more image is) o.linked;
+        are = links (within image is) clean o.retired o.chain o.linked;
+      }

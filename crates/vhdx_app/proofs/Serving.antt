@@ -10,7 +10,7 @@ use Rattle.store_model.proofs.Spans.{at_moment-now}
 use Rattle.vhdx_format.specs.Fields.{sector_size}
 use Rattle.guest_model.specs.Calls.{Disk}
 use Rattle.guest_model.specs.History.{History, replay}
-use Rattle.chain_model.specs.Files.{IsIn, OpensTo}
+use Rattle.chain_model.specs.Files.{IsIn, OpensTo, files_in}
 use Rattle.chain_model.specs.Images.{members_of}
 use Rattle.chain_model.specs.Members.{Member, NoneTwice, disk_of, first_name}
 use Rattle.chain_model.specs.Members as model
@@ -29,7 +29,7 @@ use Rattle.vhdx_app.specs.Folders.{LeadsTo, files_of}
 use Rattle.vhdx_app.proofs.Back.{placed_are, placed_in}
 use Rattle.vhdx_app.proofs.Followed.{last_in, same_members}
 use Rattle.vhdx_app.proofs.Lent.{each_at, names_attached, names_in, opened_there}
-use Rattle.vhdx_app.proofs.Reopened.{OutOf, images_relink, images_reopen}
+use Rattle.vhdx_app.proofs.Reopened.{OutOf, images_link, images_relink, images_reopen}
 use Rattle.vhdx_app.proofs.Resting.{leads_at_rest, opens_at_rest}
 use Rattle.vhdx_app.proofs.Sparing.{are_spared, spared_idle, still_before}
 
@@ -152,10 +152,24 @@ module _ (retired : List (List ℕ)) (leaf : LinkedFile) (others : List LinkedFi
         (subst (λ t. EachImageOpens name (λ s. false) (replay sector_size (opening_disk old (leaf ∷ others)) h) (given_back t rest)) now_at
         (reopens (moment trace) (λ s. false) (replay sector_size (opening_disk old (leaf ∷ others)) h) (subst (EachOpens leaf.name (λ s. false) (replay sector_size (opening_disk old (leaf ∷ others)) h)) (sym now_at) opens))))
 
-    -- there the name leads to the files to which each image led
-    pub leads_now : (h : History) (files : List (List ℕ)) → ((n : ℕ) → written n ≡ true → is_synced (file_of trace n) ≡ true) → EachOpens leaf.name (λ s. false) (replay sector_size (opening_disk old (leaf ∷ others)) h) trace → EachLinks leaf.name files trace
-        → LeadsTo (files_of (given_back trace rest)) name files
-    leads_now h files synced opens links =
-        leads_at_rest (given_back trace rest) name files (idle_now synced)
-        (images_relink folder names idle names_once there name chain.retired chain.chain chain.linked retired_out retired_once trace (subst (λ t. names_in t.attached ≡ names) now_at (names_at (moment trace))) (λ s. false) (replay sector_size (opening_disk old (leaf ∷ others)) h) files
-        (subst (λ n. EachOpens n (λ s. false) (replay sector_size (opening_disk old (leaf ∷ others)) h) trace) (sym first_is) opens) (subst (λ n. EachLinks n files trace) (sym first_is) links))
+    -- there the name leads to the files to which each image led, and so does the name of the chain's first file
+    module _ (h : History) (files : List (List ℕ)) (synced : (n : ℕ) → written n ≡ true → is_synced (file_of trace n) ≡ true) (opens : EachOpens leaf.name (λ s. false) (replay sector_size (opening_disk old (leaf ∷ others)) h) trace)
+        (links : EachLinks leaf.name files trace) where
+      abbrev last_disk : Disk
+      last_disk = replay sector_size (opening_disk old (leaf ∷ others)) h
+
+      abbrev names_last : names_in trace.attached ≡ names
+      names_last = subst (λ t. names_in t.attached ≡ names) now_at (names_at (moment trace))
+
+      pub leads_now : LeadsTo (files_of (given_back trace rest)) name files
+      leads_now =
+          leads_at_rest (given_back trace rest) name files (idle_now synced)
+          (images_relink folder names idle names_once there name chain.retired chain.chain chain.linked retired_out retired_once trace names_last (λ s. false) last_disk files
+          (subst (λ n. EachOpens n (λ s. false) last_disk trace) (sym first_is) opens) (subst (λ n. EachLinks n files trace) (sym first_is) links))
+
+      pub first_leads_now : LeadsTo (files_of (given_back trace rest)) leaf.name files
+      first_leads_now =
+          leads_at_rest (given_back trace rest) leaf.name files (idle_now synced)
+          (λ image is. subst (λ n. LeadsTo (files_in image) n files) first_is
+          (images_link folder names idle names_once there name chain.retired chain.chain chain.linked retired_out retired_once trace names_last (λ s. false) last_disk files
+          (subst (λ n. EachOpens n (λ s. false) last_disk trace) (sym first_is) opens) (subst (λ n. EachLinks n files trace) (sym first_is) links) image is))

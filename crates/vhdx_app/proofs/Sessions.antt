@@ -16,8 +16,11 @@ use Rattle.chain_model.specs.Files.{OpensTo}
 use Rattle.link_rules.specs.Causes.{meaning_of}
 use Rattle.link_rules.specs.Chains.{Links, is_among, names_of}
 use Rattle.link_rules.specs.Effects.{Replays, linked_names}
-use Rattle.merge_plan.specs.Merging.{AreOf, HasFirst, HasLast, HasNone, MergeFiles}
+use Rattle.merge_plan.specs.LeafMerging.{AreOfLeaf, LeafFiles}
+use Rattle.merge_plan.specs.Merging.{AreOf, HasLast, HasNone, MergeFiles}
 use Rattle.merge_plan.specs.declared.drawing.MergeIds.{MergeIds}
+use Rattle.merge_plan.specs.declared.leaf_drawing.LeafMergeIds.{LeafMergeIds}
+use Rattle.chain_core.specs.LeafStarting.{spent_leaf}
 use Rattle.chain_core.specs.MergeStarting.{chain_files, spent}
 use Rattle.link_rules.specs.Chains as chains
 use Rattle.link_rules.specs.Folders.{AllIdle, ReturnsHealthy, contents}
@@ -41,13 +44,13 @@ use Rattle.vhdx_app.specs.Crashes.{AreSpared, OpensToFirst}
 use Rattle.vhdx_app.specs.Folders.{AllHome, LeadsTo, OnlyFollows, files_of}
 use Rattle.vhdx_app.specs.Making.{ShowIds}
 use Rattle.vhdx_app.specs.Printed.{Prints, Sent, ShowsFault, cut, of_host, of_store, whole}
-use Rattle.vhdx_app.specs.Refusals.{IdUnfit, IsBase, LeafSource, LocatorTooLarge, MetadataFull, NotInChain, OfChain, ReadOnly, Refusal, Spent}
+use Rattle.vhdx_app.specs.Refusals.{IdUnfit, IsBase, LocatorTooLarge, MetadataFull, NotInChain, OfChain, ReadOnly, Refusal, Spent}
 use Rattle.vhdx_app.specs.Runs.{Ends, HasMerge}
 use Rattle.vhdx_app.specs.Sessions.{DrawsOver, IsCounted, IsDroppedIn, IsFollowedTo, IsNotFollowed, JudgesDrawn, LeafIsRun, NotRunOver, RanIn, ReportsRun, Rests, RunOver, Stands, UnlessMerging, UnlessStore, is_reading, leaf_name, meaning_of_steps, mode_of, run_said, said_of}
 use Rattle.vhdx_app.specs.Sessions as code
-use Rattle.vhdx_app.specs.Starts.{BeginsMerge, DrawsFor, DrawsForLeaf, IsFullIn, IsSpent, JudgesMerge, LeadsAt, RefusesMerge, RefusesSession, StandsSo, changed_names}
+use Rattle.vhdx_app.specs.Starts.{BeginsLeafMerge, BeginsMerge, DrawsFor, DrawsForLeaf, IfLeaf, IsFullIn, IsLeafFullIn, IsSpent, JudgesLeafMerge, JudgesMerge, LeadsAt, RefusesLeafMerge, RefusesMerge, RefusesSession, StandsSo, changed_names, is_leaf}
 use Rattle.vhdx_app.specs.Starts as starts
-use Rattle.vhdx_app.specs.Steps.{HasRested, IsDropped, IsRunOf, IsStepsText, IsTranscript, IsUnopenedText, OpensAt, Ran, RunsOver, RunsSteps, RunsUnopened, begun_course, drive_over, left_names}
+use Rattle.vhdx_app.specs.Steps.{AreLeft, HasRested, IsDropped, IsRunOf, IsStepsText, IsTranscript, IsUnopenedText, OpensAt, Ran, RunsOver, RunsSteps, RunsUnopened, begun_course, drive_over}
 use Rattle.vhdx_app.specs.Steps as steps
 use Rattle.vhdx_app.specs.Worlds.{World}
 use Rattle.vhdx_app.specs.declared.refusal.ChainRefusal.{ChainRefusal}
@@ -58,13 +61,13 @@ use Rattle.vhdx_app.specs.declared.status.Status.TheVariants.{Done, Fault, NoMem
 use Rattle.vhdx_app.proofs.Behind.{name_is, one_linked, opens_mid, told_mid}
 use Rattle.vhdx_app.proofs.Followed.{has_followed, order_stopped, shown_before, stands_before}
 use Rattle.vhdx_app.proofs.Home.{StaysHome, home_followed}
-use Rattle.vhdx_app.proofs.MergePlaces.{child_in, source_in}
+use Rattle.vhdx_app.proofs.MergePlaces.{child_in, named_among, source_in}
 use Rattle.vhdx_app.proofs.Left.{counted, followed, idle_left, stopped}
 use Rattle.vhdx_app.proofs.Said.{CountsIn}
 use Rattle.vhdx_app.proofs.Stepped.{ends_by, meant_fault, part_taken, unread_ends, unread_runs}
 
-abbrev none_ran : Option (List ℕ) → Ran
-none_ran merge = record { lines = []; told = []; history = []; course = begun_course merge; broken = None }
+abbrev none_ran : Option (List ℕ) → List LinkedFile → Ran
+none_ran merge files = record { lines = []; told = []; history = []; course = begun_course merge files; broken = None }
 
 -- a text that was sent has its status, but for a fault of the sink
 sent_is : (before after : Option (List ℕ)) (old new : ℕ) (meant : Status) (text : List ℕ) (status : Status) → Sent before after old new meant text status → status ≢ Fault → status ≡ meant
@@ -89,7 +92,11 @@ IsNoChain other = Unit {0}
 
 ruleless : (ro : Bool) (merge : Option (List ℕ)) (linked : Linked) (folder : Option (List Held)) (before now : Option (List (List ℕ))) (x : ChainRefusal) → code.HasCauseIn (mode_of ro) merge linked folder before now (refusal.Chain x) → code.IsNoRule (meaning_of_chain x)
 ruleless ro None linked folder before now x c = c
-ruleless false (Some name) linked folder before now x c = c
+ruleless false (Some name) linked folder before now x c = by_kind (is_leaf linked.files name) c
+  where
+    by_kind : (b : Bool) → code.HasMergeCauseOf b linked name folder before now (refusal.Chain x) → code.IsNoRule (meaning_of_chain x)
+    by_kind true c = c
+    by_kind false c = c
 ruleless true (Some name) linked folder before now x c = c
 
 begins_high : (number : ℕ) (files : List LinkedFile) → BeginsHigh files number → IsSpent number files
@@ -194,8 +201,14 @@ module _ (leaf : List ℕ) (merge : Option (List ℕ)) (ro : Bool) (before now :
         dropped_by (Some name) d = λ f told other links.
             let g = told_mid leaf linked before.host mid h f told in
             let p = d g.0 g.1 in
-            subst (λ (l : Linked). (m : MergeFiles) × AreOf l.files name m × WhereTold now.host.folder (λ after. LeadsTo (files_of after) leaf (left_names m))) (one_linked leaf linked before.host mid h f told other links)
-            (p.0, p.1, λ after is. subst (λ n. LeadsTo (files_of after) n (left_names p.0)) (name_is leaf linked before.host mid h) (p.2 after is))
+            subst (λ (l : Linked). (left : List (List ℕ)) × AreLeft l.files name left × WhereTold now.host.folder (λ after. LeadsTo (files_of after) leaf left) × (is_leaf l.files name ≡ true → WhereTold now.host.folder (λ after. LeadsTo (files_of after) name left))) (one_linked leaf linked before.host mid h f told other links)
+            (p.0, p.1, λ after is. subst (λ n. LeadsTo (files_of after) n p.0) (name_is leaf linked before.host mid h) (p.2 after is), p.3)
+
+    shown_known : (known : List (List ℕ)) → WhereTold mid.folder (λ g. ShowIds (contents g) linked.files known)
+        → WhereTold before.host.folder (λ f. (other : Linked) → Links (contents f) leaf (Ok other) → ShowIds (contents f) other.files known)
+    shown_known known shown f told other links =
+        let g = told_mid leaf linked before.host mid h f told in
+        subst (λ (l : Linked). ShowIds (contents f) l.files known) (one_linked leaf linked before.host mid h f told other links) (shown_before (contents f) (contents g.0) leaf linked known (h.links f told) g.2 (shown g.0 g.1))
 
     draws_for : (unfit : Option (List ℕ)) → JudgesDrawn linked mid.folder before.drawn now.drawn unfit → DrawsForLeaf leaf before now unfit
     draws_for unfit j = record {
@@ -203,10 +216,7 @@ module _ (leaf : List ℕ) (merge : Option (List ℕ)) (ro : Bool) (before now :
       three = refl;
       draws = j.draws;
       known = j.known;
-      shown = λ f told other links.
-          let g = told_mid leaf linked before.host mid h f told in
-          subst (λ (l : Linked). ShowIds (contents f) l.files j.known) (one_linked leaf linked before.host mid h f told other links)
-          (shown_before (contents f) (contents g.0) leaf linked j.known (h.links f told) g.2 (j.shown g.0 g.1));
+      shown = shown_known j.known j.shown;
       judged = j.judged;
     }
 
@@ -232,10 +242,7 @@ module _ (leaf : List ℕ) (merge : Option (List ℕ)) (ro : Bool) (before now :
       source = room_before j.m.source _ (source_in linked.files j.m j.begun.files_are.files_are) j.source;
       child = room_before j.m.child _ (child_in linked.files j.m j.begun.files_are.files_are) j.child;
       known = j.known;
-      shown = λ f told other links.
-          let g = told_mid leaf linked before.host mid h f told in
-          subst (λ (l : Linked). ShowIds (contents f) l.files j.known) (one_linked leaf linked before.host mid h f told other links)
-          (shown_before (contents f) (contents g.0) leaf linked j.known (h.links f told) g.2 (j.shown g.0 g.1));
+      shown = shown_known j.known j.shown;
       judged = j.judged;
     }
 
@@ -247,6 +254,46 @@ module _ (leaf : List ℕ) (merge : Option (List ℕ)) (ro : Bool) (before now :
           starts.in_child (stands_before (contents f) (contents g) leaf linked m.source.name _ replays (source_in linked.files m are) has)
           (stands_before (contents f) (contents g) leaf linked m.child.name _ replays (child_in linked.files m are) lacks)
 
+    -- with the leaf's merge
+
+    leaf_begins : (m : LeafFiles) (ids : LeafMergeIds) → code.BeginsLeafMergeIn linked before.drawn now.drawn m ids → BeginsLeafMerge leaf before now m ids
+    leaf_begins m ids b = record { of = leads (λ l. (spent_leaf l.files ≡ None) × AreOfLeaf l.files m) (b.unspent, b.begun.files_are); draws = b.begun.draws }
+
+    source_there : (m : LeafFiles) → AreOfLeaf linked.files m → is_among m.source.name (names_of linked.files) ≡ true
+    source_there m are = named_among [] m.source (m.target ∷ m.below) linked.files are
+
+    leaf_judges : (unfit : Option (List ℕ)) → code.JudgesLeafMergeIn linked mid.folder before.drawn now.drawn unfit → JudgesLeafMerge leaf before now unfit
+    leaf_judges unfit j = record {
+      m = j.m;
+      ids = j.ids;
+      begun = leaf_begins j.m j.ids (record { unspent = j.unspent; begun = j.begun });
+      short = j.short;
+      link = room_before j.m.source _ (source_there j.m j.begun.files_are) j.link;
+      retired = room_before j.m.source _ (source_there j.m j.begun.files_are) j.retired;
+      known = j.known;
+      shown = shown_known j.known j.shown;
+      judged = j.judged;
+    }
+
+    leaf_full_before : (m : LeafFiles) (ids : LeafMergeIds) (file : List ℕ) → AreOfLeaf linked.files m → WhereTold mid.folder (λ g. IsLeafFullIn (contents g) m ids file) → WhereTold before.host.folder (λ f. IsLeafFullIn (contents f) m ids file)
+    leaf_full_before m ids file are full f told = let g = told_mid leaf linked before.host mid h f told in by_full g.0 g.2 file (full g.0 g.1) where
+      by_full : (g : List Held) → Replays (linked_names linked) (contents f) (contents g) → (file : List ℕ) → IsLeafFullIn (contents g) m ids file → IsLeafFullIn (contents f) m ids file
+      by_full g replays _ (starts.for_link lacks) = starts.for_link (stands_before (contents f) (contents g) leaf linked m.source.name _ replays (source_there m are) lacks)
+      by_full g replays _ (starts.for_name has lacks) =
+          starts.for_name (stands_before (contents f) (contents g) leaf linked m.source.name _ replays (source_there m are) has)
+          (stands_before (contents f) (contents g) leaf linked m.source.name _ replays (source_there m are) lacks)
+
+    leaf_merge_refused : (x : StepsRefusal) → code.HasLeafMergeCause linked mid.folder before.drawn now.drawn x → (r : Refusal) → cause_in (meaning_of_steps x) ≡ Some r → IsNoChain x → RefusesLeafMerge leaf before now r
+    leaf_merge_refused (refusal.Chain x) c r is none = absurd none
+    leaf_merge_refused (refusal.Spent number) c r is none = subst (RefusesLeafMerge leaf before now) (same_Some _ r is) (starts.leaf_spent number (leads (λ l. spent_leaf l.files ≡ Some number) c.0) c.1)
+    leaf_merge_refused (refusal.IdUnfit id) c r is none = subst (RefusesLeafMerge leaf before now) (same_Some _ r is) (starts.leaf_unfit id (leaf_judges (Some id) c))
+    leaf_merge_refused refusal.ReadOnly c r is none = absurd c
+    leaf_merge_refused (refusal.NotInChain other) c r is none = absurd c
+    leaf_merge_refused (refusal.IsBase other) c r is none = absurd c
+    leaf_merge_refused (refusal.LocatorTooLarge len) c r is none = subst (RefusesLeafMerge leaf before now) (same_Some _ r is) (starts.link_too_large c.0 c.1 len (leaf_begins c.0 c.1 c.2) c.3)
+    leaf_merge_refused (refusal.MetadataFull file) c r is none =
+        subst (RefusesLeafMerge leaf before now) (same_Some _ r is) (starts.leaf_full c.0 c.1 file (leaf_begins c.0 c.1 c.2) c.3 (leaf_full_before c.0 c.1 file c.2.begun.files_are c.4))
+
     leaf_refused : (x : StepsRefusal) → code.HasLeafCause linked mid.folder before.drawn now.drawn x → (r : Refusal) → cause_in (meaning_of_steps x) ≡ Some r → IsNoChain x → RefusesSession leaf ro before now None r
     leaf_refused (refusal.Chain x) c r is none = absurd none
     leaf_refused (refusal.Spent number) c r is none = subst (RefusesSession leaf ro before now None) (same_Some _ r is) (starts.spent number (leads (λ l. IsSpent number l.files) (begins_high number linked.files c.0)) c.1)
@@ -254,7 +301,6 @@ module _ (leaf : List ℕ) (merge : Option (List ℕ)) (ro : Bool) (before now :
     leaf_refused refusal.ReadOnly c r is none = absurd c
     leaf_refused (refusal.NotInChain name) c r is none = absurd c
     leaf_refused (refusal.IsBase name) c r is none = absurd c
-    leaf_refused (refusal.LeafSource name) c r is none = absurd c
     leaf_refused (refusal.LocatorTooLarge len) c r is none = absurd c
     leaf_refused (refusal.MetadataFull file) c r is none = absurd c
 
@@ -266,7 +312,6 @@ module _ (leaf : List ℕ) (merge : Option (List ℕ)) (ro : Bool) (before now :
     merge_refused name (refusal.NotInChain other) c r is none =
         subst (RefusesMerge leaf name before now) (ap NotInChain (sym c.same) ∙ same_Some _ r is) (starts.not_in_chain (leads (λ l. (spent l.files name ≡ None) × HasNone l.files name) (c.unspent, c.so)) c.undrawn)
     merge_refused name (refusal.IsBase other) c r is none = subst (RefusesMerge leaf name before now) (ap IsBase (sym c.same) ∙ same_Some _ r is) (starts.is_base (leads (λ l. (spent l.files name ≡ None) × HasLast l.files name) (c.unspent, c.so)) c.undrawn)
-    merge_refused name (refusal.LeafSource other) c r is none = subst (RefusesMerge leaf name before now) (ap LeafSource (sym c.same) ∙ same_Some _ r is) (starts.leaf_source (leads (λ l. (spent l.files name ≡ None) × HasFirst l.files name) (c.unspent, c.so)) c.undrawn)
     merge_refused name (refusal.LocatorTooLarge len) c r is none = subst (RefusesMerge leaf name before now) (same_Some _ r is) (starts.locator_too_large c.0 c.1 len (begins name c.0 c.1 c.2) c.3)
     merge_refused name (refusal.MetadataFull file) c r is none =
         subst (RefusesMerge leaf name before now) (same_Some _ r is) (starts.metadata_full c.0 c.1 file (begins name c.0 c.1 c.2) c.3 (full_before c.0 c.1 file c.2.begun.files_are.files_are c.4))
@@ -278,22 +323,25 @@ module _ (leaf : List ℕ) (merge : Option (List ℕ)) (ro : Bool) (before now :
     barred_refused name (refusal.IdUnfit id) c r is none = absurd c
     barred_refused name (refusal.NotInChain other) c r is none = absurd c
     barred_refused name (refusal.IsBase other) c r is none = absurd c
-    barred_refused name (refusal.LeafSource other) c r is none = absurd c
     barred_refused name (refusal.LocatorTooLarge len) c r is none = absurd c
     barred_refused name (refusal.MetadataFull file) c r is none = absurd c
 
     refuses_by : (b : Bool) (k : Option (List ℕ)) (x : StepsRefusal) → ro ≡ b → merge ≡ k → code.HasCauseIn (mode_of b) k linked mid.folder before.drawn now.drawn x → (r : Refusal) → cause_in (meaning_of_steps x) ≡ Some r → IsNoChain x
         → RefusesSession leaf ro before now merge r
     refuses_by b None x e f c r is none = subst (λ k. RefusesSession leaf ro before now k r) (sym f) (leaf_refused x c r is none)
-    refuses_by false (Some name) x e f c r is none = subst (λ k. RefusesSession leaf ro before now k r) (sym f) (starts.refuses_merge name r e (merge_refused name x c r is none))
+    refuses_by false (Some name) x e f c r is none = subst (λ k. RefusesSession leaf ro before now k r) (sym f) (starts.refuses_merge name r e (either_refused (is_leaf linked.files name) refl c))
+      where
+        either_refused : (b : Bool) → is_leaf linked.files name ≡ b → code.HasMergeCauseOf b linked name mid.folder before.drawn now.drawn x → IfLeaf leaf name before (RefusesLeafMerge leaf before now r) (RefusesMerge leaf name before now r)
+        either_refused true kind c = starts.is_the_leaf (leads (λ l. is_leaf l.files name ≡ true) kind) (leaf_merge_refused x c r is none)
+        either_refused false kind c = starts.is_no_leaf (leads (λ l. is_leaf l.files name ≡ false) kind) (merge_refused name x c r is none)
     refuses_by true (Some name) x e f c r is none =
         subst (λ k. RefusesSession leaf ro before now k r) (sym f) (subst (λ b. RefusesSession leaf b before now (Some name) r) (sym e) (barred_refused name x c r is none))
 
     -- ---- no session ran
 
     module _ (r : StepsRefusal) (n : NotRunOver (mode_of ro) merge linked mid now.host before.drawn now.drawn r) where
-      none_run : IsRunOf leaf merge ro before (none_ran merge)
-      none_run = record { first = λ bytes told lines is. (0, refl); told_so = λ f told disk opens. none_left 1 [] (begun_course merge) None }
+      none_run : IsRunOf leaf merge ro before (none_ran merge linked.files)
+      none_run = record { first = λ bytes told lines is. (0, refl); told_so = λ f told other links f' also disk opens. subst (λ (l : Linked). AreTold (drive_over ro disk) 1 [] (begun_course merge l.files) None [] [] [] (begun_course merge linked.files) None) (one_linked leaf linked before.host mid h f told other links) (none_left 1 [] (begun_course merge linked.files) None) }
 
       abbrev NotSaid : StepsRefusal → Type 0
       NotSaid x = Reports (meaning_of_steps x) before.written now.written before.sink_faults now.sink_faults status
@@ -334,17 +382,17 @@ module _ (leaf : List ℕ) (merge : Option (List ℕ)) (ro : Bool) (before now :
         by_rule no_memory (whole e sent same) is p = let f : Refused ≡ NoMemory = sym is ∙ e in cc
         by_rule no_memory (cut e n sent rose) is p = let f : Refused ≡ Fault = sym is ∙ e in cc
 
-        rested_none : HasRested merge (none_ran merge) status → WhereTold mid.folder (λ g. Rests linked [] g mid now.host)
+        rested_none : HasRested merge (none_ran merge linked.files) status → WhereTold mid.folder (λ g. Rests linked [] g mid now.host)
         rested_none rested = not_rests rested.sound (λ memory. elim (rested.begun memory) [ inl none ↦ none | inr some ↦ absurd (some refl) ])
 
         not_run_ends : Ends (HasMerge merge) before now status
         not_run_ends =
             reports_end (meaning_of_steps r) (counts_all (meaning_of_steps r) n.counts) reports (home_all (λ g is. (n.stands g is).home)) (λ fault none. idle_all (λ g is. (not_rests fault (λ e. none_of merge (none e)) g is).idle g is))
 
-        not_run_said : Prints (IsStepsText leaf merge ro before now (none_ran merge)) before now status
+        not_run_said : Prints (IsStepsText leaf merge ro before now (none_ran merge linked.files)) before now status
         not_run_said = by_refusal r n.counts n.cause reports
           where
-            by_meaning : (m : Meaning Refusal) → code.CountsRefusal mid now.host m → code.IsNoRule m → Reports m before.written now.written before.sink_faults now.sink_faults status → Prints (IsStepsText leaf merge ro before now (none_ran merge)) before now status
+            by_meaning : (m : Meaning Refusal) → code.CountsRefusal mid now.host m → code.IsNoRule m → Reports m before.written now.written before.sink_faults now.sink_faults status → Prints (IsStepsText leaf merge ro before now (none_ran merge linked.files)) before now status
             by_meaning (refuses x) counts none sent = absurd none
             by_meaning (host_failed fault) counts none sent =
                 record { meant = Fault; text = _; said = steps.alone (of_host (rose_all counts.0) (healthy_all counts.2) (ap (fault_line (codes "host")) counts.1)); sent = sent }
@@ -352,26 +400,25 @@ module _ (leaf : List ℕ) (merge : Option (List ℕ)) (ro : Bool) (before now :
             by_meaning no_memory counts none sent = record { meant = NoMemory; text = codes "no memory\n"; said = refl; sent = sent }
 
             -- it was refused by a rule, or memory ran out for the line
-            refused_by : (x : Refusal) → RefusesSession leaf ro before now merge x → Reports (refuses x) before.written now.written before.sink_faults now.sink_faults status → Prints (IsStepsText leaf merge ro before now (none_ran merge)) before now status
+            refused_by : (x : Refusal) → RefusesSession leaf ro before now merge x → Reports (refuses x) before.written now.written before.sink_faults now.sink_faults status → Prints (IsStepsText leaf merge ro before now (none_ran merge linked.files)) before now status
             refused_by x so (inl sent) = record { meant = Refused; text = _; said = record { refused = record { refusal = x; text_is = refl; so = so }; unrun = refl }; sent = sent }
             refused_by x so (inr sent) = record { meant = NoMemory; text = codes "no memory\n"; said = refl; sent = sent }
 
             by_refusal : (x : StepsRefusal) → code.CountsRefusal mid now.host (meaning_of_steps x) → code.HasCauseIn (mode_of ro) merge linked mid.folder before.drawn now.drawn x
-                → Reports (meaning_of_steps x) before.written now.written before.sink_faults now.sink_faults status → Prints (IsStepsText leaf merge ro before now (none_ran merge)) before now status
+                → Reports (meaning_of_steps x) before.written now.written before.sink_faults now.sink_faults status → Prints (IsStepsText leaf merge ro before now (none_ran merge linked.files)) before now status
             by_refusal (refusal.Chain x) counts cause sent = by_meaning (meaning_of_chain x) counts (ruleless ro merge linked mid.folder before.drawn now.drawn x cause) sent
             by_refusal (refusal.Spent number) counts cause sent = refused_by (Spent number) (refuses_by ro merge (refusal.Spent number) refl refl cause (Spent number) refl tt) sent
             by_refusal (refusal.IdUnfit id) counts cause sent = refused_by (IdUnfit id) (refuses_by ro merge (refusal.IdUnfit id) refl refl cause (IdUnfit id) refl tt) sent
             by_refusal refusal.ReadOnly counts cause sent = refused_by ReadOnly (refuses_by ro merge refusal.ReadOnly refl refl cause ReadOnly refl tt) sent
             by_refusal (refusal.NotInChain name) counts cause sent = refused_by (NotInChain name) (refuses_by ro merge (refusal.NotInChain name) refl refl cause (NotInChain name) refl tt) sent
             by_refusal (refusal.IsBase name) counts cause sent = refused_by (IsBase name) (refuses_by ro merge (refusal.IsBase name) refl refl cause (IsBase name) refl tt) sent
-            by_refusal (refusal.LeafSource name) counts cause sent = refused_by (LeafSource name) (refuses_by ro merge (refusal.LeafSource name) refl refl cause (LeafSource name) refl tt) sent
             by_refusal (refusal.LocatorTooLarge len) counts cause sent = refused_by (LocatorTooLarge len) (refuses_by ro merge (refusal.LocatorTooLarge len) refl refl cause (LocatorTooLarge len) refl tt) sent
             by_refusal (refusal.MetadataFull file) counts cause sent = refused_by (MetadataFull file) (refuses_by ro merge (refusal.MetadataFull file) refl refl cause (MetadataFull file) refl tt) sent
 
         not_run_runs : RunsSteps leaf merge ro before now status
-        not_run_runs = steps.opened taken (over_by (none_ran merge) none_run not_run_said n.stands rested_none (λ e. by_rule (meaning_of_steps r) reports e n.unchanged) (λ reading. n.undrawn (reading_is reading)) (λ rested ended. none_dropped merge ended))
+        not_run_runs = steps.opened taken (over_by (none_ran merge linked.files) none_run not_run_said n.stands rested_none (λ e. by_rule (meaning_of_steps r) reports e n.unchanged) (λ reading. n.undrawn (reading_is reading)) (λ rested ended. none_dropped merge ended))
           where
-            none_dropped : (merge : Option (List ℕ)) → begun_course merge ≡ no_merge → IfSome merge (λ name. WhereTold mid.folder (λ g. IsDroppedIn linked name now.host))
+            none_dropped : (merge : Option (List ℕ)) → begun_course merge linked.files ≡ no_merge → IfSome merge (λ name. WhereTold mid.folder (λ g. IsDroppedIn linked name now.host))
             none_dropped None ended = tt
             none_dropped (Some name) ended = cc
 
@@ -386,7 +433,11 @@ module _ (leaf : List ℕ) (merge : Option (List ℕ)) (ro : Bool) (before now :
           by_mode None true d = d
           by_mode None false d = draws_for None d
           by_mode (Some name) true d = absurd d
-          by_mode (Some name) false d = judges_for name None d
+          by_mode (Some name) false d = either_judges (is_leaf linked.files name) refl d
+            where
+              either_judges : (b : Bool) → is_leaf linked.files name ≡ b → code.JudgesMergeOf b linked name mid.folder before.drawn now.drawn None → IfLeaf leaf name before (JudgesLeafMerge leaf before now None) (JudgesMerge leaf name before now None)
+              either_judges true kind d = starts.is_the_leaf (leads (λ l. is_leaf l.files name ≡ true) kind) (leaf_judges None d)
+              either_judges false kind d = starts.is_no_leaf (leads (λ l. is_leaf l.files name ≡ false) kind) (judges_for name None d)
 
       undrawn_for : ro ≡ true → now.drawn ≡ before.drawn
       undrawn_for reading = by_mode merge ro reading o.drawn
@@ -481,8 +532,9 @@ module _ (leaf : List ℕ) (merge : Option (List ℕ)) (ro : Bool) (before now :
           told_of : IsRunOf leaf merge ro before (ran r.history r.course r.broken)
           told_of = record {
             first = first_lines;
-            told_so = λ f' told disk opens.
-                subst (λ b. AreTold (drive_over b disk) 1 [] (begun_course merge) None (take o.many lines) o.told r.history r.course r.broken) (same_mode ro) (r.told_so disk (opens_mid leaf linked before.host mid h f' g told g_is disk opens));
+            told_so = λ f' told other links f'' also disk opens.
+                subst (λ (l : Linked). AreTold (drive_over ro disk) 1 [] (begun_course merge l.files) None (take o.many lines) o.told r.history r.course r.broken) (one_linked leaf linked before.host mid h f' told other links)
+                (subst (λ b. AreTold (drive_over b disk) 1 [] (begun_course merge linked.files) None (take o.many lines) o.told r.history r.course r.broken) (same_mode ro) (r.told_so disk (opens_mid leaf linked before.host mid h f'' g also g_is disk opens)));
           }
 
           told_stands : WhereTold mid.folder (λ x. Stands (mode_of ro) merge linked r.history r.broken x mid now.host)

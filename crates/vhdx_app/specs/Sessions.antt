@@ -31,11 +31,15 @@ use Rattle.link_rules.specs.declared.linked.LinkedFile.{LinkedFile}
 use Rattle.link_rules.specs.declared.refusal.LinkRefusal.{LinkRefusal}
 use Rattle.merge_plan.specs.Attached.{BeginsInUse}
 use Rattle.merge_plan.specs.Drawing.{drawn_ids, merge_ids}
-use Rattle.merge_plan.specs.Merging.{AreOf, HasFirst, HasLast, HasNone, MergeFiles}
+use Rattle.merge_plan.specs.LeafMerging.{LeafFiles}
+use Rattle.merge_plan.specs.LeafPlanning.{IsLeafBegun, IsLinkShort, IsLinkTooLong, leaf_merge_ids}
+use Rattle.merge_plan.specs.Merging.{HasLast, HasNone, MergeFiles}
 use Rattle.merge_plan.specs.Planning.{AreShort, IsBegun, IsTooLong}
 use Rattle.merge_plan.specs.declared.drawing.MergeIds.{MergeIds}
+use Rattle.merge_plan.specs.declared.leaf_drawing.LeafMergeIds.{LeafMergeIds}
 use Rattle.merge_plan.specs.declared.refusal.PrepareRefusal.{PrepareRefusal}
 use Rattle.merge_plan.specs.declared.refusal.PrepareRefusal.TheVariants as plan
+use Rattle.chain_core.specs.LeafStarting.{RefusesLeafMerge, spent_leaf}
 use Rattle.chain_core.specs.MergeStarting.{RefusesMerge, spent}
 use Rattle.chain_core.specs.declared.merge_start.MergeStartRefusal.{MergeStartRefusal}
 use Rattle.chain_core.specs.declared.merge_start.MergeStartRefusal.TheVariants as merge_start
@@ -50,7 +54,7 @@ use Rattle.script.specs.declared.refusal.SourceRefusal.{SourceRefusal}
 use Rattle.script.specs.declared.refusal.SourceRefusal.TheVariants as source
 use Rattle.script_session.specs.Faults.{Counts}
 use Rattle.script_session.specs.Histories.{AreTold, Break, Course, no_merge}
-use Rattle.script_session.specs.MergeRunning.{HasRunMerge}
+use Rattle.script_session.specs.MergeRunning.{HasRunLeafMerge, HasRunMerge}
 use Rattle.script_session.specs.Running.{HasRunScript, open_by}
 use Rattle.script_session.specs.Told.{Told, last_fault, transcript}
 use Rattle.script_session.specs.declared.session.ScriptRun.{ScriptRun}
@@ -63,8 +67,8 @@ use Rattle.vhdx_app.specs.Making.{ShowIds}
 use Rattle.vhdx_app.specs.Printed.{Sent}
 use Rattle.vhdx_app.specs.Refusals.{Refusal}
 use Rattle.vhdx_app.specs.Refusals as refusals
-use Rattle.vhdx_app.specs.Starts.{HasRoomIn, IsFullIn, changed_names, child_pairs, source_pairs}
-use Rattle.vhdx_app.specs.Steps.{begun_course, broken_line, drive_over, left_names}
+use Rattle.vhdx_app.specs.Starts.{HasNameRoomIn, HasRoomIn, IsFullIn, IsLeafFullIn, changed_names, child_pairs, is_leaf, leaf_pairs, source_pairs}
+use Rattle.vhdx_app.specs.Steps.{AreLeft, begun_course, broken_line, drive_over}
 use Rattle.vhdx_app.specs.declared.refusal.ChainRefusal.{ChainRefusal}
 use Rattle.vhdx_app.specs.declared.refusal.ChainRefusal.TheVariants as chain
 use Rattle.vhdx_app.specs.declared.refusal.StepsRefusal.{StepsRefusal}
@@ -99,7 +103,6 @@ meaning_of_steps (steps.IdUnfit id) = refuses (refusals.IdUnfit id)
 meaning_of_steps steps.ReadOnly = refuses refusals.ReadOnly
 meaning_of_steps (steps.NotInChain name) = refuses (refusals.NotInChain name)
 meaning_of_steps (steps.IsBase name) = refuses (refusals.IsBase name)
-meaning_of_steps (steps.LeafSource name) = refuses (refusals.LeafSource name)
 meaning_of_steps (steps.LocatorTooLarge len) = refuses (refusals.LocatorTooLarge len)
 meaning_of_steps (steps.MetadataFull file) = refuses (refusals.MetadataFull file)
 
@@ -110,11 +113,12 @@ of_start (start.IdUnfit id) = steps.IdUnfit id
 of_start (start.Store fault) = steps.Chain (chain.Store fault)
 of_start start.NoRoom = steps.Chain chain.NoRoom
 
--- why a merge of the file of this name, in a chain of files of these names, isn't planned, as why a script isn't run
+-- why a merge of the file of this name, in a chain of files of these names, isn't planned, as why a script isn't run; that it is the leaf
+-- isn't met
 abbrev pub of_plan : List (List ℕ) → List ℕ → PrepareRefusal → StepsRefusal
 of_plan names source plan.NotInChain = steps.NotInChain source
 of_plan names source plan.IsBase = steps.IsBase source
-of_plan names source plan.LeafSource = steps.LeafSource source
+of_plan names source plan.LeafSource = steps.Chain chain.NoRoom
 of_plan names source (plan.LocatorTooLarge len) = steps.LocatorTooLarge len
 of_plan names source (plan.MetadataFull file) = steps.MetadataFull (slice_index_or names file [])
 of_plan names source (plan.IdUnfit id) = steps.IdUnfit id
@@ -135,15 +139,16 @@ of_merge_start names source (merge_start.Begin fault) = of_begin fault
 abbrev pub PlanNamesFile : PrepareRefusal → Type 0
 PlanNamesFile plan.NotInChain = ⊤
 PlanNamesFile plan.IsBase = ⊤
-PlanNamesFile plan.LeafSource = ⊤
+PlanNamesFile plan.LeafSource = ⊥
 PlanNamesFile (plan.LocatorTooLarge len) = ⊥
 PlanNamesFile (plan.MetadataFull file) = ⊤
 PlanNamesFile (plan.IdUnfit id) = ⊥
 PlanNamesFile (plan.Store fault) = ⊥
 PlanNamesFile plan.NoRoom = ⊥
 
--- a file of which it tells is one of so many
+-- It isn't that the file is the leaf, whose merge is planned in another way; and a file of which it tells is one of so many.
 abbrev pub PlanHasFile : ℕ → PrepareRefusal → Type 0
+PlanHasFile count plan.LeafSource = ⊥
 PlanHasFile count (plan.MetadataFull file) = file < count
 PlanHasFile count other = ⊤
 
@@ -197,7 +202,6 @@ HasCause files disk before now (steps.IdUnfit id) = (ids : NewIds) × JudgesIds 
 HasCause files disk before now steps.ReadOnly = ⊥
 HasCause files disk before now (steps.NotInChain name) = ⊥
 HasCause files disk before now (steps.IsBase name) = ⊥
-HasCause files disk before now (steps.LeafSource name) = ⊥
 HasCause files disk before now (steps.LocatorTooLarge len) = ⊥
 HasCause files disk before now (steps.MetadataFull file) = ⊥
 
@@ -209,10 +213,15 @@ pub record HasNotRun (mode : Mode) (files : List LinkedFile) (old new : Disk) (b
   pub still : WhereBothTold (λ trace now. (other : ℕ) → other ≢ 0 → file_of now other ≡ file_of trace other) old.told new.told
   pub reading : is_reading mode ≡ true → (new.told ≡ old.told) × (now ≡ before)
 
+-- why no session started with the merge of the file of this name, which is the leaf, or isn't
+abbrev pub RefusesMergeOf : Bool → List LinkedFile → List ℕ → Disk → Disk → Option (List (List ℕ)) → Option (List (List ℕ)) → MergeStartRefusal → Type 0
+RefusesMergeOf true files name old new before now start = RefusesLeafMerge files old new before now start
+RefusesMergeOf false files name old new before now start = RefusesMerge files name old new before now start
+
 -- A script wasn't run in a session with a merge: the files' lengths weren't read, or the session didn't start.
 pub data HasNotMerged (files : List LinkedFile) (name : List ℕ) (old new : Disk) (before now : Option (List (List ℕ))) : StepsRefusal → Type 0 where
   unread : (refusal : ChainRefusal) → LeavesStoreBy old new (meaning_of_chain refusal) → now ≡ before → HasNotMerged files name old new before now (steps.Chain refusal)
-  not_started : (start : MergeStartRefusal) (refusal : StepsRefusal) → RefusesMerge files name old new before now start → EachOpensAlike files old.told new.told → IsMergeRefusal (names_of files) name start refusal
+  not_started : (start : MergeStartRefusal) (refusal : StepsRefusal) → RefusesMergeOf (is_leaf files name) files name old new before now start → EachOpensAlike files old.told new.told → IsMergeRefusal (names_of files) name start refusal
       → HasNotMerged files name old new before now refusal
 
 -- with a merge of the file of this name, if there is one
@@ -220,9 +229,14 @@ abbrev pub HasNotRunWith : Mode → Option (List ℕ) → List LinkedFile → Di
 HasNotRunWith mode None files old new before now refusal = HasNotRun mode files old new before now refusal
 HasNotRunWith mode (Some name) files old new before now refusal = HasNotMerged files name old new before now refusal
 
+-- a script was run in a session with the merge of the file of this name, which is the leaf, or isn't
+abbrev pub HasRunMergeOf : Bool → List LinkedFile → List ℕ → List (List ℕ) → List Line → ScriptRun → Disk → Disk → Option (List (List ℕ)) → Option (List (List ℕ)) → Type 0
+HasRunMergeOf true files name names lines run old new before now = HasRunLeafMerge files names lines run old new before now
+HasRunMergeOf false files name names lines run old new before now = HasRunMerge files name names lines run old new before now
+
 abbrev pub HasRunWith : Mode → Option (List ℕ) → List LinkedFile → List (List ℕ) → List Line → ScriptRun → Disk → Disk → Option (List (List ℕ)) → Option (List (List ℕ)) → Type 0
 HasRunWith mode None files names lines run old new before now = HasRunScript mode files names lines run old new before now
-HasRunWith mode (Some name) files names lines run old new before now = HasRunMerge files name names lines run old new before now
+HasRunWith mode (Some name) files names lines run old new before now = HasRunMergeOf (is_leaf files name) files name names lines run old new before now
 
 -- ---- over a folder
 
@@ -269,6 +283,24 @@ pub record JudgesMergeIn (linked : Linked) (name : List ℕ) (folder : Option (L
   pub shown : WhereTold folder (λ f. ShowIds (contents f) linked.files known)
   pub judged : first_unfit known (merge_ids ids) ≡ unfit
 
+-- So it is of the leaf.
+pub record JudgesLeafMergeIn (linked : Linked) (folder : Option (List Held)) (before now : Option (List (List ℕ))) (unfit : Option (List ℕ)) : Type 0 where
+  pub m : LeafFiles
+  pub ids : LeafMergeIds
+  pub unspent : spent_leaf linked.files ≡ None
+  pub begun : IsLeafBegun linked.files before now m ids
+  pub short : IsLinkShort m ids
+  pub link : WhereTold folder (λ f. HasRoomIn (contents f) m.source (leaf_pairs m ids))
+  pub retired : WhereTold folder (λ f. HasNameRoomIn (contents f) m.source (leaf_pairs m ids) m.target.name)
+  pub known : List (List ℕ)
+  pub shown : WhereTold folder (λ f. ShowIds (contents f) linked.files known)
+  pub judged : first_unfit known (leaf_merge_ids ids) ≡ unfit
+
+-- so it is of the file of this name, which is the leaf, or isn't
+abbrev pub JudgesMergeOf : Bool → Linked → List ℕ → Option (List Held) → Option (List (List ℕ)) → Option (List (List ℕ)) → Option (List ℕ) → Type 0
+JudgesMergeOf true linked name folder before now unfit = JudgesLeafMergeIn linked folder before now unfit
+JudgesMergeOf false linked name folder before now unfit = JudgesMergeIn linked name folder before now unfit
+
 -- the leaf's name is opened to this disk
 abbrev pub OpensIn : Linked → List Held → (GuestDisk → Type 0) → Type 0
 OpensIn linked folder P = (disk : GuestDisk) → OpensTo (files_of folder) (leaf_name linked) disk → P disk
@@ -285,16 +317,17 @@ pub record Rests (linked : Linked) (h : History) (folder : List Held) (old new :
   pub idle : StaysIdle old.folder new.folder
   pub opens : OpensIn linked folder (λ disk. WhereTold new.folder (λ after. OpensTo (files_of after) (leaf_name linked) (replay sector_size disk h)))
 
--- the file of this name is dropped from the chain by a merge
+-- the file of this name is dropped from the chain by a merge; and that name of a leaf leads where the leaf's does
 abbrev pub IsDroppedIn : Linked → List ℕ → Hosted → Type 0
-IsDroppedIn linked name now = (m : MergeFiles) × AreOf linked.files name m × WhereTold now.folder (λ after. LeadsTo (files_of after) (leaf_name linked) (left_names m))
+IsDroppedIn linked name now = (left : List (List ℕ)) × AreLeft linked.files name left × WhereTold now.folder (λ after. LeadsTo (files_of after) (leaf_name linked) left)
+    × (is_leaf linked.files name ≡ true → WhereTold now.folder (λ after. LeadsTo (files_of after) name left))
 
 -- lines were told so over the folder
 pub record RanIn (mode : Mode) (merge : Option (List ℕ)) (linked : Linked) (lines : List Line) (told : List Told) (closed : Result (Unit {0}) StoreFault) (folder : List Held) (old new : Hosted) : Type 0 where
   pub history : History
   pub course : Course
   pub broken : Option Break
-  pub told_so : OpensIn linked folder (λ disk. AreTold (drive_over (is_reading mode) disk) 1 [] (begun_course merge) None lines told history course broken)
+  pub told_so : OpensIn linked folder (λ disk. AreTold (drive_over (is_reading mode) disk) 1 [] (begun_course merge linked.files) None lines told history course broken)
   pub stands : Stands mode merge linked history broken folder old new
   pub rests : OnOk closed (Rests linked history folder old new)
   pub dropped : OnOk closed (course ≡ no_merge → IfSome merge (λ name. IsDroppedIn linked name new))
@@ -302,7 +335,7 @@ pub record RanIn (mode : Mode) (merge : Option (List ℕ)) (linked : Linked) (li
 abbrev pub DrawsOver : Mode → Option (List ℕ) → Linked → Option (List Held) → Option (List (List ℕ)) → Option (List (List ℕ)) → Type 0
 DrawsOver Guests None linked folder before now = JudgesDrawn linked folder before now None
 DrawsOver ReadOnly None linked folder before now = now ≡ before
-DrawsOver Guests (Some name) linked folder before now = JudgesMergeIn linked name folder before now None
+DrawsOver Guests (Some name) linked folder before now = JudgesMergeOf (is_leaf linked.files name) linked name folder before now None
 DrawsOver ReadOnly (Some name) linked folder before now = ⊥
 
 -- A script ran over the chain.
@@ -339,7 +372,6 @@ HasLeafCause linked folder before now (steps.IdUnfit id) = JudgesDrawn linked fo
 HasLeafCause linked folder before now steps.ReadOnly = ⊥
 HasLeafCause linked folder before now (steps.NotInChain name) = ⊥
 HasLeafCause linked folder before now (steps.IsBase name) = ⊥
-HasLeafCause linked folder before now (steps.LeafSource name) = ⊥
 HasLeafCause linked folder before now (steps.LocatorTooLarge len) = ⊥
 HasLeafCause linked folder before now (steps.MetadataFull file) = ⊥
 
@@ -362,10 +394,30 @@ HasMergeCause linked name folder before now (steps.IdUnfit id) = JudgesMergeIn l
 HasMergeCause linked name folder before now steps.ReadOnly = ⊥
 HasMergeCause linked name folder before now (steps.NotInChain other) = CantMerge linked name other HasNone before now
 HasMergeCause linked name folder before now (steps.IsBase other) = CantMerge linked name other HasLast before now
-HasMergeCause linked name folder before now (steps.LeafSource other) = CantMerge linked name other HasFirst before now
 HasMergeCause linked name folder before now (steps.LocatorTooLarge len) = (m : MergeFiles) × (ids : MergeIds) × BeginsMergeIn linked name before now m ids × IsTooLong len m ids
 HasMergeCause linked name folder before now (steps.MetadataFull file) =
     (m : MergeFiles) × (ids : MergeIds) × BeginsMergeIn linked name before now m ids × AreShort m ids × WhereTold folder (λ f. IsFullIn (contents f) m ids file)
+
+-- with a merge of the leaf
+pub record BeginsLeafMergeIn (linked : Linked) (before now : Option (List (List ℕ))) (m : LeafFiles) (ids : LeafMergeIds) : Type 0 where
+  pub unspent : spent_leaf linked.files ≡ None
+  pub begun : IsLeafBegun linked.files before now m ids
+
+abbrev pub HasLeafMergeCause : Linked → Option (List Held) → Option (List (List ℕ)) → Option (List (List ℕ)) → StepsRefusal → Type 0
+HasLeafMergeCause linked folder before now (steps.Chain refusal) = IsNoRule (meaning_of_chain refusal)
+HasLeafMergeCause linked folder before now (steps.Spent number) = (spent_leaf linked.files ≡ Some number) × (now ≡ before)
+HasLeafMergeCause linked folder before now (steps.IdUnfit id) = JudgesLeafMergeIn linked folder before now (Some id)
+HasLeafMergeCause linked folder before now steps.ReadOnly = ⊥
+HasLeafMergeCause linked folder before now (steps.NotInChain other) = ⊥
+HasLeafMergeCause linked folder before now (steps.IsBase other) = ⊥
+HasLeafMergeCause linked folder before now (steps.LocatorTooLarge len) = (m : LeafFiles) × (ids : LeafMergeIds) × BeginsLeafMergeIn linked before now m ids × IsLinkTooLong len m ids
+HasLeafMergeCause linked folder before now (steps.MetadataFull file) =
+    (m : LeafFiles) × (ids : LeafMergeIds) × BeginsLeafMergeIn linked before now m ids × IsLinkShort m ids × WhereTold folder (λ f. IsLeafFullIn (contents f) m ids file)
+
+-- with a merge of the file of this name, which is the leaf, or isn't
+abbrev pub HasMergeCauseOf : Bool → Linked → List ℕ → Option (List Held) → Option (List (List ℕ)) → Option (List (List ℕ)) → StepsRefusal → Type 0
+HasMergeCauseOf true linked name folder before now refusal = HasLeafMergeCause linked folder before now refusal
+HasMergeCauseOf false linked name folder before now refusal = HasMergeCause linked name folder before now refusal
 
 -- a merge where files are only read is refused for that alone
 abbrev pub IsBarred : Option (List (List ℕ)) → Option (List (List ℕ)) → StepsRefusal → Type 0
@@ -375,7 +427,7 @@ IsBarred before now other = ⊥
 
 abbrev pub HasCauseIn : Mode → Option (List ℕ) → Linked → Option (List Held) → Option (List (List ℕ)) → Option (List (List ℕ)) → StepsRefusal → Type 0
 HasCauseIn mode None linked folder before now refusal = HasLeafCause linked folder before now refusal
-HasCauseIn Guests (Some name) linked folder before now refusal = HasMergeCause linked name folder before now refusal
+HasCauseIn Guests (Some name) linked folder before now refusal = HasMergeCauseOf (is_leaf linked.files name) linked name folder before now refusal
 HasCauseIn ReadOnly (Some name) linked folder before now refusal = IsBarred before now refusal
 
 -- P, but where memory ran out and a merge was to start

@@ -13,6 +13,8 @@ use Rattle.link_rules.specs.Chains.{Links, names_of}
 use Rattle.link_rules.specs.Chains as chains
 use Rattle.link_rules.specs.Folders.{AllIdle, contents}
 use Rattle.link_rules.specs.Touches.{IsOnWay, TouchesSafely}
+use Rattle.link_rules.specs.declared.linked.LinkedFile.{LinkedFile}
+use Rattle.merge_plan.specs.LeafMerging.{AreOfLeaf, LeafFiles}
 use Rattle.merge_plan.specs.Merging.{AreOf, MergeFiles}
 use Rattle.script.specs.Grammar.{IsFirstBroken, IsScript}
 use Rattle.script.specs.Sources.{IsPartTaken, IsTaken}
@@ -27,7 +29,7 @@ use Rattle.vhdx_app.specs.Crashes.{AreSpared, OpensToFirst}
 use Rattle.vhdx_app.specs.Folders.{LeadsTo, OnlyFollows, files_of}
 use Rattle.vhdx_app.specs.Printed.{Prints, ShowsFault, ShowsRefusal}
 use Rattle.vhdx_app.specs.Refusals.{Refusal, OfChain}
-use Rattle.vhdx_app.specs.Starts.{DrawsFor, LeadsAt, RefusesSession, changed_names}
+use Rattle.vhdx_app.specs.Starts.{DrawsFor, LeadsAt, RefusesSession, changed_names, is_leaf}
 use Rattle.vhdx_app.specs.Worlds.{World}
 use Rattle.vhdx_app.specs.declared.status.Status.{Status}
 use Rattle.vhdx_app.specs.declared.status.Status.TheVariants.{Done, Refused, Usage, Fault, NoMemory, Findings}
@@ -47,10 +49,10 @@ pub record Ran : Type 0 where
 abbrev pub drive_over : Bool → Disk → Drive
 drive_over read_only disk = record { geometry = record { sector = sector_size; sectors = length disk }; can_change = not read_only; opening = disk }
 
--- how a merge stands when a session begins: of one with a merge no stripe is copied
-abbrev pub begun_course : Option (List ℕ) → Course
-begun_course None = no_merge
-begun_course (Some name) = just_started false
+-- how a merge stands when a session begins over these files: of one with a merge, of the leaf or of a file below it, no stripe is copied
+abbrev pub begun_course : Option (List ℕ) → List LinkedFile → Course
+begun_course None files = no_merge
+begun_course (Some name) files = just_started (is_leaf files name)
 
 -- the name of a leaf is opened to this disk
 abbrev pub OpensAt : List ℕ → World → (Disk → Type 0) → Type 0
@@ -59,7 +61,7 @@ OpensAt leaf w P = WhereTold w.host.folder (λ folder. (disk : Disk) → OpensTo
 -- The lines are the script's first ones, and they were told so over the disk to which the leaf's name was opened.
 pub record IsRunOf (leaf : List ℕ) (merge : Option (List ℕ)) (read_only : Bool) (before : World) (ran : Ran) : Type 0 where
   pub first : WhereTold before.left (λ bytes. (lines : List Line) → IsScript script.Steps bytes lines → (many : ℕ) × (ran.lines ≡ take many lines))
-  pub told_so : OpensAt leaf before (λ disk. AreTold (drive_over read_only disk) 1 [] (begun_course merge) None ran.lines ran.told ran.history ran.course ran.broken)
+  pub told_so : LeadsAt leaf before (λ linked. OpensAt leaf before (λ disk. AreTold (drive_over read_only disk) 1 [] (begun_course merge linked.files) None ran.lines ran.told ran.history ran.course ran.broken))
 
 -- ---- what is printed
 
@@ -145,11 +147,21 @@ pub record SparesOthers (leaf : List ℕ) (merge : Option (List ℕ)) (read_only
 abbrev pub left_names : MergeFiles → List (List ℕ)
 left_names m = names_of (m.above ++ m.child ∷ m.target ∷ m.below)
 
+-- and of one of the leaf
+abbrev pub leaf_left_names : LeafFiles → List (List ℕ)
+leaf_left_names m = names_of (m.target ∷ m.below)
+
+-- the names of these files without the one of this name, which is merged
+pub data AreLeft (files : List LinkedFile) (name : List ℕ) : List (List ℕ) → Type 0 where
+  by_leaf : (m : LeafFiles) → is_leaf files name ≡ true → AreOfLeaf files m → AreLeft files name (leaf_left_names m)
+  by_other : (m : MergeFiles) → is_leaf files name ≡ false → AreOf files name m → AreLeft files name (left_names m)
+
 -- The file of this name is dropped from the chain by a merge that is finished: the leaf's name, which led to the chain with it, leads to
--- its other files.
+-- its other files. So does the name that was given, if it is that of the chain's leaf: its files are then those from the parent on.
 abbrev pub IsDropped : List ℕ → List ℕ → World → World → Type 0
 IsDropped leaf name before now =
-    LeadsAt leaf before (λ linked. (m : MergeFiles) × AreOf linked.files name m × WhereTold now.host.folder (λ after. LeadsTo (files_of after) leaf (left_names m)))
+    LeadsAt leaf before (λ linked. (left : List (List ℕ)) × AreLeft linked.files name left × WhereTold now.host.folder (λ after. LeadsTo (files_of after) leaf left)
+    × (is_leaf linked.files name ≡ true → WhereTold now.host.folder (λ after. LeadsTo (files_of after) name left)))
 
 -- A run came to its end: no fault ended it, and memory didn't run out before a line was run in a session with a merge.
 pub record HasRested (merge : Option (List ℕ)) (ran : Ran) (status : Status) : Type 0 where

@@ -38,9 +38,7 @@ fn plan_refused(
         PrepareRefusal::IsBase => Ok(StepsRefusal::IsBase {
             name: source.try_clone(alloc)?,
         }),
-        PrepareRefusal::LeafSource => Ok(StepsRefusal::LeafSource {
-            name: source.try_clone(alloc)?,
-        }),
+        PrepareRefusal::LeafSource => unreachable!(),
         PrepareRefusal::LocatorTooLarge { len } => Ok(StepsRefusal::LocatorTooLarge { len }),
         PrepareRefusal::MetadataFull { file } => Ok(StepsRefusal::MetadataFull {
             file: names[file as usize].try_clone(alloc)?,

@@ -1,16 +1,17 @@
 //! The command that runs a script over the disk of a leaf.
 
-ghost use Rattle.std.specs.Prelude.{◌≡◌, ◌≤◌, ◌^◌, All, IfErr, IfOk, IfSome, OnOk, false, length, option_map};
+ghost use Rattle.std.specs.Prelude.{◌≡◌, ◌≤◌, ◌^◌, All, IfErr, IfOk, IfSome, OnOk, false, true, length, option_map};
 ghost use Rattle.chain_model.specs.Members.{NoneTwice};
 ghost use Rattle.link_rules.specs.Chains.{most_files, names_of as file_names};
 ghost use Rattle.link_rules.specs.Effects.{IsServed, linked_names};
 ghost use Rattle.link_rules.specs.Folders.{AllIdle};
 ghost use Rattle.link_rules.specs.Lines.{IsLine};
-ghost use Rattle.script_session.specs.MergeRunning.{HasRunMerge};
+ghost use Rattle.script_session.specs.MergeRunning.{HasRunLeafMerge, HasRunMerge};
 ghost use Rattle.script_session.specs.Running.{HasRunScript};
 ghost use Rattle.store_model.specs.Disk.{WhereTold};
-ghost use Rattle.vhdx_app.specs.Sessions.{AreLent, CanMerge, HasNotMerged, HasNotRun, HasNotRunWith, HasRunWith, IsBarredMerge, IsChainIn, LeafIsRun, NotRunOver, RunOver, mode_of};
+ghost use Rattle.vhdx_app.specs.Sessions.{AreLent, CanMerge, HasNotMerged, HasNotRun, HasNotRunWith, HasRunMergeOf, HasRunWith, IsBarredMerge, IsChainIn, LeafIsRun, NotRunOver, RunOver, mode_of};
 ghost use Rattle.vhdx_app.specs.declared.refusal.StepsRefusal.TheVariants as steps;
+ghost use Rattle.vhdx_app.specs.Starts.{is_leaf};
 ghost use Rattle.vhdx_app.specs.Steps.{RunsSteps};
 ghost use Rattle.vhdx_app.specs.Runs.{Ends, HasMerge};
 ghost use Rattle.vhdx_app.specs.Worlds.{world};
@@ -28,7 +29,7 @@ use chain_core::Mode;
 use link_rules::{Linked, LinkedFile, order};
 use merge_core::Piece;
 use script::{Line, ScriptKind, script_from};
-use script_session::{ScriptRun, run_merge, run_script, sector_room};
+use script_session::{ScriptRun, run_leaf_merge, run_merge, run_script, sector_room};
 use std::alloc::Global;
 use store_model::{Host, Ids, Sink, Source, Store};
 use vx_base::{Name, NoRoom};
@@ -67,8 +68,18 @@ fn run_lent<S: Store, I: Ids>(
     }
 }
 
-// Runs a script over the store's files in a session with the merge of the source.
-fn merge_lent<S: Store, I: Ids>(
+// Whether the first of these files, the leaf, has this name and a parent.
+fn is_leaf(files: &[LinkedFile], name: &Name) -> bool
+    ensures { result ≡ is_leaf files.now name.now }
+{
+    match files {
+        [leaf, _, ..] => leaf.name == *name,
+        _ => false,
+    }
+}
+
+// Runs a script over the store's files in a session with the merge of the leaf, which has this name.
+fn merge_leaf<S: Store, I: Ids>(
     alloc: Global,
     mut store: S,
     files: &[LinkedFile],
@@ -79,6 +90,43 @@ fn merge_lent<S: Store, I: Ids>(
     piece: &mut Piece,
     room: &mut [u8],
 ) -> (S, Result<ScriptRun, StepsRefusal>)
+    requires leaf { is_leaf files.now source.now ≡ true }
+    requires all { (S.disk store).files ≡ length files.now }
+    requires few { length files.now ≤ most_files }
+    requires once { NoneTwice (file_names files.now) }
+    requires served { All IsServed files.now }
+    requires line { IsLine files.now }
+    requires names { names.now ≡ file_names files.now }
+    requires lines { length lines.now ≤ 2 ^ 20 }
+    requires slot { piece.old.filled ≡ false }
+    requires room { length room.old ≡ 1048576 }
+    requires lent { WhereTold (S.disk store).told (AreLent files.now) }
+    ensures ran { IfOk result.1 (λ run. HasRunLeafMerge files.now names.now lines.now run (S.disk store) (S.disk result.0) (I.drawn ids.old) (I.drawn ids.new)) }
+    ensures err { IfErr result.1 (HasNotMerged files.now source.now (S.disk store) (S.disk result.0) (I.drawn ids.old) (I.drawn ids.new)) }
+{
+    if let Err(refusal) = check_lengths(&mut store, files.len() as u32) {
+        return (store, Err(StepsRefusal::Chain(refusal)));
+    }
+    let (store, run) = run_leaf_merge(alloc, store, files, names, ids, lines, piece, room);
+    match run {
+        Ok(run) => (store, Ok(run)),
+        Err(refusal) => (store, Err(merge_refused(alloc, names, source, refusal))),
+    }
+}
+
+// Runs a script over the store's files in a session with the merge of the source, which isn't the leaf.
+fn merge_below<S: Store, I: Ids>(
+    alloc: Global,
+    mut store: S,
+    files: &[LinkedFile],
+    names: &[Name],
+    source: &Name,
+    ids: &mut I,
+    lines: &[Line],
+    piece: &mut Piece,
+    room: &mut [u8],
+) -> (S, Result<ScriptRun, StepsRefusal>)
+    requires below { is_leaf files.now source.now ≡ false }
     requires all { (S.disk store).files ≡ length files.now }
     requires few { length files.now ≤ most_files }
     requires once { NoneTwice (file_names files.now) }
@@ -99,6 +147,38 @@ fn merge_lent<S: Store, I: Ids>(
     match run {
         Ok(run) => (store, Ok(run)),
         Err(refusal) => (store, Err(merge_refused(alloc, names, source, refusal))),
+    }
+}
+
+// Runs a script over the store's files in a session with the merge of the source.
+fn merge_lent<S: Store, I: Ids>(
+    alloc: Global,
+    store: S,
+    files: &[LinkedFile],
+    names: &[Name],
+    source: &Name,
+    ids: &mut I,
+    lines: &[Line],
+    piece: &mut Piece,
+    room: &mut [u8],
+) -> (S, Result<ScriptRun, StepsRefusal>)
+    requires all { (S.disk store).files ≡ length files.now }
+    requires few { length files.now ≤ most_files }
+    requires once { NoneTwice (file_names files.now) }
+    requires served { All IsServed files.now }
+    requires line { IsLine files.now }
+    requires names { names.now ≡ file_names files.now }
+    requires lines { length lines.now ≤ 2 ^ 20 }
+    requires slot { piece.old.filled ≡ false }
+    requires room { length room.old ≡ 1048576 }
+    requires lent { WhereTold (S.disk store).told (AreLent files.now) }
+    ensures ran { IfOk result.1 (λ run. HasRunMergeOf (is_leaf files.now source.now) files.now source.now names.now lines.now run (S.disk store) (S.disk result.0) (I.drawn ids.old) (I.drawn ids.new)) }
+    ensures err { IfErr result.1 (HasNotMerged files.now source.now (S.disk store) (S.disk result.0) (I.drawn ids.old) (I.drawn ids.new)) }
+{
+    if is_leaf(files, source) {
+        merge_leaf(alloc, store, files, names, source, ids, lines, piece, room)
+    } else {
+        merge_below(alloc, store, files, names, source, ids, lines, piece, room)
     }
 }
 

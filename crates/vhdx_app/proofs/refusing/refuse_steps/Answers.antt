@@ -1,5 +1,5 @@
 use Rattle.std.proofs.Common.{inl}
-use Rattle.vhdx_app.specs.Refusals.{IsBase, LeafSource, MetadataFull, NotInChain}
+use Rattle.vhdx_app.specs.Refusals.{IsBase, MetadataFull, NotInChain}
 use Rattle.vhdx_app.specs.Sessions.{meaning_of_steps}
 use Rattle.vhdx_app.specs.declared.refusal.StepsRefusal.TheVariants as steps
 use Rattle.vhdx_app.specs.declared.status.Status.TheVariants.{Refused}
@@ -23,11 +23,6 @@ pub returns-in-IsBase : goal.returns-in-IsBase
 returns-in-IsBase g c =
     reports_for meaning_of_steps _ _ _ _ _ c.args.refusal (steps.IsBase c.in-IsBase.name) c.in-IsBase.is
     (named_said _ _ _ _ _ c.is_base_line-line.result IsBase _ c.in-IsBase.name c.as_str-in-IsBase.ensures c.is_base_line-line.ensures c.say-in-IsBase.ensures)
-
-pub returns-in-LeafSource : goal.returns-in-LeafSource
-returns-in-LeafSource g c =
-    reports_for meaning_of_steps _ _ _ _ _ c.args.refusal (steps.LeafSource c.in-LeafSource.name) c.in-LeafSource.is
-    (named_said _ _ _ _ _ c.leaf_source_line-line.result LeafSource _ c.in-LeafSource.name c.as_str-in-LeafSource.ensures c.leaf_source_line-line.ensures c.say-in-LeafSource.ensures)
 
 pub returns-in-MetadataFull : goal.returns-in-MetadataFull
 returns-in-MetadataFull g c =
