@@ -10,8 +10,8 @@ program=$top/crates/vhdx/out/vhdx
 # The calls of scripts once more, as qemu-io takes them: it counts bytes.
 as_qemu() {
   for calls in "$@"; do
-    awk '$1 == "write" { printf "write -q -P 0x%s %d %d\n", $4, 512 * $2, 512 * $3 }
-         $1 == "read" { printf "read -q %d %d\n", 512 * $2, 512 * $3 }
+    awk '$1 == "write" { printf "write -q -P 0x%s %.0f %d\n", $4, 512 * $2, 512 * $3 }
+         $1 == "read" { printf "read -q %.0f %d\n", 512 * $2, 512 * $3 }
          $1 == "flush" { print "flush" }' "$calls" > "$calls.qemu"
   done
 }
