@@ -317,7 +317,7 @@ pub record Rests (linked : Linked) (h : History) (folder : List Held) (old new :
   pub idle : StaysIdle old.folder new.folder
   pub opens : OpensIn linked folder (λ disk. WhereTold new.folder (λ after. OpensTo (files_of after) (leaf_name linked) (replay sector_size disk h)))
 
--- the file of this name is dropped from the chain by a merge; and that name of a leaf leads where the leaf's does
+-- the file of this name is dropped from the chain by a merge; if it was the leaf, that name leads to the other files too
 abbrev pub IsDroppedIn : Linked → List ℕ → Hosted → Type 0
 IsDroppedIn linked name now = (left : List (List ℕ)) × AreLeft linked.files name left × WhereTold now.folder (λ after. LeadsTo (files_of after) (leaf_name linked) left)
     × (is_leaf linked.files name ≡ true → WhereTold now.folder (λ after. LeadsTo (files_of after) name left))

@@ -49,7 +49,8 @@ merged_with (child ∷ source ∷ []) name = []
 merged_with (child ∷ source ∷ target ∷ below) name =
     if bytes_eq source.name name then source.name ∷ target.name ∷ child.name ∷ merged_with (source ∷ target ∷ below) name else merged_with (source ∷ target ∷ below) name
 
--- those of the files that the session of a chain may change: the leaf, and with a merge its target, or these
+-- those of the files that the session of a chain may change: the leaf; with a merge of the leaf also its parent, and with one of another file
+-- those of that merge
 abbrev pub changed_names : Option (List ℕ) → List LinkedFile → List (List ℕ)
 changed_names merge [] = []
 changed_names None (leaf ∷ others) = leaf.name ∷ []
@@ -180,7 +181,7 @@ pub data RefusesLeafMerge (leaf : List ℕ) (before now : World) : Refusal → T
       → WhereTold before.host.folder (λ folder. IsLeafFullIn (contents folder) m ids file) → RefusesLeafMerge leaf before now (MetadataFull file)
   leaf_unfit : (id : List ℕ) → JudgesLeafMerge leaf before now (Some id) → RefusesLeafMerge leaf before now (IdUnfit id)
 
--- ---- all
+-- ---- whichever it is
 
 -- The one, where the file of this name is the leaf and has a parent; and else the other.
 pub data IfLeaf (leaf name : List ℕ) (before : World) (of_leaf of_other : Type 0) : Type 0 where

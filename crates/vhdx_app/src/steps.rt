@@ -324,8 +324,8 @@ fn names_in(alloc: Global, leaf: &str, merge: Option<&str>) -> Result<(Name, Opt
     }
 }
 
-/// Reads a script from the source, runs it over the disk of the chain to which a leaf's name leads, with the merge of the file of
-/// another name, if one is given, and prints its transcript; or why it wasn't run.
+/// Reads a script from the source, runs it over the disk of the chain to which a leaf's name leads, with the merge of the file of a
+/// name, the leaf or one below it, if a name is given, and prints its transcript; or why it wasn't run.
 pub fn steps<H: Host, I: Ids, S: Source, K: Sink>(
     alloc: Global,
     host: &mut H,
