@@ -288,7 +288,7 @@ fn close<S: Store>(store: &mut S, source: Layer) -> Result<ReadLayer, SealFault>
 }
 
 /// Why no session with a merge started.
-#[derive(Clone, Copy, Debug, PartialEq, Eq)]
+#[derive(Clone, Copy)]
 pub enum MergeStartRefusal {
     /// 36: the number of a header of the files to be written leaves no room for those of a session: the leaf's, or the first of child,
     /// source and target that has such a number, of the merge of the leaf its target's. Nothing was drawn or changed.

@@ -28,7 +28,7 @@ pub(crate) const LEAF_PAGES: u32 = 256;
 pub(crate) const OTHER_PAGES: u32 = 64;
 
 /// What a session is for.
-#[derive(Clone, Copy, Debug, PartialEq, Eq)]
+#[derive(Clone, Copy)]
 pub enum Mode {
     /// Guests read and write.
     Guests,
@@ -37,7 +37,7 @@ pub enum Mode {
 }
 
 /// Why no session started.
-#[derive(Clone, Copy, Debug, PartialEq, Eq)]
+#[derive(Clone, Copy)]
 pub enum StartRefusal {
     /// 36: the number of the leaf's header leaves no room for those of a session. Nothing was drawn or changed.
     Spent { number: u64 },

@@ -35,7 +35,7 @@ const MOST_BLOCKS: usize = 257;
 
 /// Why a call didn't do what was asked: a read of the file failed, or a change of it; or a block would end behind the
 /// greatest unit, where `next` is the unit at the file's end.
-#[derive(Clone, Copy, Debug, PartialEq, Eq)]
+#[derive(Clone, Copy)]
 pub enum LayerFault {
     Read(StoreFault),
     Write(StoreFault),

@@ -21,7 +21,7 @@ use store_model::Store;
 
 /// Where sectors of one block are to be written; and where they are to be marked first, the entry of the sector bitmap block that
 /// has their bits.
-#[derive(Clone, Copy, Debug, PartialEq, Eq)]
+#[derive(Clone, Copy)]
 pub struct Spot {
     pub place: u64,
     pub bitmap: u64,

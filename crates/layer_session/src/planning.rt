@@ -21,7 +21,7 @@ const PIECE: u64 = 2_048;
 const PIECE_BYTES: usize = 256;
 
 /// What a call does to a block.
-#[derive(Clone, Copy, Debug, PartialEq, Eq)]
+#[derive(Clone, Copy)]
 pub enum Step {
     /// It becomes a block of zeros without a place.
     Drop,
@@ -38,7 +38,7 @@ pub enum Step {
 }
 
 /// What is to be done with a block, its entry as it was found, and that of its sector bitmap block where that is looked at.
-#[derive(Clone, Copy, Debug, PartialEq, Eq)]
+#[derive(Clone, Copy)]
 pub struct Plan {
     pub step: Step,
     pub word: u64,
@@ -46,7 +46,7 @@ pub struct Plan {
 }
 
 /// What the rest of a call wants: so many blocks and sector bitmap blocks are to be made.
-#[derive(Clone, Copy, Debug, PartialEq, Eq)]
+#[derive(Clone, Copy)]
 pub struct Wanted {
     pub blocks: u64,
     pub bitmaps: u64,

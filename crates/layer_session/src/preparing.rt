@@ -35,7 +35,7 @@ const PAGE_BITS: u64 = 32_768;
 
 /// The bits of one chunk that the steps of a call change: the entry of their sector bitmap block as it was planned, the
 /// sector of the first bit, and the one behind the last.
-#[derive(Clone, Copy, Debug, PartialEq, Eq)]
+#[derive(Clone, Copy)]
 pub struct Bits {
     pub word: u64,
     pub first: u64,
@@ -266,7 +266,7 @@ fn bring_chunk<S: Store>(
 }
 
 /// Whether the sector bitmap blocks of a call's first and last chunk are to be made; of the last if it is another one.
-#[derive(Clone, Copy, Debug, PartialEq, Eq)]
+#[derive(Clone, Copy)]
 pub struct Missing {
     pub near: bool,
     pub far: bool,

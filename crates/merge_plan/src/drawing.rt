@@ -18,7 +18,7 @@ use store_model::{Ids, Store};
 use vx_base::{Guid, NoRoom};
 
 /// New identifiers of a file whose data change: of the file's writes, of its data and of its log.
-#[derive(Clone, Copy, Debug, PartialEq, Eq)]
+#[derive(Clone, Copy)]
 pub struct NewIds {
     pub file_write: Guid,
     pub data_write: Guid,
@@ -26,7 +26,7 @@ pub struct NewIds {
 }
 
 /// New identifiers of a file whose data stay what they are: of the file's writes and of its log.
-#[derive(Clone, Copy, Debug, PartialEq, Eq)]
+#[derive(Clone, Copy)]
 pub struct LogIds {
     pub file_write: Guid,
     pub log: Guid,
@@ -34,7 +34,7 @@ pub struct LogIds {
 
 /// New identifiers of the files that a merge has sessions of; those of the child, the file above the source, where it isn't the
 /// leaf.
-#[derive(Clone, Copy, Debug, PartialEq, Eq)]
+#[derive(Clone, Copy)]
 pub struct MergeIds {
     pub leaf: NewIds,
     pub source: LogIds,

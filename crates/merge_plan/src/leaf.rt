@@ -25,7 +25,7 @@ use store_model::{Ids, Store};
 use vx_base::Guid;
 
 /// The merge of a leaf that is planned: nothing of it is written yet. The source is the leaf, the target the next file.
-#[derive(Debug, Drop)]
+#[derive(Drop)]
 pub struct LeafMerge {
     /// The identifiers that were drawn.
     pub ids: LeafMergeIds,

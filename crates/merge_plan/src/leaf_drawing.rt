@@ -10,7 +10,7 @@ use store_model::Ids;
 use vx_base::Guid;
 
 /// New identifiers of the two files that the merge of a leaf has sessions of.
-#[derive(Clone, Copy, Debug, PartialEq, Eq)]
+#[derive(Clone, Copy)]
 pub struct LeafMergeIds {
     /// Of the leaf, which is the source.
     pub leaf: NewIds,

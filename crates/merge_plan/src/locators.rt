@@ -16,7 +16,7 @@ use std::alloc::Global;
 use vx_base::{Bytes, Guid, NoRoom};
 
 /// The new locators of source and child.
-#[derive(Debug, Drop)]
+#[derive(Drop)]
 pub struct NewLocators {
     pub twice: Locator,
     pub once: Locator,

@@ -25,7 +25,7 @@ use store_model::{Ids, Store};
 use vx_base::{Name, Parts};
 
 /// A merge that is planned: nothing of it is written yet.
-#[derive(Debug, Drop)]
+#[derive(Drop)]
 pub struct Merge {
     /// The source's place in the chain, counted from the leaf, which has 0. The target is the next file, the child the one before.
     pub source: u32,

@@ -6,7 +6,7 @@ use store_model::StoreFault;
 use vx_base::{Guid, NoRoom};
 
 /// Why no merge is planned. Nothing was changed. Identifiers were drawn unless the file of the name can't be merged.
-#[derive(Clone, Copy, Debug, PartialEq, Eq)]
+#[derive(Clone, Copy)]
 pub enum PrepareRefusal {
     /// 40: the chain has no file of this name.
     NotInChain,

@@ -23,7 +23,7 @@ use vhdx_format::{Locator, Page};
 use vx_base::{Name, NoRoom, Parts};
 
 /// The items that change while a chain is merged.
-#[derive(Clone, Copy, Debug, PartialEq, Eq)]
+#[derive(Clone, Copy)]
 pub enum ItemKind {
     /// The item that names the parent.
     Locator,
@@ -32,7 +32,7 @@ pub enum ItemKind {
 }
 
 /// Why an item isn't changed.
-#[derive(Clone, Copy, Debug, PartialEq, Eq)]
+#[derive(Clone, Copy)]
 pub enum MetaRefusal {
     /// A locator of more bytes than one may have.
     LocatorTooLarge { len: u64 },

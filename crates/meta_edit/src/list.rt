@@ -9,7 +9,7 @@ use std::marker::Model;
 use vhdx_format::Page;
 
 /// Changed pages, no two of them at one place; seen as the list of them.
-#[derive(Debug, Drop)]
+#[derive(Drop)]
 pub struct Updates {
     pages: Vec<Page>,
 }

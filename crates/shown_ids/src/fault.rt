@@ -4,7 +4,7 @@ use store_model::StoreFault;
 use vx_base::NoRoom;
 
 /// Why nothing was collected.
-#[derive(Clone, Copy, Debug, PartialEq, Eq)]
+#[derive(Clone, Copy)]
 pub enum CollectFault {
     /// A read of the file failed.
     Store(StoreFault),
