@@ -1,7 +1,8 @@
 -- The files below the leaf that stay when a merge is finished: their numbers stay whatever the steps of the merge do.
-use Rattle.std.proofs.Common.{◌≡◌, ◌+◌, ℕ, Bool, true, false, List, [], ◌∷◌, ◌++◌, length, map, refl, sym, ap, ap₂, ◌∙◌}
+use Rattle.std.proofs.Common.{◌≡◌, ◌+◌, ◌==◌, ◌⊎◌, inl, inr, absurd, subst, ℕ, Bool, true, false, List, [], ◌∷◌, ◌++◌, length, map, refl, sym, ap, ap₂, ◌∙◌}
 use Rattle.std.specs.Prelude.{Option}
 use Rattle.std.specs.List.{AllByRecursion}
+use Rattle.std.proofs.lemmas.Bool.{eq-eqb, eqb-true}
 use Rattle.std.proofs.lemmas.List.{append_assoc, map-append}
 use Rattle.vx_base.specs.declared.parts.Parts.{Parts}
 use Rattle.vhdx_format.specs.declared.log_entry.Page.{Page}
@@ -22,7 +23,7 @@ use Rattle.chain_core.specs.Merging.{put_on, with_piece, with_put}
 use Rattle.chain_core.specs.Starting.{placed_from}
 use Rattle.chain_core.specs.States.{Rest, State, merging, others_of, plain, retiring}
 use Rattle.chain_core.proofs.MergeFound.{AreFound, child_opened, opened_above, rest_opened, target_opened}
-use Rattle.script_session.specs.Histories.{IsLater, names_left, numbers_left, staying}
+use Rattle.script_session.specs.Histories.{GoesOn, HasRetired, IsLater, merges_leaf, names_left, numbers_left, staying}
 
 abbrev pub number_of : Placed → ℕ
 number_of f = f.number
@@ -76,6 +77,47 @@ names_put piece v = by_rest v.top v.rest
     by_rest top (retiring target below first before) = refl
     by_rest top (merging above source target below m) = ap (λ ns. name_of top ∷ ns) (map-append name_of above (with_piece piece target ∷ below) ∙ sym (map-append name_of above (target ∷ below)))
 
+-- ---- what a later state may change
+
+never_both : {P : Type 0} {b : Bool} → b ≡ true → b ≡ false → P
+never_both {P} {b} is isnt = absurd (let bad : true ≡ false = sym is ∙ isnt in cc)
+
+gone : (v : State) → (if v.top.number == v.top.number then false else v.writes v.top.number) ≡ false
+gone v = ap (λ (b : Bool). if b then false else v.writes v.top.number) (eq-eqb v.top.number v.top.number refl)
+
+-- what isn't written stays so
+gone_too : (v : State) (n : ℕ) → v.writes n ≡ false → (if n == v.top.number then false else v.writes n) ≡ false
+gone_too v n none = by_test (n == v.top.number)
+  where
+    by_test : (b : Bool) → (if b then false else v.writes n) ≡ false
+    by_test true = refl
+    by_test false = none
+
+-- what isn't written any more is the leaf
+is_leaf : (v : State) (n : ℕ) → v.writes n ≡ true → (if n == v.top.number then false else v.writes n) ≡ false → n ≡ v.top.number
+is_leaf v n some none = by_test (n == v.top.number) refl none
+  where
+    by_test : (b : Bool) → (n == v.top.number) ≡ b → (if b then false else v.writes n) ≡ false → n ≡ v.top.number
+    by_test true e none = eqb-true n v.top.number e
+    by_test false e none = never_both some none
+
+pub later_writes : (v later : State) → GoesOn v later ⊎ HasRetired v later → (n : ℕ) → v.writes n ≡ false → later.writes n ≡ false
+later_writes v later (inl goes) n none = ap (λ f. f n) goes.writes ∙ none
+later_writes v later (inr done) n none = ap (λ f. f n) done.writes ∙ gone_too v n none
+
+pub later_since : (v later : State) → GoesOn v later ⊎ HasRetired v later → (n : ℕ) → v.writes n ≡ false → file_of later.since n ≡ file_of v.since n
+later_since v later (inl goes) n none = ap (λ t. file_of t n) goes.since
+later_since v later (inr done) n none = done.since n none
+
+pub later_number : (v later : State) → GoesOn v later ⊎ HasRetired v later → later.writes v.top.number ≡ true → later.top.number ≡ v.top.number
+later_number v later (inl goes) own = goes.number
+later_number v later (inr done) own = never_both own (ap (λ f. f v.top.number) done.writes ∙ gone v)
+
+-- what a state wrote and a later one doesn't is at rest since
+later_rests : (v later : State) → GoesOn v later ⊎ HasRetired v later → (n : ℕ) → v.writes n ≡ true → later.writes n ≡ false → is_synced (file_of later.since n) ≡ true
+later_rests v later (inl goes) n some none = never_both some (sym (ap (λ f. f n) goes.writes) ∙ none)
+later_rests v later (inr done) n some none = ap (λ k. is_synced (file_of later.since k)) (is_leaf v n some (sym (ap (λ f. f n) done.writes) ∙ none)) ∙ done.rests
+
 -- what a state wrote is at rest where what it writes now is
 pub own_synced : (v later : State) (h : History) (now : Trace) → IsLater v h later → ((n : ℕ) → later.writes n ≡ false → file_of now n ≡ file_of later.since n) → (n : ℕ) → v.writes n ≡ true → (later.writes n ≡ true → is_synced (file_of now n) ≡ true)
     → is_synced (file_of now n) ≡ true
@@ -83,30 +125,78 @@ own_synced v later h now is still n some own = by_write (later.writes n) refl
   where
     by_write : (b : Bool) → later.writes n ≡ b → is_synced (file_of now n) ≡ true
     by_write true e = own e
-    by_write false e = ap is_synced (still n e) ∙ is.rests n some e
+    by_write false e = ap is_synced (still n e) ∙ later_rests v later is.goes n some e
+
+-- ---- steps
 
 -- no step at all
 pub later_itself : (v : State) → IsLater v v.history v
-later_itself v = record { leaf = refl; number = λ own. refl; opening = refl; began = refl; writes = λ n none. none; since = λ n none. refl; rests = λ n some none. absurd (let bad : true ≡ false = sym some ∙ none in cc); left = refl; names = refl; history = refl }
+later_itself v = record { leaf = refl; opening = refl; began = refl; left = refl; names = refl; history = refl; goes = inl (record { number = refl; name = refl; retired = refl; writes = refl; since = refl; merges = refl }) }
 
--- a step that leaves the same files, what it may change and since when
-pub later_same : (v w : State) (h : History) (later : State) → w.leaf ≡ v.leaf → w.top.number ≡ v.top.number → w.opening ≡ v.opening → w.began ≡ v.began → w.writes ≡ v.writes → w.since ≡ v.since → numbers_left w ≡ numbers_left v → names_left w ≡ names_left v
+goes_twice : (v w later : State) → GoesOn v w → GoesOn w later → GoesOn v later
+goes_twice v w later one more = record {
+  number = more.number ∙ one.number;
+  name = more.name ∙ one.name;
+  retired = more.retired ∙ one.retired;
+  writes = more.writes ∙ one.writes;
+  since = more.since ∙ one.since;
+  merges = more.merges ∙ one.merges;
+}
+
+retires_after : (v w later : State) → GoesOn v w → HasRetired w later → HasRetired v later
+retires_after v w later one done = record {
+  leaf = done.leaf;
+  merges = sym one.merges ∙ done.merges;
+  ended = done.ended;
+  number = done.number ∙ one.number;
+  name = done.name ∙ one.name;
+  retired = done.retired ∙ ap (λ files. files ++ done.leaf ∷ []) one.retired;
+  writes = done.writes ∙ ap₂ (λ (k : ℕ) (f : ℕ → Bool). λ n. if n == k then false else f n) one.number one.writes;
+  since = λ n none. done.since n (ap (λ f. f n) one.writes ∙ none) ∙ ap (λ t. file_of t n) one.since;
+  rests = subst (λ k. is_synced (file_of later.since k) ≡ true) one.number done.rests;
+}
+
+goes_after : (v w later : State) → HasRetired v w → GoesOn w later → HasRetired v later
+goes_after v w later done more = record {
+  leaf = done.leaf;
+  merges = done.merges;
+  ended = more.merges ∙ done.ended;
+  number = done.number;
+  name = done.name;
+  retired = more.retired ∙ done.retired;
+  writes = more.writes ∙ done.writes;
+  since = λ n none. ap (λ t. file_of t n) more.since ∙ done.since n none;
+  rests = ap (λ t. is_synced (file_of t v.top.number)) more.since ∙ done.rests;
+}
+
+-- a leaf is merged once in a session
+later_goes : (v w later : State) → GoesOn v w ⊎ HasRetired v w → GoesOn w later ⊎ HasRetired w later → GoesOn v later ⊎ HasRetired v later
+later_goes v w later (inl one) (inl more) = inl (goes_twice v w later one more)
+later_goes v w later (inl one) (inr done) = inr (retires_after v w later one done)
+later_goes v w later (inr done) (inl more) = inr (goes_after v w later done more)
+later_goes v w later (inr done) (inr again) = never_both again.merges done.ended
+
+-- a step that leaves the same files in the chain
+pub later_same : (v w : State) (h : History) (later : State) → w.leaf ≡ v.leaf → w.opening ≡ v.opening → w.began ≡ v.began → numbers_left w ≡ numbers_left v → names_left w ≡ names_left v → GoesOn v w ⊎ HasRetired v w
     → IsLater w h later → IsLater v h later
-later_same v w h later leaf number opening began writes since left names is = record {
+later_same v w h later leaf opening began left names goes is = record {
   leaf = is.leaf ∙ leaf;
-  number = λ own. is.number (ap later.writes number ∙ own) ∙ number;
   opening = is.opening ∙ opening;
   began = is.began ∙ began;
-  writes = λ n none. is.writes n (ap (λ f. f n) writes ∙ none);
-  since = λ n none. is.since n (ap (λ f. f n) writes ∙ none) ∙ ap (λ t. file_of t n) since;
-  rests = λ n some none. is.rests n (ap (λ f. f n) writes ∙ some) none;
   left = is.left ∙ left;
   names = is.names ∙ names;
   history = is.history;
+  goes = later_goes v w later goes is.goes;
 }
 
+merges_put : (piece : Piece) (rest : Rest) → merges_leaf (put_on piece rest) ≡ merges_leaf rest
+merges_put piece (plain others) = refl
+merges_put piece (merging above source target below m) = refl
+merges_put piece (retiring target below first before) = refl
+
 pub later_put : (v : State) (piece : Piece) (h : History) (later : State) → IsLater (with_put piece v) h later → IsLater v h later
-later_put v piece h later is = later_same v (with_put piece v) h later refl refl refl refl refl refl (numbers_put piece v) (names_put piece v) is
+later_put v piece h later is =
+    later_same v (with_put piece v) h later refl refl refl (numbers_put piece v) (names_put piece v) (inl (record { number = refl; name = refl; retired = refl; writes = refl; since = refl; merges = merges_put piece v.rest })) is
 
 pub looks_names : (files : List Placed) → map (λ (l : Look). l.name) (map look_of files) ≡ map name_of files
 looks_names [] = refl

@@ -21,7 +21,7 @@ use Rattle.script_session.specs.Histories.{AreTold, Break, Drive, IsOnCourse, St
 use Rattle.script_session.specs.MergeRunning.{HasHistoryOver, IsAtRestOver, Scope, drive_over, just_started}
 use Rattle.script_session.specs.Running.{IsEnded, open_by}
 use Rattle.script_session.specs.Told.{Told, sector_size}
-use Rattle.script_session.proofs.LeftFiles.{all_numbers, all_stay, own_synced}
+use Rattle.script_session.proofs.LeftFiles.{all_numbers, all_stay, later_number, later_since, later_writes, own_synced}
 use Rattle.script_session.proofs.Marked.{none_plain}
 use Rattle.script_session.proofs.Scripts.{ended_of, past_as}
 use Rattle.script_session.proofs.Telling.{both_told}
@@ -64,7 +64,7 @@ module _ (scope : Scope) (v : State) (trace mid : Trace) (is : IsScope scope v t
   others_as : (now : Trace) → ((other : ℕ) → later.writes other ≡ false → file_of now other ≡ file_of later.since other) → (other : ℕ) → scope.changes other ≡ false → file_of now other ≡ file_of trace other
   others_as now still other none =
       let unwritten : v.writes other ≡ false = is.changes other none in
-      still other (tells.same.writes other unwritten) ∙ tells.same.since other unwritten ∙ ap (λ t. file_of t other) is.since ∙ is.rest other none
+      still other (later_writes v later tells.same.goes other unwritten) ∙ later_since v later tells.same.goes other unwritten ∙ ap (λ t. file_of t other) is.since ∙ is.rest other none
 
   -- a fault has broken the session
   behind_break : (b : Break) → tells.broken ≡ Some b → behind.broken ≡ Some b.fault → ((other : ℕ) → later.writes other ≡ false → file_of tells.now other ≡ file_of later.since other)
@@ -101,10 +101,10 @@ module _ (scope : Scope) (v : State) (trace mid : Trace) (is : IsScope scope v t
     all_synced n changed = by_write (v.writes n) refl
       where
         by_write : (b : Bool) → v.writes n ≡ b → Synced n
-        by_write false none = ap is_synced (still n (tells.same.writes n none) ∙ tells.same.since n none ∙ ap (λ t. file_of t n) is.since) ∙ is.quiet n changed none
+        by_write false none = ap is_synced (still n (later_writes v later tells.same.goes n none) ∙ later_since v later tells.same.goes n none ∙ ap (λ t. file_of t n) is.since) ∙ is.quiet n changed none
         by_write true some =
             own_synced v later later.history now tells.same still n some
-            (is.own (λ n. later.writes n ≡ true → Synced n) (λ own. subst Synced (tells.same.number own) synced.0) (weaker (numbers_left v) staying_synced) n some)
+            (is.own (λ n. later.writes n ≡ true → Synced n) (λ own. subst Synced (later_number v later tells.same.goes own) synced.0) (weaker (numbers_left v) staying_synced) n some)
 
   -- it has ended, or its end failed
   module _ (none : tells.broken ≡ None) (serving : IsServing behind.layers later tells.now) (on : IsOnCourse later behind.layers left tells.end) (now : Trace) (h : HasClosed (is_some behind.layers.leaf) later tells.now now closed) where

@@ -21,7 +21,7 @@ use Rattle.chain_core.specs.Sessions.{HasNoMerge, Session}
 use Rattle.chain_core.specs.declared.layers.Layers.{Layers}
 use Rattle.chain_core.specs.declared.layers.Retiring.{Retiring}
 use Rattle.chain_core.specs.declared.layers.Underway.{Underway}
-use Rattle.script_session.proofs.LeftFiles.{own_synced}
+use Rattle.script_session.proofs.LeftFiles.{later_number, later_since, later_writes, own_synced}
 use Rattle.merge_plan.specs.Attached.{CanStart}
 use Rattle.chain_core.specs.Starting.{HasStarted, IsOfDisk, StartsWith, opening_disk, started, under}
 use Rattle.chain_core.specs.States.{IsCourse, IsRetiring, IsServing, State, disk_now, sector_of}
@@ -106,7 +106,7 @@ module _ (mode : Mode) (leaf : LinkedFile) (others : List LinkedFile) (parts : P
       past_as (sector_of later) sector_size later.opening (opening_disk trace (leaf ∷ others)) later.leaf leaf.name later.began trace later.history b now tells.over.sector tells.over.opening tells.same.leaf tells.same.began past
 
   others_as : (now : Trace) → ((other : ℕ) → later.writes other ≡ false → file_of now other ≡ file_of later.since other) → (other : ℕ) → other ≢ 0 → file_of now other ≡ file_of trace other
-  others_as now still other ne = still other (tells.same.writes other (ne_eqb other 0 ne)) ∙ tells.same.since other (ne_eqb other 0 ne)
+  others_as now still other ne = still other (later_writes (started trace leaf others parts) later tells.same.goes other (ne_eqb other 0 ne)) ∙ later_since (started trace leaf others parts) later tells.same.goes other (ne_eqb other 0 ne)
 
   -- where the files are only read
   unchanged_in : (now : Trace) → after.told ≡ Some now → (can_change mode ≡ false → after ≡ behind.disk) → can_change mode ≡ false → now ≡ trace
@@ -137,7 +137,7 @@ module _ (mode : Mode) (leaf : LinkedFile) (others : List LinkedFile) (parts : P
 
     leaf_synced : (m : Mode) → m ≡ mode → ((other : ℕ) → later.writes other ≡ false → file_of now other ≡ file_of later.since other) → (is_some behind.layers.leaf ≡ true → is_synced (file_of now later.top.number) ≡ true) → is_synced (file_of now 0) ≡ true
     leaf_synced Guests is still own =
-        own_synced (started trace leaf others parts) later later.history now tells.same still 0 refl (λ mine. subst (λ n. is_synced (file_of now n) ≡ true) (tells.same.number mine) (own (tells.over.change ∙ ap can_change (sym is))))
+        own_synced (started trace leaf others parts) later later.history now tells.same still 0 refl (λ mine. subst (λ n. is_synced (file_of now n) ≡ true) (later_number (started trace leaf others parts) later tells.same.goes mine) (own (tells.over.change ∙ ap can_change (sym is))))
     leaf_synced ReadOnly is still own = ap (λ t. is_synced (file_of t 0)) (unchanged_in now now_is same_store (ap can_change (sym is))) ∙ synced
 
     rest_of : (r : Result (Unit {0}) StoreFault) → HasClosed (is_some behind.layers.leaf) later tells.now now r → OnOk r (IsAtRest leaf drive later.history now)

@@ -28,7 +28,7 @@ use Rattle.chain_core.specs.declared.layers.Underway.{Underway}
 use Rattle.chain_core.specs.States.{IsRetiring, IsServing, Rest, State, merging, plain, retiring, sector_of}
 use Rattle.script.specs.Transcript.{has_stamp, is_copied as has_copied, is_done as is_whole}
 use Rattle.script_session.specs.Answers.{as_copied, as_done, with_stamp}
-use Rattle.script_session.specs.Histories.{Break, Course, Drive, HoldsWaiting, IsLater, IsLineTold, IsMissed, IsOnCourse, IsOver, IsStepTold, IsWaiting, Stands, Waiting, all_copied, copied_to, copy_breaks, copy_stopped, copying, fault_in, fetch_stopped, finish_breaks, is_barred, is_broken, is_fetched, is_finished, is_put, left_by, no_merge, none_missing, not_yet, put_breaks, put_stopped, serves, stamp_behind, staying, step_cause, stripes_of, with_line}
+use Rattle.script_session.specs.Histories.{Break, Course, Drive, HoldsWaiting, IsLater, IsLineTold, IsMissed, IsOnCourse, IsOver, IsStepTold, IsWaiting, Stands, Waiting, all_copied, copied_to, copy_breaks, copy_stopped, copying, fault_in, fetch_stopped, finish_breaks, is_barred, is_broken, is_fetched, is_finished, is_put, left_by, merges_leaf, no_merge, none_missing, not_yet, put_breaks, put_stopped, serves, stamp_behind, staying, step_cause, stripes_of, with_line}
 use Rattle.script_session.specs.MergeSteps.{AnswersCopy, AnswersFetch, AnswersFinish, AnswersPut, AnswersTurn, EndsCopy, IsUnchanged, all_moved, one_refused}
 use Rattle.script_session.specs.Told.{Asked, Told, asks_copy, asks_fetch, asks_finish, asks_put}
 use Rattle.script_session.proofs.Copying.{FetchEnds, IsCopying, PutEnds, Unfetched, all_is, fetch_err, fetch_ok, has_failed, is_fit, is_past, lowest_is, marked_is, merge_cause, never_stale, next_is, over_kept, put_cause, put_err, put_fails, put_ok, put_stops, unchanged}
@@ -75,8 +75,8 @@ first_look other [] = other
 first_look other (look ∷ looks) = look
 
 -- of a merge below the leaf
-below_left : (layers : Layers) (v : State) (now : Trace) (rest : Rest) → v.rest ≡ rest → staying v.top rest ≡ v.top ∷ left_of rest → IsFinished v layers now → FinishLeft layers v now
-below_left layers v now rest is stays done =
+below_left : (layers : Layers) (v : State) (now : Trace) (rest : Rest) → v.rest ≡ rest → merges_leaf rest ≡ false → staying v.top rest ≡ v.top ∷ left_of rest → IsFinished v layers now → FinishLeft layers v now
+below_left layers v now rest is below stays done =
     let behind : State = record v { top = done.top; rest = plain done.others } in
     let looks : map look_of (done.top ∷ done.others) ≡ map look_of (staying v.top v.rest) = done.files ∙ ap (λ r. map look_of (v.top ∷ left_of r)) is ∙ ap (map look_of) (sym stays) ∙ ap (λ r. map look_of (staying v.top r)) (sym is) in
     record {
@@ -85,7 +85,14 @@ below_left layers v now rest is stays done =
       history = refl;
       opening = refl;
       same = λ h later later_is.
-          later_same v behind h later refl (ap (λ (l : Look). l.number) (ap (first_look (look_of v.top)) done.files)) refl refl refl refl (numbers_seen (done.top ∷ done.others) (staying v.top v.rest) looks) (names_seen (done.top ∷ done.others) (staying v.top v.rest) looks) later_is;
+          later_same v behind h later refl refl refl (numbers_seen (done.top ∷ done.others) (staying v.top v.rest) looks) (names_seen (done.top ∷ done.others) (staying v.top v.rest) looks) (inl (record {
+            number = ap (λ (l : Look). l.number) (ap (first_look (look_of v.top)) done.files);
+            name = ap (λ (l : Look). l.name) (ap (first_look (look_of v.top)) done.files);
+            retired = refl;
+            writes = refl;
+            since = refl;
+            merges = sym (ap merges_leaf is ∙ below);
+          })) later_is;
     }
 
 -- and of the leaf
@@ -95,47 +102,22 @@ leaf_left layers v now id target below first before is done = record {
   serving = done.serving;
   history = refl;
   opening = refl;
-  same = λ h later later_is. record {
-    leaf = later_is.leaf;
-    number = λ own. absurd (never (later_is.writes v.top.number own_gone) own);
-    opening = later_is.opening;
-    began = later_is.began;
-    writes = λ n none. later_is.writes n (gone_too n none);
-    since = λ n none. later_is.since n (gone_too n none) ∙ done.still n none;
-    rests = λ n some none. by_now n some none (behind.writes n) refl later_is;
-    left = later_is.left ∙ anew_numbers ∙ ap (λ r. map number_of (staying v.top r)) (sym is);
-    names = later_is.names ∙ anew_names ∙ ap (λ r. map name_of (staying v.top r)) (sym is);
-    history = later_is.history;
-  };
+  same = λ h later later_is.
+      later_same v behind h later refl refl refl (anew_numbers ∙ ap (λ r. map number_of (staying v.top r)) (sym is)) (anew_names ∙ ap (λ r. map name_of (staying v.top r)) (sym is)) (inr (record {
+        leaf = done.leaf;
+        merges = ap merges_leaf is;
+        ended = refl;
+        number = done.is_retired.number;
+        name = done.is_retired.name;
+        retired = refl;
+        writes = refl;
+        since = done.still;
+        rests = done.rests;
+      })) later_is;
 }
   where
     behind : State
     behind = record v { top = done.top; rest = plain done.others; retired = v.retired ++ done.leaf ∷ []; writes = λ n. if n == v.top.number then false else v.writes n; since = now }
-
-    never : {P : Type 0} {b : Bool} → b ≡ false → b ≡ true → P
-    never {P} {b} isnt is = absurd (let bad : false ≡ true = sym isnt ∙ is in cc)
-
-    own_gone : behind.writes v.top.number ≡ false
-    own_gone = ap (λ (b : Bool). if b then false else v.writes v.top.number) (eq-eqb v.top.number v.top.number refl)
-
-    gone_too : (n : ℕ) → v.writes n ≡ false → behind.writes n ≡ false
-    gone_too n none = by_test (n == v.top.number)
-      where
-        by_test : (b : Bool) → (if b then false else v.writes n) ≡ false
-        by_test true = refl
-        by_test false = none
-
-    -- only the old leaf was changed and isn't any longer
-    is_leaf : (n : ℕ) → v.writes n ≡ true → behind.writes n ≡ false → n ≡ v.top.number
-    is_leaf n some none = by_test (n == v.top.number) refl none
-      where
-        by_test : (b : Bool) → (n == v.top.number) ≡ b → (if b then false else v.writes n) ≡ false → n ≡ v.top.number
-        by_test true e none = eqb-true n v.top.number e
-        by_test false e none = never none some
-
-    by_now : {h : History} {later : State} (n : ℕ) → v.writes n ≡ true → later.writes n ≡ false → (b : Bool) → behind.writes n ≡ b → IsLater behind h later → is_synced (file_of later.since n) ≡ true
-    by_now n some none true own is = is.rests n own none
-    by_now n some none false own is = ap is_synced (is.since n own) ∙ ap (λ k. is_synced (file_of now k)) (is_leaf n some own) ∙ done.rests
 
     anew_numbers : map number_of (done.top ∷ done.others) ≡ map number_of (target ∷ below)
     anew_numbers = sym (looks_numbers (done.top ∷ done.others)) ∙ ap (map (λ (l : Look). l.number)) done.files ∙ ap (λ rest. target.number ∷ rest) (looks_numbers below)
@@ -153,8 +135,8 @@ module _ (old new : Layers) (v : State) (now : Trace) where
   by_leaf id (retiring target below first before) is done = leaf_left new v now id target below first before is done
 
   by_below : (rest : Rest) → v.rest ≡ rest → Leaving None rest → IsFinished v new now → FinishLeft new v now
-  by_below (plain others) is leaving done = below_left new v now (plain others) is refl done
-  by_below (merging above source target below m) is leaving done = below_left new v now (merging above source target below m) is refl done
+  by_below (plain others) is leaving done = below_left new v now (plain others) is refl refl done
+  by_below (merging above source target below m) is leaving done = below_left new v now (merging above source target below m) is refl refl done
   by_below (retiring target below first before) is leaving done = absurd leaving
 
   finish_left : (r : Option Retiring) → Leaving r v.rest → LeavesBy r v new now → FinishLeft new v now

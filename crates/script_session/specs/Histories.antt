@@ -1,5 +1,5 @@
 -- What the lines of a script are told over a disk: line by line, by the history of the calls that were done (profile).
-use Rattle.std.specs.Prelude.{◌≡◌, ◌+◌, ◌*◌, ◌<◌, ◌≤◌, ◌^◌, ◌||◌, ⊤, ℕ, Bool, true, false, nat_lt, List, [], ◌∷◌, ◌++◌, length, map, is_some, Option, Some, None, option_map, Ok, Err, IfSome}
+use Rattle.std.specs.Prelude.{◌≡◌, ◌+◌, ◌*◌, ◌<◌, ◌≤◌, ◌^◌, ◌||◌, ◌==◌, ◌⊎◌, ⊤, ℕ, Bool, true, false, nat_lt, List, [], ◌∷◌, ◌++◌, length, map, is_some, Option, Some, None, option_map, Ok, Err, IfSome}
 use Rattle.vx_base.specs.declared.parts.Geometry.{Geometry}
 use Rattle.store_model.specs.declared.fault.StoreFault.{StoreFault}
 use Rattle.store_model.specs.File.{is_synced}
@@ -251,18 +251,42 @@ numbers_left v = map (λ f. f.number) (staying v.top v.rest)
 abbrev pub names_left : State → List (List ℕ)
 names_left v = map (λ f. f.member.name) (staying v.top v.rest)
 
--- A state of the same session, with this history. It may change no other files, and what it no longer may change is at rest.
+-- the merge under way is that of the leaf
+abbrev pub merges_leaf : Rest → Bool
+merges_leaf (plain others) = false
+merges_leaf (merging above source target below m) = false
+merges_leaf (retiring target below first before) = true
+
+-- It goes on over the same leaf, with the same retired leaves behind its name, and may change the same files.
+pub record GoesOn (v later : State) : Type 0 where
+  pub number : later.top.number ≡ v.top.number
+  pub name : later.top.member.name ≡ v.top.member.name
+  pub retired : later.retired ≡ v.retired
+  pub writes : later.writes ≡ v.writes
+  pub since : later.since ≡ v.since
+  pub merges : merges_leaf later.rest ≡ merges_leaf v.rest
+
+-- The merge of its leaf has ended: that leaf is retired behind the others, is at rest, and isn't changed any more.
+pub record HasRetired (v later : State) : Type 0 where
+  pub leaf : Placed
+  pub merges : merges_leaf v.rest ≡ true
+  pub ended : merges_leaf later.rest ≡ false
+  pub number : leaf.number ≡ v.top.number
+  pub name : leaf.member.name ≡ v.top.member.name
+  pub retired : later.retired ≡ v.retired ++ leaf ∷ []
+  pub writes : later.writes ≡ (λ n. if n == v.top.number then false else v.writes n)
+  pub since : (n : ℕ) → v.writes n ≡ false → file_of later.since n ≡ file_of v.since n
+  pub rests : is_synced (file_of later.since v.top.number) ≡ true
+
+-- A state of the same session, with this history: it goes on, or the merge of its leaf has ended.
 pub record IsLater (v : State) (h : History) (later : State) : Type 0 where
   pub leaf : later.leaf ≡ v.leaf
-  pub number : later.writes v.top.number ≡ true → later.top.number ≡ v.top.number
   pub opening : later.opening ≡ v.opening
   pub began : later.began ≡ v.began
-  pub writes : (n : ℕ) → v.writes n ≡ false → later.writes n ≡ false
-  pub since : (n : ℕ) → v.writes n ≡ false → file_of later.since n ≡ file_of v.since n
-  pub rests : (n : ℕ) → v.writes n ≡ true → later.writes n ≡ false → is_synced (file_of later.since n) ≡ true
   pub left : numbers_left later ≡ numbers_left v
   pub names : names_left later ≡ names_left v
   pub history : later.history ≡ h
+  pub goes : GoesOn v later ⊎ HasRetired v later
 
 -- The session of a chain over this drive, with the state's history, which its recorder has if it tells it.
 pub record IsOver (drive : Drive) (v : State) (s : Session) : Type 0 where

@@ -14,7 +14,7 @@ use script::Form;
 use store_model::Store;
 
 /// What a line that was done is answered.
-#[derive(Clone, Copy, Debug)]
+#[derive(Clone, Copy)]
 pub enum Done {
     /// A call, at this place of the history.
     Call { place: u64 },

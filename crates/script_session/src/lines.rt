@@ -21,7 +21,7 @@ use vx_base::NoRoom;
 const ROOM_LEN: usize = MOST_MOVED as usize * SECTOR;
 
 /// What running a script's lines gave.
-#[derive(Debug, Drop)]
+#[derive(Drop)]
 pub struct LinesRun {
     /// A line for each of the script's, in its order; or memory ran out for it, or in a call, and no further line was run.
     pub transcript: Result<String, NoRoom>,

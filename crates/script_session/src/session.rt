@@ -21,7 +21,7 @@ use store_model::{Ids, Store, StoreFault};
 use vx_base::{Name, NoRoom};
 
 /// What a script's session gave.
-#[derive(Debug, Drop)]
+#[derive(Drop)]
 pub struct ScriptRun {
     /// A line for each of the script's, in its order; or memory ran out for it, or in a call.
     pub transcript: Result<String, NoRoom>,
