@@ -102,7 +102,8 @@ impl<S: Store, R: Recorder> Chain<S, R> {
         ensures started { IfOk result (λ c. HasStartedMerge files.now source.now (S.disk store) (S.disk c.store) (I.drawn ids.old) (I.drawn ids.new) c.layers) }
         ensures moments { IfOk result (λ chain. EachOpensAlike files.now (S.disk store).told (S.disk chain.store).told) }
         ensures kept { IfErr result (λ refused. EachOpensAlike files.now (S.disk store).told (S.disk refused.0).told) }
-        ensures err { IfErr result (λ refused. RefusesMerge files.now source.now (S.disk store) (S.disk refused.0) (I.drawn ids.old) (I.drawn ids.new) refused.1) }
+        ensures err { IfErr result (λ refused. RefusesMerge files.now source.now (S.disk store) (S.disk refused.0) (I.drawn ids.old)
+            (I.drawn ids.new) refused.1) }
     {
         match Layers::start_merge(alloc, &mut store, files, source, ids) {
             Ok(layers) => Ok(Chain {
@@ -499,7 +500,8 @@ impl<S: Store, R: Recorder> Chain<S, R> {
         ensures merge { KeepsMerge self.old.layers self.new.layers }
         ensures history { self.new.recorder ≡ self.old.recorder }
         ensures early { IfStopped (fetch_refused stripe (seen S.disk R.noted R.told self.old)) result (IsCounted self.old self.new × (piece.new ≡ piece.old)) }
-        ensures cause { fetch_refused stripe (seen S.disk R.noted R.told self.old) ≡ None → FetchCause (seen S.disk R.noted R.told self.old) (seen S.disk R.noted R.told self.new) piece.new result }
+        ensures cause { fetch_refused stripe (seen S.disk R.noted R.told self.old) ≡ None →
+            FetchCause (seen S.disk R.noted R.told self.old) (seen S.disk R.noted R.told self.new) piece.new result }
         ensures taken { OnOk result (IsOfStripe self.old.layers.geometry stripe (stamp_of self.old.layers stripe) piece.new) }
         ensures told { FetchTold piece.new (seen S.disk R.noted R.told self.old) (seen S.disk R.noted R.told self.new) result }
     {
@@ -525,8 +527,10 @@ impl<S: Store, R: Recorder> Chain<S, R> {
         ensures history { self.new.recorder ≡ self.old.recorder }
         ensures leaf { leaf_number self.new.layers ≡ leaf_number self.old.layers }
         ensures early { IfStopped (put_refused piece.now (seen S.disk R.noted R.told self.old)) result (IsCounted self.old self.new) }
-        ensures cause { put_refused piece.now (seen S.disk R.noted R.told self.old) ≡ None → PutCause piece.now (seen S.disk R.noted R.told self.old) (seen S.disk R.noted R.told self.new) result }
-        ensures room { put_refused piece.now (seen S.disk R.noted R.told self.old) ≡ None → TargetRoomIs piece.now self.old.layers (S.disk self.old.store) result }
+        ensures cause { put_refused piece.now (seen S.disk R.noted R.told self.old) ≡ None →
+            PutCause piece.now (seen S.disk R.noted R.told self.old) (seen S.disk R.noted R.told self.new) result }
+        ensures room { put_refused piece.now (seen S.disk R.noted R.told self.old) ≡ None →
+            TargetRoomIs piece.now self.old.layers (S.disk self.old.store) result }
         ensures told { PieceTold piece.now (seen S.disk R.noted R.told self.old) (seen S.disk R.noted R.told self.new) result }
     {
         self.admit()?;
@@ -560,7 +564,8 @@ impl<S: Store, R: Recorder> Chain<S, R> {
         ensures session { is_some self.new.layers.leaf ≡ is_some self.old.layers.leaf }
         ensures history { self.new.recorder ≡ self.old.recorder }
         ensures early { IfStopped (merge_refused (seen S.disk R.noted R.told self.old)) result (IsCounted self.old self.new) }
-        ensures cause { merge_refused (seen S.disk R.noted R.told self.old) ≡ None → FinishCause (seen S.disk R.noted R.told self.old) (seen S.disk R.noted R.told self.new) result (IsCounted self.old self.new) }
+        ensures cause { merge_refused (seen S.disk R.noted R.told self.old) ≡ None →
+            FinishCause (seen S.disk R.noted R.told self.old) (seen S.disk R.noted R.told self.new) result (IsCounted self.old self.new) }
         ensures told { FinishTold (seen S.disk R.noted R.told self.old) (seen S.disk R.noted R.told self.new) result }
     {
         self.admit()?;

@@ -241,7 +241,8 @@ impl Layers {
         requires files { CanStart files.now (S.disk store.old) }
         ensures moments { EachOpensAlike files.now (S.disk store.old).told (S.disk store.new).told }
         ensures still { LeavesOthersFrom (S.disk store.old).told (S.disk store.new).told }
-        ensures begun { IfOk result (λ layers. HasStarted Mode.Guests files.now layers (S.disk store.old) (S.disk store.new) (I.drawn ids.old) (I.drawn ids.new)) }
+        ensures begun { IfOk result (λ layers. HasStarted Mode.Guests files.now layers (S.disk store.old) (S.disk store.new) (I.drawn ids.old)
+            (I.drawn ids.new)) }
         ensures ready { IfOk result (λ layers. AreReady layers (S.disk store.new)) }
         ensures low { IfOk result (IsLow 1) }
         ensures geometry { IfOk result (λ layers. IsOfDisk files.now layers.geometry) }

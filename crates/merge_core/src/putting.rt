@@ -29,7 +29,8 @@ pub fn put_piece<S: Store>(
     ensures refused { OnRefused result (IsReady target.new (S.disk store.new)) }
     ensures kept { OnRefused result (WhereBothTold (HasKept target.old target.new) (S.disk store.old).told (S.disk store.new).told) }
     ensures quiet { OnRefused result (WhereBothTold (KeepsOver target.old) (S.disk store.old).told (S.disk store.new).told) }
-    ensures broken { OnBroken result (IsReadable target.new (S.disk store.new) × WhereBothTold (HoldsBesidePiece target.old target.new piece.now) (S.disk store.old).told (S.disk store.new).told) }
+    ensures broken { OnBroken result (IsReadable target.new (S.disk store.new)
+        × WhereBothTold (HoldsBesidePiece target.old target.new piece.now) (S.disk store.old).told (S.disk store.new).told) }
     ensures parts { target.new.tables.parts ≡ target.old.tables.parts }
     ensures header { target.new.log.header ≡ target.old.log.header }
     // It commits once at most.

@@ -59,7 +59,8 @@ fn read_sectors<S: Store>(
     requires bytes { sector * count ≤ length bytes.old }
     requires mask { count ≤ 8 * length mask.old }
     requires few { count ≤ 2048 }
-    ensures tells { OnOk result ((layer : chain.Layer) → WhereTold (S.disk store.old).told (λ trace. Holds source.old trace layer → Tells sector first count layer mask.new bytes.new)) }
+    ensures tells { OnOk result ((layer : chain.Layer) →
+        WhereTold (S.disk store.old).told (λ trace. Holds source.old trace layer → Tells sector first count layer mask.new bytes.new)) }
     ensures same { IsSameFile source.old source.new (S.disk store.old) }
     ensures stays { OnOk result (S.disk store.new ≡ S.disk store.old) }
     ensures err { IfErr result (ReadFailed (number_of source.old) (S.disk store.old) (S.disk store.new)) }
@@ -85,7 +86,8 @@ fn read_own<S: Store>(
     requires bytes { sector * count ≤ length bytes.old }
     requires mask { count ≤ 8 * length mask.old }
     requires few { count ≤ 2048 }
-    ensures tells { OnOk result ((layer : chain.Layer) → WhereTold (S.disk store.old).told (λ trace. Holds (kind.Session source.old) trace layer → Tells sector first count layer mask.new bytes.new)) }
+    ensures tells { OnOk result ((layer : chain.Layer) →
+        WhereTold (S.disk store.old).told (λ trace. Holds (kind.Session source.old) trace layer → Tells sector first count layer mask.new bytes.new)) }
     ensures same { IsSame source.old source.new (S.disk store.old) }
     ensures stays { OnOk result (S.disk store.new ≡ S.disk store.old) }
     ensures err { IfErr result (ReadFailed (own_file source.old) (S.disk store.old) (S.disk store.new)) }
@@ -165,8 +167,10 @@ impl Piece {
         ensures stamp { self.new.stamp ≡ stamp }
         // It fits into each file of a disk of this geometry.
         ensures fits { (parts : TableParts) → parts.sector ≡ geometry.sector → parts.sectors ≡ geometry.sectors → FitsIn self.new parts }
-        ensures held { OnOk result ((layer : chain.Layer) → WhereTold (S.disk store.old).told (λ trace. Holds source.old trace layer → IsTaken geometry.sector layer (piece_of self.new))) }
-        ensures taken { OnOk result ((file : Placed) → WhereTold (S.disk store.old).told (λ trace. HasFile source.old trace file → IsTaken geometry.sector file.member.layer (piece_of self.new))) }
+        ensures held { OnOk result ((layer : chain.Layer) →
+            WhereTold (S.disk store.old).told (λ trace. Holds source.old trace layer → IsTaken geometry.sector layer (piece_of self.new))) }
+        ensures taken { OnOk result ((file : Placed) →
+            WhereTold (S.disk store.old).told (λ trace. HasFile source.old trace file → IsTaken geometry.sector file.member.layer (piece_of self.new))) }
         ensures same { IsSameFile source.old source.new (S.disk store.old) }
         ensures stays { OnOk result (S.disk store.new ≡ S.disk store.old) }
         ensures err { IfErr result (ReadFailed (number_of source.old) (S.disk store.old) (S.disk store.new)) }
@@ -200,8 +204,10 @@ impl Piece {
         ensures stamp { self.new.stamp ≡ stamp }
         // It fits into each file of a disk of this geometry.
         ensures fits { (parts : TableParts) → parts.sector ≡ geometry.sector → parts.sectors ≡ geometry.sectors → FitsIn self.new parts }
-        ensures held { OnOk result ((layer : chain.Layer) → WhereTold (S.disk store.old).told (λ trace. Holds (kind.Session source.old) trace layer → IsTaken geometry.sector layer (piece_of self.new))) }
-        ensures taken { OnOk result ((file : Placed) → WhereTold (S.disk store.old).told (λ trace. Serves source.old trace file → IsTaken geometry.sector file.member.layer (piece_of self.new))) }
+        ensures held { OnOk result ((layer : chain.Layer) →
+            WhereTold (S.disk store.old).told (λ trace. Holds (kind.Session source.old) trace layer → IsTaken geometry.sector layer (piece_of self.new))) }
+        ensures taken { OnOk result ((file : Placed) →
+            WhereTold (S.disk store.old).told (λ trace. Serves source.old trace file → IsTaken geometry.sector file.member.layer (piece_of self.new))) }
         ensures same { IsSame source.old source.new (S.disk store.old) }
         ensures stays { OnOk result (S.disk store.new ≡ S.disk store.old) }
         ensures err { IfErr result (ReadFailed (own_file source.old) (S.disk store.old) (S.disk store.new)) }

@@ -106,7 +106,8 @@ fn first_long(twice: &Locator, once: &Locator) -> Option<u64>
 pub fn locators(alloc: Global, found: &Found<'_>, new: &Guid) -> Result<NewLocators, PrepareRefusal>
     requires source { HasSoundLocator found.now.source.now.parts }
     requires child { HasSoundLocator found.now.child.now.parts }
-    ensures twice { IfOk result (λ l. l.twice ≡ linked_twice found.now.target.now.parts.header.data_write new.now (locator_pairs found.now.source.now.parts.locator)) }
+    ensures twice { IfOk result (λ l. l.twice ≡ linked_twice found.now.target.now.parts.header.data_write new.now
+        (locator_pairs found.now.source.now.parts.locator)) }
     ensures once { IfOk result (λ l. l.once ≡ relinking.relinked new.now found.now.target.now.name (locator_pairs found.now.child.now.parts.locator)) }
     ensures short { IfOk result (λ l. merging.first_long l.twice l.once ≡ None) }
     ensures typed { OnOk result (AreTyped found.now.child.now found.now.source.now found.now.target.now) }

@@ -74,7 +74,8 @@ pub fn run_script<S: Store, I: Ids, N: AsStr>(
     requires few { length lines.now ≤ 2 ^ 20 }
     requires slot { piece.old.filled ≡ false }
     requires room { length room.old ≡ 1048576 }
-    ensures ran { IfOk result.1 (λ run. HasRunScript mode files.now (map N.text names.now) lines.now run (S.disk store) (S.disk result.0) (I.drawn ids.old) (I.drawn ids.new)) }
+    ensures ran { IfOk result.1 (λ run. HasRunScript mode files.now (map N.text names.now) lines.now run (S.disk store) (S.disk result.0)
+        (I.drawn ids.old) (I.drawn ids.new)) }
     ensures refused { IfErr result.1 (RefusesStart mode files.now (S.disk store) (S.disk result.0) (I.drawn ids.old) (I.drawn ids.new)) }
     // Where no session started.
     ensures kept { OnErr result.1 (EachOpensAlike files.now (S.disk store).told (S.disk result.0).told) }
@@ -108,7 +109,8 @@ pub fn run_merge<S: Store, I: Ids, N: AsStr>(
     requires few { length lines.now ≤ 2 ^ 20 }
     requires slot { piece.old.filled ≡ false }
     requires room { length room.old ≡ 1048576 }
-    ensures ran { IfOk result.1 (λ run. HasRunMerge files.now source.now (map N.text names.now) lines.now run (S.disk store) (S.disk result.0) (I.drawn ids.old) (I.drawn ids.new)) }
+    ensures ran { IfOk result.1 (λ run. HasRunMerge files.now source.now (map N.text names.now) lines.now run (S.disk store) (S.disk result.0)
+        (I.drawn ids.old) (I.drawn ids.new)) }
     ensures refused { IfErr result.1 (RefusesMerge files.now source.now (S.disk store) (S.disk result.0) (I.drawn ids.old) (I.drawn ids.new)) }
     // Where no session started.
     ensures kept { OnErr result.1 (EachOpensAlike files.now (S.disk store).told (S.disk result.0).told) }
@@ -140,7 +142,8 @@ pub fn run_leaf_merge<S: Store, I: Ids, N: AsStr>(
     requires few { length lines.now ≤ 2 ^ 20 }
     requires slot { piece.old.filled ≡ false }
     requires room { length room.old ≡ 1048576 }
-    ensures ran { IfOk result.1 (λ run. HasRunLeafMerge files.now (map N.text names.now) lines.now run (S.disk store) (S.disk result.0) (I.drawn ids.old) (I.drawn ids.new)) }
+    ensures ran { IfOk result.1 (λ run. HasRunLeafMerge files.now (map N.text names.now) lines.now run (S.disk store) (S.disk result.0)
+        (I.drawn ids.old) (I.drawn ids.new)) }
     ensures refused { IfErr result.1 (RefusesLeafMerge files.now (S.disk store) (S.disk result.0) (I.drawn ids.old) (I.drawn ids.new)) }
     // Where no session started.
     ensures kept { OnErr result.1 (EachOpensAlike files.now (S.disk store).told (S.disk result.0).told) }

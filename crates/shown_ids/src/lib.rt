@@ -54,7 +54,8 @@ fn add_copy<S: Store>(
     requires there { file < (S.disk store.old).files }
     requires copy { copy ≤ 2 }
     requires inside { WhereTold (S.disk store.old).told (λ trace. 196608 ≤ length (seen (file_of trace file))) }
-    ensures ids { OnOk result (WhereTold (S.disk store.old).told (λ trace. ids.new.items ≡ ids.old.items ++ header_ids (held_header (seen (file_of trace file)) copy))) }
+    ensures ids { OnOk result (WhereTold (S.disk store.old).told
+        (λ trace. ids.new.items ≡ ids.old.items ++ header_ids (held_header (seen (file_of trace file)) copy))) }
     ensures store { LeavesStore file (S.disk store.old) (S.disk store.new) result }
 {
     let mut bytes = [0; HEADER_LEN];

@@ -55,7 +55,8 @@ fn run_lent<S: Store, I: Ids>(
     requires slot { piece.old.filled ≡ false }
     requires room { length room.old ≡ 1048576 }
     requires lent { WhereTold (S.disk store).told (AreLent files.now) }
-    ensures ran { IfOk result.1 (λ run. HasRunScript mode files.now names.now lines.now run (S.disk store) (S.disk result.0) (I.drawn ids.old) (I.drawn ids.new)) }
+    ensures ran { IfOk result.1 (λ run. HasRunScript mode files.now names.now lines.now run (S.disk store) (S.disk result.0) (I.drawn ids.old)
+        (I.drawn ids.new)) }
     ensures err { IfErr result.1 (HasNotRun mode files.now (S.disk store) (S.disk result.0) (I.drawn ids.old) (I.drawn ids.new)) }
 {
     if let Err(refusal) = check_lengths(&mut store, files.len() as u32) {
@@ -101,7 +102,8 @@ fn merge_leaf<S: Store, I: Ids>(
     requires slot { piece.old.filled ≡ false }
     requires room { length room.old ≡ 1048576 }
     requires lent { WhereTold (S.disk store).told (AreLent files.now) }
-    ensures ran { IfOk result.1 (λ run. HasRunLeafMerge files.now names.now lines.now run (S.disk store) (S.disk result.0) (I.drawn ids.old) (I.drawn ids.new)) }
+    ensures ran { IfOk result.1 (λ run. HasRunLeafMerge files.now names.now lines.now run (S.disk store) (S.disk result.0) (I.drawn ids.old)
+        (I.drawn ids.new)) }
     ensures err { IfErr result.1 (HasNotMerged files.now source.now (S.disk store) (S.disk result.0) (I.drawn ids.old) (I.drawn ids.new)) }
 {
     if let Err(refusal) = check_lengths(&mut store, files.len() as u32) {
@@ -137,7 +139,8 @@ fn merge_below<S: Store, I: Ids>(
     requires slot { piece.old.filled ≡ false }
     requires room { length room.old ≡ 1048576 }
     requires lent { WhereTold (S.disk store).told (AreLent files.now) }
-    ensures ran { IfOk result.1 (λ run. HasRunMerge files.now source.now names.now lines.now run (S.disk store) (S.disk result.0) (I.drawn ids.old) (I.drawn ids.new)) }
+    ensures ran { IfOk result.1 (λ run. HasRunMerge files.now source.now names.now lines.now run (S.disk store) (S.disk result.0) (I.drawn ids.old)
+        (I.drawn ids.new)) }
     ensures err { IfErr result.1 (HasNotMerged files.now source.now (S.disk store) (S.disk result.0) (I.drawn ids.old) (I.drawn ids.new)) }
 {
     if let Err(refusal) = check_lengths(&mut store, files.len() as u32) {
@@ -172,7 +175,8 @@ fn merge_lent<S: Store, I: Ids>(
     requires slot { piece.old.filled ≡ false }
     requires room { length room.old ≡ 1048576 }
     requires lent { WhereTold (S.disk store).told (AreLent files.now) }
-    ensures ran { IfOk result.1 (λ run. HasRunMergeOf (is_leaf files.now source.now) files.now source.now names.now lines.now run (S.disk store) (S.disk result.0) (I.drawn ids.old) (I.drawn ids.new)) }
+    ensures ran { IfOk result.1 (λ run. HasRunMergeOf (is_leaf files.now source.now) files.now source.now names.now lines.now run (S.disk store)
+        (S.disk result.0) (I.drawn ids.old) (I.drawn ids.new)) }
     ensures err { IfErr result.1 (HasNotMerged files.now source.now (S.disk store) (S.disk result.0) (I.drawn ids.old) (I.drawn ids.new)) }
 {
     if is_leaf(files, source) {
@@ -205,7 +209,8 @@ fn run_on<S: Store, I: Ids>(
     requires slot { piece.old.filled ≡ false }
     requires room { length room.old ≡ 1048576 }
     requires lent { WhereTold (S.disk store).told (AreLent files.now) }
-    ensures ran { IfOk result.1 (λ run. HasRunWith mode source.now files.now names.now lines.now run (S.disk store) (S.disk result.0) (I.drawn ids.old) (I.drawn ids.new)) }
+    ensures ran { IfOk result.1 (λ run. HasRunWith mode source.now files.now names.now lines.now run (S.disk store) (S.disk result.0)
+        (I.drawn ids.old) (I.drawn ids.new)) }
     ensures err { IfErr result.1 (HasNotRunWith mode source.now files.now (S.disk store) (S.disk result.0) (I.drawn ids.old) (I.drawn ids.new)) }
 {
     match source {
@@ -246,7 +251,8 @@ fn run_linked<H: Host, I: Ids>(
     requires lines { length lines.now ≤ 2 ^ 20 }
     requires slot { piece.old.filled ≡ false }
     requires room { length room.old ≡ 1048576 }
-    ensures ran { IfOk result (λ run. RunOver mode source.now linked.now lines.now run (H.hosted host.old) (H.hosted host.new) (I.drawn ids.old) (I.drawn ids.new)) }
+    ensures ran { IfOk result (λ run. RunOver mode source.now linked.now lines.now run (H.hosted host.old) (H.hosted host.new) (I.drawn ids.old)
+        (I.drawn ids.new)) }
     ensures err { IfErr result (NotRunOver mode source.now linked.now (H.hosted host.old) (H.hosted host.new) (I.drawn ids.old) (I.drawn ids.new)) }
 {
     check_mode(mode, source)?;

@@ -17,7 +17,8 @@ use vx_base::NoRoom;
 
 // Prints a transcript and, behind it, the line of a fault by which the session's end failed.
 fn say_with<K: Sink>(out: &mut K, text: &[u8], fault: StoreFault) -> Status
-    ensures { Sent (K.written out.old) (K.written out.new) (K.faults out.old) (K.faults out.new) Status.Fault (text.now ++ fault_line (codes "store") fault.count) result }
+    ensures { Sent (K.written out.old) (K.written out.new) (K.faults out.old) (K.faults out.new) Status.Fault
+        (text.now ++ fault_line (codes "store") fault.count) result }
 {
     match send(out, text) {
         Ok(()) => fail(out, b"store", fault.count),
@@ -32,7 +33,8 @@ fn say_lines<K: Sink>(
     fault: Option<StoreFault>,
     closed: Result<(), StoreFault>,
 ) -> Status
-    ensures { let said = spec.lines_said text.now fault closed in Sent (K.written out.old) (K.written out.new) (K.faults out.old) (K.faults out.new) said.0 said.1 result }
+    ensures { let said = spec.lines_said text.now fault closed in Sent (K.written out.old) (K.written out.new) (K.faults out.old)
+        (K.faults out.new) said.0 said.1 result }
 {
     match (fault, closed) {
         (None, Ok(())) => deliver(out, Status::Done, text),
@@ -47,7 +49,8 @@ fn say_none<K: Sink>(
     fault: Option<StoreFault>,
     closed: Result<(), StoreFault>,
 ) -> Status
-    ensures { let said = spec.none_said fault closed in Sent (K.written out.old) (K.written out.new) (K.faults out.old) (K.faults out.new) said.0 said.1 result }
+    ensures { let said = spec.none_said fault closed in Sent (K.written out.old) (K.written out.new) (K.faults out.old)
+        (K.faults out.new) said.0 said.1 result }
 {
     match (closed, fault) {
         (Err(fault), _) => fail(out, b"store", fault.count),
