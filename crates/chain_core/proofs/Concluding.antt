@@ -63,7 +63,7 @@ answered who call next place layers0 layers1 layers2 layers3 disk0 disk1 disk2 d
 
 -- ---- a call that didn't
 
-first_out : (a b : Bool) → (a || b) ≡ false → a ≡ false
+pub first_out : (a b : Bool) → (a || b) ≡ false → a ≡ false
 first_out true b h = h
 first_out false b h = refl
 

@@ -40,19 +40,12 @@ use Rattle.chain_core.proofs.Rests.{opens_now}
 use Rattle.chain_core.proofs.Showing.{tight_others}
 use Rattle.chain_core.proofs.Standing.{leaf_of}
 use Rattle.chain_core.proofs.Steps.{all_right, goes_over, names_behind, phase_others, still_once, still_read}
+use Rattle.store_model.proofs.Told.{both_join}
 
 -- ---- where the store tells its content
 
 both_map : (R Q : Trace → Trace → Type 0) (a b : Option Trace) → WhereBothTold R a b → ((t u : Trace) → R t u → Q t u) → WhereBothTold Q a b
 both_map R Q a b h weaker = both_told R Q a b weaker h
-
-pub both_then : (R S Q : Trace → Trace → Type 0) (a b c : Option Trace) → WhereBothTold R a b → WhereBothTold S b c → ((t u w : Trace) → R t u → S u w → Q t w) → WhereBothTold Q a c
-both_then R S Q None None None r s weaker = tt
-both_then R S Q None None (Some w) r s weaker = s
-both_then R S Q None (Some u) c r s weaker = absurd r
-both_then R S Q (Some t) None c r s weaker = absurd r
-both_then R S Q (Some t) (Some u) None r s weaker = absurd s
-both_then R S Q (Some t) (Some u) (Some w) r s weaker = weaker t u w r s
 
 -- ---- lists
 
@@ -128,7 +121,7 @@ beside_last layers x items old new split ready keeps reads n others =
     both_map (LeavesOtherFiles (number_of x)) (IsBeside n) old.told new.told (leaves_others x old new ready keeps reads) (λ t u k. k.others n (λ e. ne (sym e)))
 
 pub beside_both : (n : ℕ) (a b c : Option Trace) → WhereBothTold (IsBeside n) a b → WhereBothTold (IsBeside n) b c → WhereBothTold (IsBeside n) a c
-beside_both n a b c first second = both_then (IsBeside n) (IsBeside n) (IsBeside n) a b c first second (λ t u w k m. record { same = m.same ∙ k.same; names = m.names ∙ k.names })
+beside_both n a b c first second = both_join (IsBeside n) (IsBeside n) (IsBeside n) a b c (λ t u w k m. record { same = m.same ∙ k.same; names = m.names ∙ k.names }) first second
 
 pub rest_others : (layers : List FileLayer) (x : FileLayer) (items : List FileLayer) → items ≡ layers ++ x ∷ [] → (n : ℕ) → AreOthers n items → AreOthers n layers
 rest_others layers x items split n others = all_left (λ l. number_of l ≢ n) layers (x ∷ []) (subst (AreOthers n) split others)
@@ -334,12 +327,12 @@ then_on v trace mid now (Err fault) moments on = record { moments = EachMoment-j
 pub ended_told : (layers : List FileLayer) (x : FileLayer) (items : List FileLayer) (result : Result (Unit {0}) StoreFault) (old mid new : Disk) → items ≡ layers ++ x ∷ [] → WhereBothTold (FileKeepsOver x) old.told mid.told
     → WhereBothTold (FileHasEnded x) old.told mid.told → (log_number x ≡ None → mid ≡ old) → EndsOnTold layers mid new result → EndsOnTold items old new result
 ended_told layers x items result old mid new split keeps ended reads later =
-    both_then (EndsFile x (Ok tt)) (λ trace now. (v : State) (first last : List Placed) → IsEnding v layers first last trace → EndsOn v trace now result)
+    both_join (EndsFile x (Ok tt)) (λ trace now. (v : State) (first last : List Placed) → IsEnding v layers first last trace → EndsOn v trace now result)
     (λ trace now. (v : State) (first last : List Placed) → IsEnding v items first last trace → EndsOn v trace now result) old.told mid.told new.told
-    (file_ends x (Ok tt) old.told mid.told keeps ended (λ none. ap (λ (d : Disk). d.told) (reads none))) later
     (λ t u w ends on v first last is.
     let one = last_ends v layers x items first last t u (Ok tt) split is ends in
-    then_on v t u w result one.1.1.0 (on v one.0 (one.1.0 ∷ last) one.1.1.1))
+    then_on v t u w result one.1.1.0 (on v one.0 (one.1.0 ∷ last) one.1.1.1)) (file_ends x (Ok tt) old.told mid.told keeps ended (λ none. ap (λ (d : Disk). d.told) (reads none)))
+    later
 
 -- ---- the leaf's end
 
@@ -485,9 +478,9 @@ module _ (layers : Layers) (leaf : Layer) (leaf_is : layers.leaf ≡ Some leaf) 
       → WhereBothTold (KeepsOver leaf) mid.told new.told → OnOk result (WhereBothTold (HasEndedLeaf leaf) mid.told new.told) → EndsTold layers old new result
   ends_told result old mid new on beside keeps ended =
       subst (λ o. WhereBothTold (λ trace now. (v : State) → IsServing layers v trace → HasClosed (is_some o) v trace now result) old.told new.told) (sym leaf_is)
-      (both_then Between (EndsLeaf leaf result) (λ trace now. (v : State) → IsServing layers v trace → HasClosed true v trace now result) old.told mid.told new.told (between old.told mid.told on beside)
-      (leaf_ends leaf result mid.told new.told keeps ended)
-      (λ t u w both ends v serving. closes v t u w result serving (both.on v (others_of v.rest) [] (begins_end v t serving)) both.beside ends))
+      (both_join Between (EndsLeaf leaf result) (λ trace now. (v : State) → IsServing layers v trace → HasClosed true v trace now result) old.told mid.told new.told (λ t u w both ends v serving. closes v t u w result serving (both.on v (others_of v.rest) [] (begins_end v t serving)) both.beside ends)
+      (between old.told mid.told on beside)
+      (leaf_ends leaf result mid.told new.told keeps ended))
 
 -- ---- the fault
 

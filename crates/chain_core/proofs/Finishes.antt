@@ -29,7 +29,7 @@ use Rattle.chain_core.specs.Sessions.{AreReady, AtMostOne, CanRelink, CanRetire,
 use Rattle.chain_core.specs.States.{AreHeld, AreWritten, IsCourse, IsServing, IsUnder, Merging, Relinks, Rest, State, child_of, child_parts, dirty_now, disk_now, merging, plain, retiring, sector_of}
 use Rattle.chain_core.proofs.Children.{child_failed, child_settled, ended_by, last_child, leaf_failed, target_failed}
 use Rattle.chain_core.proofs.Concluding.{both_told}
-use Rattle.chain_core.proofs.Ending.{both_then, failed_later}
+use Rattle.chain_core.proofs.Ending.{failed_later}
 use Rattle.chain_core.proofs.Exchanged.{change_failed, child_turned, exchanged_leaf, exchanged_low, exchanged_numbers, exchanged_session, finishing_before, is_child, is_target, parts_stay, parts_was, relinking_leaves, settling_leaves, still_ready, was_ready}
 use Rattle.chain_core.proofs.Relinked.{child_relinked, into_spelled, leaf_relinked, relinked_child, relinks_then, with_locator}
 use Rattle.chain_core.proofs.Places.{IsAt, alone, at_place, merge_of, some_leaf}
@@ -42,6 +42,7 @@ use Rattle.chain_model.proofs.Merging.{marked_is_whole}
 use Rattle.chain_model.specs.Merges.{HasAllOf}
 use Rattle.chain_model.specs.Sessions.{IsServed, LooseAtTop}
 use Rattle.std.proofs.lemmas.List.{append_assoc, length-append, length-map}
+use Rattle.store_model.proofs.Told.{both_and, both_join}
 
 -- ---- lists
 
@@ -294,14 +295,7 @@ module _ (v : State) (top : Placed) (pre : List Placed) (child source target : P
 
 -- ---- what is told
 
--- both of two are told
-both_and : (R S : Trace → Trace → Type 0) (a b : Option Trace) → WhereBothTold R a b → WhereBothTold S a b → WhereBothTold (λ t u. R t u × S t u) a b
-both_and R S None None r s = tt
-both_and R S None (Some u) r s = r
-both_and R S (Some t) None r s = r
-both_and R S (Some t) (Some u) r s = (r, s)
-
-joined : (v : State) (x y z : Trace) → EachOpensNow v x y → EachOpensNow v y z → EachOpensNow v x z
+pub joined : (v : State) (x y z : Trace) → EachOpensNow v x y → EachOpensNow v y z → EachOpensNow v x z
 joined v x y z first second = EachMoment-join (EachOpens v.leaf (dirty_now v) (disk_now v)) x y z first second
 
 -- a step that commits leaves the layers ready
@@ -375,8 +369,8 @@ module _ (L0 L1 : Layers) (u : Underway) (d0 d1 : Disk) (merge_is : L0.merge ≡
 
       pub finish_stopped_second : Finishes L0 L2 d0 d2 (Err fault)
       finish_stopped_second = record {
-        told = both_then Told (KeepsOver c.was) (λ trace now. (v : State) → IsServing L0 v trace → FinishesTo L0.retiring v L2 trace now (Err fault)) d0.told d1.told d2.told told_first c.changed.moments
-            (λ x y z first over v serving. child_broken v v.rest x y z serving first over);
+        told = both_join Told (KeepsOver c.was) (λ trace now. (v : State) → IsServing L0 v trace → FinishesTo L0.retiring v L2 trace now (Err fault)) d0.told d1.told d2.told (λ x y z first over v serving. child_broken v v.rest x y z serving first over) told_first
+            c.changed.moments;
         ready = tt;
         low = tt;
         session = exchanged_session u.source c.was c.now L1 L2 c.exchanged ∙ exchanged_session (u.source + 2) t.was t.now L0 L1 t.exchanged;
@@ -413,9 +407,9 @@ module _ (L0 L1 : Layers) (u : Underway) (d0 d1 : Disk) (merge_is : L0.merge ≡
       -- R of the moments of both commits and S of those of the relink
       through : (S Q : Trace → Trace → Type 0) → WhereBothTold S d2.told d3.told → ((x y z w : Trace) → Both x y z → S z w → Q x w) → WhereBothTold Q d0.told d3.told
       through S Q last weaker =
-          both_then Told (λ y w. (z : Trace) × ((KeepsOver c.was y z × HasCommitted c.was c.now y z) × S z w)) Q d0.told d1.told d3.told told_first
-          (both_then (λ y z. KeepsOver c.was y z × HasCommitted c.was c.now y z) S (λ y w. (z : Trace) × ((KeepsOver c.was y z × HasCommitted c.was c.now y z) × S z w)) d1.told d2.told d3.told told_second last (λ y z w second s. (z, (second, s))))
-          (λ x y w first more. weaker x y more.0 w (first, more.1.0) more.1.1)
+          both_join Told (λ y w. (z : Trace) × ((KeepsOver c.was y z × HasCommitted c.was c.now y z) × S z w)) Q d0.told d1.told d3.told (λ x y w first more. weaker x y more.0 w (first, more.1.0) more.1.1)
+          told_first
+          (both_join (λ y z. KeepsOver c.was y z × HasCommitted c.was c.now y z) S (λ y w. (z : Trace) × ((KeepsOver c.was y z × HasCommitted c.was c.now y z) × S z w)) d1.told d2.told d3.told (λ y z w second s. (z, (second, s))) told_second last)
 
       -- ---- the leaf is the child
 

@@ -29,12 +29,11 @@ use Rattle.layer_session.proofs.Numbers.{are_numbers}
 use Rattle.merge_plan.specs.Attached.{CanStart, IsAsOpened, shown_from}
 use Rattle.chain_core.specs.Starting.{JudgesIds}
 use Rattle.merge_plan.specs.declared.drawing.NewIds.{NewIds}
+use Rattle.chain_model.proofs.Showing.{eq_names}
+use Rattle.merge_plan.proofs.Planned.{passed}
+use Rattle.shown_ids.proofs.Places.{part_at}
 
 -- ---- the third of three identifiers
-
-pub passed : {A : Type 0} (b : Bool) (x : A) (rest : Option A) → cond b (Some x) rest ≡ None → (b ≡ false) × (rest ≡ None)
-passed true x rest h = absurd (let never : ◌≡◌ {A = Option _} (Some x) None = h in cc)
-passed false x rest h = (refl, h)
 
 third_fit : (known : List (List ℕ)) (a b c : List ℕ) → first_unfit known (a ∷ b ∷ c ∷ []) ≡ None → is_unfit (b ∷ a ∷ known) c ≡ false
 third_fit known a b c h =
@@ -57,9 +56,6 @@ any_right p a b h = (or_parts (list_any p a) (list_any p b) (sym (list_any-appen
 
 -- ---- places of the log
 
-eq_names : (a b : List ℕ) → a ≡ b → bytes_eq a b ≡ true
-eq_names a b h = (bytes_eq-Decides a b).1 h
-
 no_place : (id file : List ℕ) (at n : ℕ) → list_any (same_id id) (place_ids file at n) ≡ false → (k : ℕ) → k < n → (x : List ℕ) → place_id file (at + 4096 * k) ≡ Some x → same_id id x ≡ false
 unfolding place_ids
 no_place id file at zero none k below x is = absurd (omega arith)
@@ -70,15 +66,6 @@ no_place id file at (suc n) none zero below x is =
 no_place id file at (suc n) none (suc k) below x is =
     let same : at + 4096 * suc k ≡ at + 4096 + 4096 * k = omega arith in
     no_place id file (at + 4096) n (any_right (same_id id) (listed (place_id file at)) (place_ids file (at + 4096) n) none) k (omega arith) x (ap (place_id file) (sym same) ∙ is)
-
--- a part of a part
-part_at : (file : List ℕ) (at len from n : ℕ) → from + n ≤ len → take n (drop from (take len (drop at file))) ≡ take n (drop (at + from) file)
-part_at file at len from n h =
-    let cut : len ≡ from + (len - from) = omega arith in
-    ap (λ (k : ℕ). take n (drop from (take k (drop at file)))) cut
-    ∙ ap (take n) (drop-take from (len - from) (drop at file))
-    ∙ take-take n (len - from) (drop from (drop at file)) (omega arith)
-    ∙ ap (take n) (drop-drop from at file)
 
 -- a head in the ring is a place of the file that shows its identifier
 place_of_head : (id file : List ℕ) (log len p : ℕ) → IsHead id (ring_of log len file) p → p + 64 ≤ len → place_id file (log + p) ≡ Some id

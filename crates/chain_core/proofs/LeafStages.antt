@@ -21,16 +21,17 @@ use Rattle.chain_core.specs.Starting.{EachOpensAlike, opening_disk}
 use Rattle.chain_core.proofs.LeafPhases.{AtBegun, AtHeir, AtLinked, begun_opens, begun_reaches, heir_opens, heir_reaches, linked_opens, linked_reaches}
 use Rattle.chain_core.proofs.MergeFound.{IsFound}
 use Rattle.chain_core.proofs.MergeStages.{serve_on}
-use Rattle.chain_core.proofs.MergeTold.{is_found, told_as, told_from, told_last, told_pair, told_then}
+use Rattle.chain_core.proofs.MergeTold.{is_found, told_from, told_last}
 use Rattle.chain_core.proofs.Phases.{Opened}
 use Rattle.chain_core.proofs.Stages.{gives_turn}
+use Rattle.store_model.proofs.Told.{both_and, both_from, both_join}
 
 -- each moment opened, and none but these files was changed
 abbrev pub OpenedOf : LeafFiles → List ℕ → Trace → Trace → Type 0
 OpenedOf m numbers t now = Opened (opening_disk t (leaf_chain m)) m.source.name numbers t now
 
 pub moments_of : (m : LeafFiles) (numbers : List ℕ) (old new : Option Trace) → WhereBothTold (OpenedOf m numbers) old new → EachOpensAlike (leaf_chain m) old new
-moments_of m numbers old new o = told_as (OpenedOf m numbers) (λ t now. EachMoment (EachOpens m.source.name (λ s. false) (opening_disk t (leaf_chain m))) t now) (λ a b x. x.moments) old new o
+moments_of m numbers old new o = both_from (OpenedOf m numbers) (λ t now. EachMoment (EachOpens m.source.name (λ s. false) (opening_disk t (leaf_chain m))) t now) old new (λ a b x. x.moments) o
 
 module _ (m : LeafFiles) (ids : LeafMergeIds) (twice : List Page) (d : Disk) (can : CanStart (leaf_chain m) d) (links : KeepsLeafLinked m ids.target.data_write) where
   found : WhereTold d.told (λ t. IsFound t (leaf_chain m))
@@ -46,7 +47,7 @@ module _ (m : LeafFiles) (ids : LeafMergeIds) (twice : List Page) (d : Disk) (ca
     begun_stage leaf begun =
         told_from (λ t. IsFound t (leaf_chain m)) (λ a b. BeginsOver m.source.parts (data_session ids.leaf) 0 a b × HasBegun m.source.parts (data_session ids.leaf) 0 leaf a b) (λ t. AtBegun t m ids twice leaf)
         (λ a b are x. begun_reaches a m ids twice are b x.0 leaf x.1) d.told o found
-        (told_pair (BeginsOver m.source.parts (data_session ids.leaf) 0) (HasBegun m.source.parts (data_session ids.leaf) 0 leaf) d.told o over begun)
+        (both_and (BeginsOver m.source.parts (data_session ids.leaf) 0) (HasBegun m.source.parts (data_session ids.leaf) 0 leaf) d.told o over begun)
 
   -- ---- the leaf is linked twice, by pages that were built of it as it was found
 
@@ -78,13 +79,13 @@ module _ (m : LeafFiles) (ids : LeafMergeIds) (twice : List Page) (d : Disk) (ca
     module _ (p : Option Trace) (over : WhereBothTold (UpdatesOver leaf twice) o p) where
       pub linked_told : WhereBothTold (OpenedOf m (0 ∷ 0 ∷ [])) d.told p
       linked_told =
-          told_then (λ a b. Known a × AtBegun a m ids twice leaf b) (UpdatesOver leaf twice) (OpenedOf m (0 ∷ 0 ∷ [])) (λ a b c r x. linked_opens a m ids twice r.0.0 links leaf b c r.1 (into a b r.0 r.1) x) d.told o p at_known over
+          both_join (λ a b. Known a × AtBegun a m ids twice leaf b) (UpdatesOver leaf twice) (OpenedOf m (0 ∷ 0 ∷ [])) d.told o p (λ a b c r x. linked_opens a m ids twice r.0.0 links leaf b c r.1 (into a b r.0 r.1) x) at_known over
 
       pub linked_stage : (next : Layer) → WhereBothTold (HasUpdated leaf next twice) o p → WhereBothTold (λ t. AtLinked t m ids twice next) d.told p
       linked_stage next updated =
-          told_then (λ a b. Known a × AtBegun a m ids twice leaf b) (λ a b. UpdatesOver leaf twice a b × HasUpdated leaf next twice a b) (λ t. AtLinked t m ids twice next)
-          (λ a b c r x. linked_reaches a m ids twice r.0.0 links leaf b c r.1 (into a b r.0 r.1) x.0 next x.1) d.told o p at_known
-          (told_pair (UpdatesOver leaf twice) (HasUpdated leaf next twice) o p over updated)
+          both_join (λ a b. Known a × AtBegun a m ids twice leaf b) (λ a b. UpdatesOver leaf twice a b × HasUpdated leaf next twice a b) (λ t. AtLinked t m ids twice next)
+          d.told o p (λ a b c r x. linked_reaches a m ids twice r.0.0 links leaf b c r.1 (into a b r.0 r.1) x.0 next x.1) at_known
+          (both_and (UpdatesOver leaf twice) (HasUpdated leaf next twice) o p over updated)
 
   -- ---- the target's session begins
 
@@ -101,11 +102,11 @@ module _ (m : LeafFiles) (ids : LeafMergeIds) (twice : List Page) (d : Disk) (ca
     module _ (p : Option Trace) (over : WhereBothTold (BeginsOver m.target.parts (data_session ids.target) 1) o p) where
       pub heir_told : WhereBothTold (OpenedOf m (1 ∷ 0 ∷ 0 ∷ [])) d.told p
       heir_told =
-          told_then (λ a b. IsFound a (leaf_chain m) × AtLinked a m ids twice leaf b) (BeginsOver m.target.parts (data_session ids.target) 1) (OpenedOf m (1 ∷ 0 ∷ 0 ∷ []))
-          (λ a b c r x. heir_opens a m ids twice r.0 links leaf b c r.1 x) d.told o p both over
+          both_join (λ a b. IsFound a (leaf_chain m) × AtLinked a m ids twice leaf b) (BeginsOver m.target.parts (data_session ids.target) 1) (OpenedOf m (1 ∷ 0 ∷ 0 ∷ []))
+          d.told o p (λ a b c r x. heir_opens a m ids twice r.0 links leaf b c r.1 x) both over
 
       pub heir_stage : (target : Layer) → WhereBothTold (HasBegun m.target.parts (data_session ids.target) 1 target) o p → WhereBothTold (λ t. AtHeir t m ids twice leaf target) d.told p
       heir_stage target begun =
-          told_then (λ a b. IsFound a (leaf_chain m) × AtLinked a m ids twice leaf b) (λ a b. BeginsOver m.target.parts (data_session ids.target) 1 a b × HasBegun m.target.parts (data_session ids.target) 1 target a b)
-          (λ t. AtHeir t m ids twice leaf target) (λ a b c r x. heir_reaches a m ids twice r.0 links leaf b c r.1 x.0 target x.1) d.told o p both
-          (told_pair (BeginsOver m.target.parts (data_session ids.target) 1) (HasBegun m.target.parts (data_session ids.target) 1 target) o p over begun)
+          both_join (λ a b. IsFound a (leaf_chain m) × AtLinked a m ids twice leaf b) (λ a b. BeginsOver m.target.parts (data_session ids.target) 1 a b × HasBegun m.target.parts (data_session ids.target) 1 target a b)
+          (λ t. AtHeir t m ids twice leaf target) d.told o p (λ a b c r x. heir_reaches a m ids twice r.0 links leaf b c r.1 x.0 target x.1) both
+          (both_and (BeginsOver m.target.parts (data_session ids.target) 1) (HasBegun m.target.parts (data_session ids.target) 1 target) o p over begun)

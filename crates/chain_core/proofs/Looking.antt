@@ -28,16 +28,13 @@ use Rattle.chain_core.specs.Reading.{Finds, HasOnlyRead}
 use Rattle.chain_core.specs.Answering.{EachOpensBefore, LayerAnswers, LayerTold, answer_of, as_read}
 use Rattle.chain_core.proofs.Steps.{at_rest, fewer_marks}
 use Rattle.chain_core.proofs.Rests.{loose_after, new_top, opens_now, top_loose}
+use Rattle.chain_core.proofs.Concluding.{first_out}
 
 -- a read makes nothing loose
 read_leaves : (z first count : ℕ) (top : Placed) → top ≡ made z (calls.Read first count) top
 read_leaves z first count top =
     let same : top.is_loose ≡ (λ s. top.is_loose s || false) = sym (λ i. λ s. or-false (top.is_loose s) i) in
     ap (λ (f : ℕ → Bool). let p : Placed = record top { is_loose = f } in p) same
-
-first_out : (a b : Bool) → (a || b) ≡ false → a ≡ false
-first_out true b h = h
-first_out false b h = refl
 
 -- each image opens to the disk, outside what is dirty and what a read names, which is nothing
 opens_still : (first count : ℕ) (who : Caller) (v : State) (layers : Layers) (trace : Trace) → IsServing layers v trace → EachOpensBefore (entry who (calls.Read first count)) v trace trace

@@ -13,7 +13,7 @@ use Rattle.merge_plan.specs.declared.drawing.MergeIds.{MergeIds}
 use Rattle.chain_core.specs.MergeStarting.{ChildBegun, ChildOver, target_place}
 use Rattle.chain_core.proofs.MergePhases.{AtChild, AtTarget, child_is_leaf, child_opens, child_reaches}
 use Rattle.chain_core.proofs.MergeStages.{OpenedBy}
-use Rattle.chain_core.proofs.MergeTold.{told_pair, told_then}
+use Rattle.store_model.proofs.Told.{both_and, both_join}
 
 -- files above the source, of which the child is the leaf
 pub leaf_only : (n : ℕ) → false ≡ nat_lt 0 (suc n) → ⊥
@@ -53,11 +53,11 @@ module _ (m : MergeFiles) (ids : MergeIds) (twice : List Page) (leaf source targ
     (at : WhereBothTold (λ t. AtTarget t m ids twice leaf source target) x y) (over : WhereBothTold (ChildOver ids.child m.child.parts (length m.above)) y z) where
   pub child_told : WhereBothTold (OpenedBy m (length m.above ∷ target_place m ∷ source_place m ∷ source_place m ∷ 0 ∷ [])) x z
   child_told =
-      told_then (λ t. AtTarget t m ids twice leaf source target) (ChildOver ids.child m.child.parts (length m.above)) (OpenedBy m (length m.above ∷ target_place m ∷ source_place m ∷ source_place m ∷ 0 ∷ []))
-      (λ a b c r o. child_open a m.above m.child m.source m.target m.below ids twice ids.child leaf source target b c some r o) x y z at over
+      both_join (λ t. AtTarget t m ids twice leaf source target) (ChildOver ids.child m.child.parts (length m.above)) (OpenedBy m (length m.above ∷ target_place m ∷ source_place m ∷ source_place m ∷ 0 ∷ []))
+      x y z (λ a b c r o. child_open a m.above m.child m.source m.target m.below ids twice ids.child leaf source target b c some r o) at over
 
   pub child_stage : (l : Option Layer) → WhereBothTold (ChildBegun ids.child m.child.parts (length m.above) l) y z → WhereBothTold (λ t. AtChild t m ids twice ids.child leaf source target l) x z
   child_stage l begun =
-      told_then (λ t. AtTarget t m ids twice leaf source target) (λ a b. ChildOver ids.child m.child.parts (length m.above) a b × ChildBegun ids.child m.child.parts (length m.above) l a b) (λ t. AtChild t m ids twice ids.child leaf source target l)
-      (λ a b c r o. child_after a m.above m.child m.source m.target m.below ids twice ids.child leaf source target l b c some r o) x y z at
-      (told_pair (ChildOver ids.child m.child.parts (length m.above)) (ChildBegun ids.child m.child.parts (length m.above) l) y z over begun)
+      both_join (λ t. AtTarget t m ids twice leaf source target) (λ a b. ChildOver ids.child m.child.parts (length m.above) a b × ChildBegun ids.child m.child.parts (length m.above) l a b) (λ t. AtChild t m ids twice ids.child leaf source target l)
+      x y z (λ a b c r o. child_after a m.above m.child m.source m.target m.below ids twice ids.child leaf source target l b c some r o) at
+      (both_and (ChildOver ids.child m.child.parts (length m.above)) (ChildBegun ids.child m.child.parts (length m.above) l) y z over begun)

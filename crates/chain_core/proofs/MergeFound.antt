@@ -18,6 +18,7 @@ use Rattle.merge_plan.specs.Attached.{AreAsOpened, AreAttached, IsAsOpened}
 use Rattle.chain_core.specs.States.{seen_in}
 use Rattle.chain_core.proofs.Beginning.{none_loose_in, opens_at_rest, served, whole}
 use Rattle.chain_core.proofs.Phases.{Reached}
+use Rattle.merge_plan.proofs.Planned.{opened_below}
 
 -- ---- the leaf and the files below it
 
@@ -76,12 +77,6 @@ chain_is t (f ∷ above) child source target below =
     ∙ sym (append_assoc (placed_from t 1 above) (as_found t k child.parts ∷ []) rest))
 
 -- ---- what is known of them
-
-pub opened_below : (trace : Trace) (n : ℕ) (above rest : List LinkedFile) → AreAsOpened trace n (above ++ rest) → AreAsOpened trace (n + length above) rest
-opened_below trace n [] rest h = let same : n ≡ n + 0 = omega arith in subst (λ (k : ℕ). AreAsOpened trace k rest) same h
-opened_below trace n (file ∷ above) rest h =
-    let same : n + 1 + length above ≡ n + length (file ∷ above) = omega arith in
-    subst (λ (k : ℕ). AreAsOpened trace k rest) same (opened_below trace (n + 1) above rest h.1)
 
 pub opened_above : (trace : Trace) (n : ℕ) (above rest : List LinkedFile) → AreAsOpened trace n (above ++ rest) → AreAsOpened trace n above
 opened_above trace n [] rest h = tt

@@ -26,10 +26,11 @@ use Rattle.chain_core.specs.Starting.{EachOpensAlike, opening_disk}
 use Rattle.merge_plan.specs.Attached.{CanStart}
 use Rattle.chain_core.proofs.MergeFound.{AreFound, files_split, lower_files, source_opened}
 use Rattle.chain_core.proofs.MergePhases.{AtChild, AtEnd, AtLeaf, AtLocator, AtSource, AtTarget, end_opens, end_reaches, end_serves, leaf_opens, leaf_reaches, locator_opens, locator_reaches, source_opens, source_reaches, target_opens, target_reaches}
-use Rattle.chain_core.proofs.MergeTold.{are_found, told_as, told_from, told_last, told_pair, told_then}
+use Rattle.chain_core.proofs.MergeTold.{are_found, told_from, told_last}
 use Rattle.merge_plan.proofs.Opened.{lie_within}
 use Rattle.chain_core.proofs.Phases.{Opened}
 use Rattle.chain_core.proofs.Stages.{gives_turn, serve_beside}
+use Rattle.store_model.proofs.Told.{both_and, both_from, both_join}
 
 -- ---- what was opened
 
@@ -40,8 +41,8 @@ OpenedBy m numbers t now = Opened (opening_disk t (chain_files m)) (leaf_of m).n
 pub moments_of : (m : MergeFiles) (numbers : List ℕ) (old new : Option Trace) → WhereBothTold (OpenedBy m numbers) old new → EachOpensAlike (chain_files m) old new
 moments_of m numbers old new o =
     subst (λ (fs : List LinkedFile). EachOpensAlike fs old new) (sym (files_split m))
-    (told_as (OpenedBy m numbers) (λ t now. EachMoment (EachOpens (leaf_of m).name (λ s. false) (opening_disk t (leaf_of m ∷ lower_files m))) t now)
-    (λ a b x. subst (λ (fs : List LinkedFile). EachMoment (EachOpens (leaf_of m).name (λ s. false) (opening_disk a fs)) a b) (files_split m) x.moments) old new o)
+    (both_from (OpenedBy m numbers) (λ t now. EachMoment (EachOpens (leaf_of m).name (λ s. false) (opening_disk t (leaf_of m ∷ lower_files m))) t now)
+    old new (λ a b x. subst (λ (fs : List LinkedFile). EachMoment (EachOpens (leaf_of m).name (λ s. false) (opening_disk a fs)) a b) (files_split m) x.moments) o)
 
 others_apart : (changes : ℕ → Bool) (k : ℕ) (numbers : List ℕ) → AllByRecursion (λ n. changes n ≡ true) numbers → changes k ≡ false → AllByRecursion (λ n. k ≢ n) numbers
 others_apart changes k [] changed none = tt
@@ -50,7 +51,7 @@ others_apart changes k (n ∷ numbers) changed none = ((λ e. let never : true �
 pub all_but : (changes : ℕ → Bool) (opening : Trace → GuestDisk) (leaf : List ℕ) (numbers : List ℕ) → AllByRecursion (λ n. changes n ≡ true) numbers → (old new : Option Trace) → WhereBothTold (λ t now. Opened (opening t) leaf numbers t now) old new
     → LeavesAllBut changes old new
 all_but changes opening leaf numbers changed old new o =
-    told_as (λ t now. Opened (opening t) leaf numbers t now) (λ t now. (other : ℕ) → changes other ≡ false → file_of now other ≡ file_of t other) (λ a b x other none. (x.left other (others_apart changes other numbers changed none)).same) old new o
+    both_from (λ t now. Opened (opening t) leaf numbers t now) (λ t now. (other : ℕ) → changes other ≡ false → file_of now other ≡ file_of t other) old new (λ a b x other none. (x.left other (others_apart changes other numbers changed none)).same) o
 
 pub still_of : (m : MergeFiles) (numbers : List ℕ) → AllByRecursion (λ n. is_changed m n ≡ true) numbers → (old new : Option Trace) → WhereBothTold (OpenedBy m numbers) old new → LeavesRest m old new
 still_of m numbers changed old new o = all_but (is_changed m) (λ t. opening_disk t (chain_files m)) (leaf_of m).name numbers changed old new o
@@ -73,7 +74,7 @@ module _ (m : MergeFiles) (ids : MergeIds) (twice : List Page) (d : Disk) (can :
   leaf_stage leaf o over begun =
       told_from (λ t. AreFound t m) (λ a b. BeginsOver (leaf_of m).parts (data_session ids.leaf) 0 a b × HasBegun (leaf_of m).parts (data_session ids.leaf) 0 leaf a b) (λ t. AtLeaf t m ids twice leaf)
       (λ a b are x. leaf_reaches a m ids twice are b x.0 leaf x.1) d.told o found
-      (told_pair (BeginsOver (leaf_of m).parts (data_session ids.leaf) 0) (HasBegun (leaf_of m).parts (data_session ids.leaf) 0 leaf) d.told o over begun)
+      (both_and (BeginsOver (leaf_of m).parts (data_session ids.leaf) 0) (HasBegun (leaf_of m).parts (data_session ids.leaf) 0 leaf) d.told o over begun)
 
   pub leaf_told : (o : Option Trace) → WhereBothTold (BeginsOver (leaf_of m).parts (data_session ids.leaf) 0) d.told o → WhereBothTold (OpenedBy m (0 ∷ [])) d.told o
   leaf_told o over = told_from (λ t. AreFound t m) (BeginsOver (leaf_of m).parts (data_session ids.leaf) 0) (OpenedBy m (0 ∷ [])) (λ a b are x. leaf_opens a m ids twice are b x) d.told o found over
@@ -85,14 +86,14 @@ module _ (m : MergeFiles) (ids : MergeIds) (twice : List Page) (d : Disk) (can :
 
     pub source_told : (p : Option Trace) → WhereBothTold (BeginsOver m.source.parts (log_session ids.source) (source_place m)) o p → WhereBothTold (OpenedBy m (source_place m ∷ 0 ∷ [])) d.told p
     source_told p over =
-        told_then (λ t. AtLeaf t m ids twice leaf) (BeginsOver m.source.parts (log_session ids.source) (source_place m)) (OpenedBy m (source_place m ∷ 0 ∷ [])) (λ a b c r x. source_opens a m ids twice leaf b c r x) d.told o p at over
+        both_join (λ t. AtLeaf t m ids twice leaf) (BeginsOver m.source.parts (log_session ids.source) (source_place m)) (OpenedBy m (source_place m ∷ 0 ∷ [])) d.told o p (λ a b c r x. source_opens a m ids twice leaf b c r x) at over
 
     pub source_stage : (source : Layer) (p : Option Trace) → WhereBothTold (BeginsOver m.source.parts (log_session ids.source) (source_place m)) o p → WhereBothTold (HasBegun m.source.parts (log_session ids.source) (source_place m) source) o p
         → WhereBothTold (λ t. AtSource t m ids twice leaf source) d.told p
     source_stage source p over begun =
-        told_then (λ t. AtLeaf t m ids twice leaf) (λ a b. BeginsOver m.source.parts (log_session ids.source) (source_place m) a b × HasBegun m.source.parts (log_session ids.source) (source_place m) source a b) (λ t. AtSource t m ids twice leaf source)
-        (λ a b c r x. source_reaches a m ids twice leaf b c r x.0 source x.1) d.told o p at
-        (told_pair (BeginsOver m.source.parts (log_session ids.source) (source_place m)) (HasBegun m.source.parts (log_session ids.source) (source_place m) source) o p over begun)
+        both_join (λ t. AtLeaf t m ids twice leaf) (λ a b. BeginsOver m.source.parts (log_session ids.source) (source_place m) a b × HasBegun m.source.parts (log_session ids.source) (source_place m) source a b) (λ t. AtSource t m ids twice leaf source)
+        d.told o p (λ a b c r x. source_reaches a m ids twice leaf b c r x.0 source x.1) at
+        (both_and (BeginsOver m.source.parts (log_session ids.source) (source_place m)) (HasBegun m.source.parts (log_session ids.source) (source_place m) source) o p over begun)
 
   -- the pages that link the source twice were built of it as it was found
   module _ (leaf source : Layer) (o : Option Trace) (at : WhereBothTold (λ t. AtSource t m ids twice leaf source) d.told o) (table : source.tables.parts.bat_len ≡ m.source.parts.bat_len) (pages : ArePages m.source.parts twice)
@@ -121,16 +122,16 @@ module _ (m : MergeFiles) (ids : MergeIds) (twice : List Page) (d : Disk) (can :
 
     pub locator_told : (p : Option Trace) → WhereBothTold (UpdatesOver source twice) o p → WhereBothTold (OpenedBy m (source_place m ∷ source_place m ∷ 0 ∷ [])) d.told p
     locator_told p over =
-        told_then (λ a b. Known a × AtSource a m ids twice leaf source b) (UpdatesOver source twice) (OpenedBy m (source_place m ∷ source_place m ∷ 0 ∷ []))
-        (λ a b c r x. locator_opens a m ids twice r.0.0 links leaf source b c r.1 (into a b r.0 r.1) x) d.told o p
+        both_join (λ a b. Known a × AtSource a m ids twice leaf source b) (UpdatesOver source twice) (OpenedBy m (source_place m ∷ source_place m ∷ 0 ∷ []))
+        d.told o p (λ a b c r x. locator_opens a m ids twice r.0.0 links leaf source b c r.1 (into a b r.0 r.1) x)
         (told_from Known (λ t. AtSource t m ids twice leaf source) (λ a b. Known a × AtSource a m ids twice leaf source b) (λ a b k r. (k, r)) d.told o known at) over
 
     pub locator_stage : (next : Layer) (p : Option Trace) → WhereBothTold (UpdatesOver source twice) o p → WhereBothTold (HasUpdated source next twice) o p → WhereBothTold (λ t. AtLocator t m ids twice leaf next) d.told p
     locator_stage next p over updated =
-        told_then (λ a b. Known a × AtSource a m ids twice leaf source b) (λ a b. UpdatesOver source twice a b × HasUpdated source next twice a b) (λ t. AtLocator t m ids twice leaf next)
-        (λ a b c r x. locator_reaches a m ids twice r.0.0 links leaf source b c r.1 (into a b r.0 r.1) x.0 next x.1) d.told o p
+        both_join (λ a b. Known a × AtSource a m ids twice leaf source b) (λ a b. UpdatesOver source twice a b × HasUpdated source next twice a b) (λ t. AtLocator t m ids twice leaf next)
+        d.told o p (λ a b c r x. locator_reaches a m ids twice r.0.0 links leaf source b c r.1 (into a b r.0 r.1) x.0 next x.1)
         (told_from Known (λ t. AtSource t m ids twice leaf source) (λ a b. Known a × AtSource a m ids twice leaf source b) (λ a b k r. (k, r)) d.told o known at)
-        (told_pair (UpdatesOver source twice) (HasUpdated source next twice) o p over updated)
+        (both_and (UpdatesOver source twice) (HasUpdated source next twice) o p over updated)
 
   module _ (leaf source : Layer) (o : Option Trace) (at : WhereBothTold (λ t. AtLocator t m ids twice leaf source) d.told o) where
     pub target_serves : WhereTold d.told (CanServe m.target.parts ids.target.log (target_place m)) → WhereTold o (CanServe m.target.parts ids.target.log (target_place m))
@@ -143,29 +144,29 @@ module _ (m : MergeFiles) (ids : MergeIds) (twice : List Page) (d : Disk) (can :
 
     pub target_told : (p : Option Trace) → WhereBothTold (BeginsOver m.target.parts (data_session ids.target) (target_place m)) o p → WhereBothTold (OpenedBy m (target_place m ∷ source_place m ∷ source_place m ∷ 0 ∷ [])) d.told p
     target_told p over =
-        told_then (λ a b. AreFound a m × AtLocator a m ids twice leaf source b) (BeginsOver m.target.parts (data_session ids.target) (target_place m)) (OpenedBy m (target_place m ∷ source_place m ∷ source_place m ∷ 0 ∷ []))
-        (λ a b c r x. target_opens a m ids twice r.0 links leaf source b c r.1 x) d.told o p both over
+        both_join (λ a b. AreFound a m × AtLocator a m ids twice leaf source b) (BeginsOver m.target.parts (data_session ids.target) (target_place m)) (OpenedBy m (target_place m ∷ source_place m ∷ source_place m ∷ 0 ∷ []))
+        d.told o p (λ a b c r x. target_opens a m ids twice r.0 links leaf source b c r.1 x) both over
 
     pub target_stage : (target : Layer) (p : Option Trace) → WhereBothTold (BeginsOver m.target.parts (data_session ids.target) (target_place m)) o p
         → WhereBothTold (HasBegun m.target.parts (data_session ids.target) (target_place m) target) o p → WhereBothTold (λ t. AtTarget t m ids twice leaf source target) d.told p
     target_stage target p over begun =
-        told_then (λ a b. AreFound a m × AtLocator a m ids twice leaf source b) (λ a b. BeginsOver m.target.parts (data_session ids.target) (target_place m) a b × HasBegun m.target.parts (data_session ids.target) (target_place m) target a b)
-        (λ t. AtTarget t m ids twice leaf source target) (λ a b c r x. target_reaches a m ids twice r.0 links leaf source b c r.1 x.0 target x.1) d.told o p both
-        (told_pair (BeginsOver m.target.parts (data_session ids.target) (target_place m)) (HasBegun m.target.parts (data_session ids.target) (target_place m) target) o p over begun)
+        both_join (λ a b. AreFound a m × AtLocator a m ids twice leaf source b) (λ a b. BeginsOver m.target.parts (data_session ids.target) (target_place m) a b × HasBegun m.target.parts (data_session ids.target) (target_place m) target a b)
+        (λ t. AtTarget t m ids twice leaf source target) d.told o p (λ a b c r x. target_reaches a m ids twice r.0 links leaf source b c r.1 x.0 target x.1) both
+        (both_and (BeginsOver m.target.parts (data_session ids.target) (target_place m)) (HasBegun m.target.parts (data_session ids.target) (target_place m) target) o p over begun)
 
   -- the source's session ends
   module _ (inner : Option LogIds) (leaf source target : Layer) (child : Option Layer) (o p : Option Trace) (at : WhereBothTold (λ t. AtChild t m ids twice inner leaf source target child) d.told o) (keeps : WhereBothTold (KeepsOver source) o p) where
     pub end_told : WhereBothTold (OpenedBy m (source_place m ∷ length m.above ∷ target_place m ∷ source_place m ∷ source_place m ∷ 0 ∷ [])) d.told p
     end_told =
-        told_then (λ t. AtChild t m ids twice inner leaf source target child) (KeepsOver source) (OpenedBy m (source_place m ∷ length m.above ∷ target_place m ∷ source_place m ∷ source_place m ∷ 0 ∷ []))
-        (λ a b c r x. end_opens a m ids twice inner leaf source target child b c r x) d.told o p at keeps
+        both_join (λ t. AtChild t m ids twice inner leaf source target child) (KeepsOver source) (OpenedBy m (source_place m ∷ length m.above ∷ target_place m ∷ source_place m ∷ source_place m ∷ 0 ∷ []))
+        d.told o p (λ a b c r x. end_opens a m ids twice inner leaf source target child b c r x) at keeps
 
     pub end_stage : (l : ReadLayer) → WhereBothTold (HasClosed source l) o p
         → WhereBothTold (λ t now. AtEnd t m ids twice inner leaf target child now × (IsRead l now (source_in t m ids twice) × (is_synced (file_of now (source_place m)) ≡ true))) d.told p
     end_stage l closed =
-        told_then (λ t. AtChild t m ids twice inner leaf source target child) (λ a b. KeepsOver source a b × HasClosed source l a b)
+        both_join (λ t. AtChild t m ids twice inner leaf source target child) (λ a b. KeepsOver source a b × HasClosed source l a b)
         (λ t now. AtEnd t m ids twice inner leaf target child now × (IsRead l now (source_in t m ids twice) × (is_synced (file_of now (source_place m)) ≡ true)))
-        (λ a b c r x.
+        d.told o p (λ a b c r x.
         let serves = end_serves a m ids twice inner leaf source target child b c r x.0 in
-        (end_reaches a m ids twice inner leaf source target child b c r x.0 (x.1.kept (source_in a m ids twice) serves).shows, (x.1.reads (source_in a m ids twice) serves, x.1.synced (source_in a m ids twice) serves))) d.told o p at
-        (told_pair (KeepsOver source) (HasClosed source l) o p keeps closed)
+        (end_reaches a m ids twice inner leaf source target child b c r x.0 (x.1.kept (source_in a m ids twice) serves).shows, (x.1.reads (source_in a m ids twice) serves, x.1.synced (source_in a m ids twice) serves))) at
+        (both_and (KeepsOver source) (HasClosed source l) o p keeps closed)

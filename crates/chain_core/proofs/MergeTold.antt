@@ -19,30 +19,11 @@ use Rattle.merge_plan.specs.Merging.{MergeFiles}
 use Rattle.chain_core.specs.MergeStarting.{chain_files}
 use Rattle.merge_plan.specs.Attached.{AreAsOpened, BeginsInUse, CanStart, IsAsOpened}
 use Rattle.chain_core.proofs.Beginning.{by_recursion}
-use Rattle.chain_core.proofs.Fresh.{any_left, any_right, passed, serve_fresh}
-use Rattle.chain_core.proofs.MergeFound.{AreFound, IsFound, opened_below}
+use Rattle.chain_core.proofs.Fresh.{any_left, any_right, serve_fresh}
+use Rattle.chain_core.proofs.MergeFound.{AreFound, IsFound}
+use Rattle.merge_plan.proofs.Planned.{opened_below, passed}
 
 -- ---- one stretch behind another
-
-pub told_then : {T : Type 0} (R S Q : T → T → Type 0) → ((a b c : T) → R a b → S b c → Q a c) → (x y z : Option T) → WhereBothTold R x y → WhereBothTold S y z → WhereBothTold Q x z
-told_then R S Q f None None None r s = tt
-told_then R S Q f None None (Some c) r s = absurd s
-told_then R S Q f None (Some b) z r s = absurd r
-told_then R S Q f (Some a) None z r s = absurd r
-told_then R S Q f (Some a) (Some b) None r s = absurd s
-told_then R S Q f (Some a) (Some b) (Some c) r s = f a b c r s
-
-pub told_pair : {T : Type 0} (R S : T → T → Type 0) → (x y : Option T) → WhereBothTold R x y → WhereBothTold S x y → WhereBothTold (λ a b. R a b × S a b) x y
-told_pair R S None None r s = tt
-told_pair R S None (Some b) r s = r
-told_pair R S (Some a) None r s = r
-told_pair R S (Some a) (Some b) r s = (r, s)
-
-pub told_as : {T : Type 0} (R Q : T → T → Type 0) → ((a b : T) → R a b → Q a b) → (x y : Option T) → WhereBothTold R x y → WhereBothTold Q x y
-told_as R Q f None None r = tt
-told_as R Q f None (Some b) r = r
-told_as R Q f (Some a) None r = r
-told_as R Q f (Some a) (Some b) r = f a b r
 
 -- with what is known of the first moment
 pub told_from : {T : Type 0} (P : T → Type 0) (R Q : T → T → Type 0) → ((a b : T) → P a → R a b → Q a b) → (x y : Option T) → WhereTold x P → WhereBothTold R x y → WhereBothTold Q x y

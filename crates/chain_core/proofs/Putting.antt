@@ -126,7 +126,7 @@ AnswersPut piece target next trace now (Err (Read fault)) = IsKeptAs target next
 AnswersPut piece target next trace now (Err (FileFull n)) = IsKeptAs target next trace now
 AnswersPut piece target next trace now (Err (Write fault)) = HasFailedPut piece target trace now
 
-layers_append : (p q : List Placed) → layers_of (members_of (p ++ q)) ≡ layers_of (members_of p) ++ layers_of (members_of q)
+pub layers_append : (p q : List Placed) → layers_of (members_of (p ++ q)) ≡ layers_of (members_of p) ++ layers_of (members_of q)
 layers_append p q = ap layers_of (members_append p q) ∙ map-append (λ (x : Member). x.layer) (members_of p) (members_of q)
 
 -- ---- a chain in which a merge is under way

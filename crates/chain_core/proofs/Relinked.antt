@@ -28,7 +28,7 @@ use Rattle.chain_core.specs.declared.layers.Layers.{Layers}
 use Rattle.chain_core.specs.declared.layers.Underway.{Underway}
 use Rattle.chain_core.specs.Answering.{EachOpensNow}
 use Rattle.chain_core.specs.States.{AreHeld, AreWritten, IsCourse, IsRetiring, IsServing, IsUnder, Merging, Relinks, State, dirty_now, is_session, merging, plain, seen_in, WasSynced}
-use Rattle.chain_core.proofs.Putting.{apart_around, have_all, have_parts}
+use Rattle.chain_core.proofs.Putting.{apart_around, have_all, have_parts, layers_append}
 use Rattle.chain_core.proofs.Steps.{all_right, names_behind, phase_beside, phase_others, still_once, still_read}
 
 -- ---- the child's ties
@@ -90,9 +90,6 @@ none_loose_without s (x ∷ a) child new source b h all = (all.0, none_loose_wit
 loose_without : (dirty : ℕ → Bool) (a : List Placed) (child after source : Placed) (b : List Placed) → ((s : ℕ) → after.is_loose s ≡ false) → LooseAtTop dirty (a ++ child ∷ source ∷ b) → LooseAtTop dirty (a ++ after ∷ b)
 loose_without dirty [] child after source b tight loose = ((λ s clean. tight s), (λ s. (loose.1 s).1))
 loose_without dirty (x ∷ a) child after source b tight loose = (loose.0, (λ s. none_loose_without s a child after source b (λ h. tight s) (loose.1 s)))
-
-layers_append : (p q : List Placed) → layers_of (members_of (p ++ q)) ≡ layers_of (members_of p) ++ layers_of (members_of q)
-layers_append p q = ap layers_of (members_append p q) ∙ map-append (λ (x : Member). x.layer) (members_of p) (members_of q)
 
 -- each sector is in a file still
 whole_without : (a : List Placed) (child after source target : Placed) (b : List Placed) (s : ℕ) → after.member.layer ≡ child.member.layer → ((bytes : List ℕ) → source.member.layer s ≡ Some bytes → target.member.layer s ≡ Some bytes)

@@ -25,10 +25,7 @@ use Rattle.chain_core.proofs.Exchanged.{change_failed, exchanged_low, relinking_
 use Rattle.chain_core.proofs.Places.{some_leaf}
 use Rattle.chain_core.proofs.Replaced.{AreParts}
 use Rattle.chain_core.proofs.RetireStays.{Stays, all_ready, handed_leaf_ready, handed_parts, identifying_leaves, leaf_fails, leaf_ready, leaf_turns, leaf_was_ready, stays_first, stays_leaf, stays_number, stays_target, target_fails, target_ready, target_was, target_was_ready}
-use Rattle.chain_core.proofs.Retires.{AtFifth, AtFourth, AtThird, Breaks, LeafChange, Reaches, StandsIn, TargetChange, broken_fifth, broken_first, broken_fourth, broken_second, broken_sixth, broken_third, broken_told, leaf_change, reached_fifth, reached_first, reached_fourth, reached_second, reached_sixth, reached_third, reached_told, reached_unchanged, target_change}
-
-some_is : {X : Type 0} (a b : X) → ◌≡◌ {A = Option X} (Some a) (Some b) → a ≡ b
-some_is a b is = cc
+use Rattle.chain_core.proofs.Retires.{AtFifth, AtFourth, AtThird, Breaks, LeafChange, Reaches, StandsIn, TargetChange, broken_fifth, broken_first, broken_fourth, broken_second, broken_sixth, broken_third, broken_told, leaf_change, reached_fifth, reached_first, reached_fourth, reached_second, reached_sixth, reached_third, reached_told, reached_unchanged, some_is, target_change}
 
 module _ (L0 : Layers) (r : Retiring) (d0 : Disk) (none : L0.merge ≡ None) (kept_is : L0.retiring ≡ Some r) (marked : IsAllMarked r.marks) (ready : AreReady L0 d0) where
   of_retiring : IsRetiringOf L0.geometry L0.leaf L0.below.items r

@@ -30,11 +30,12 @@ use Rattle.chain_core.specs.Answering.{EachOpensNow, HasEnded}
 use Rattle.chain_core.specs.Finished.{ChangesFile, FinishesTo, HandsOver, Identifies, IsAllMarked, IsExchanged, IsSucceeded, LeavesBy, Look, Settles, UpdatesBy, at_leaf, at_lower, look_of, named_anew}
 use Rattle.chain_core.specs.States.{AreWritten, IsCleared, IsLeaving, IsRetiring, IsServing, Renames, Rest, State, dirty_now, disk_now, merging, plain, retiring, sector_of, target_parts, with_retired}
 use Rattle.chain_core.proofs.Concluding.{both_told}
-use Rattle.chain_core.proofs.Ending.{both_then}
 use Rattle.chain_core.proofs.LeafTargets.{serves_target}
 use Rattle.chain_core.proofs.Relinked.{there_without}
 use Rattle.chain_core.proofs.Steps.{renames_alike}
 use Rattle.chain_core.proofs.Succeeding.{CanSucceed, IsLeft, Stands, chain_on, end_left, end_moves, gone_left, gone_moves, named_left, named_moves, start_moves, start_stands, succeeded, target_moves, target_stands, top_moves, top_stands}
+use Rattle.chain_core.proofs.Finishes.{joined}
+use Rattle.store_model.proofs.Told.{both_and, both_join}
 
 -- ---- a change of the leaf, and of the first file below it
 
@@ -82,7 +83,7 @@ module _ (change : Layer → Layer → Disk → Disk → Result (Unit {0}) Store
 
 -- ---- what a state and its layers have
 
-some_is : {X : Type 0} (a b : X) → ◌≡◌ {A = Option X} (Some a) (Some b) → a ≡ b
+pub some_is : {X : Type 0} (a b : X) → ◌≡◌ {A = Option X} (Some a) (Some b) → a ≡ b
 some_is a b is = cc
 
 first_is : (a b : Layer) (xs ys : List FileLayer) → ◌≡◌ {A = List FileLayer} (Session a ∷ xs) (Session b ∷ ys) → (a ≡ b) × (xs ≡ ys)
@@ -123,9 +124,6 @@ pub record IsGone (v : State) (target gone : Placed) : Type 0 where
   pub leads : gone.member.ties.retired ≡ Some target.member.name
   pub tight : settled gone ≡ gone
 
-joined : (v : State) (x y z : Trace) → EachOpensNow v x y → EachOpensNow v y z → EachOpensNow v x z
-joined v x y z first second = EachMoment-join (EachOpens v.leaf (dirty_now v) (disk_now v)) x y z first second
-
 module _ (L0 : Layers) (r : Retiring) where
   -- What a state says that such layers serve: each stripe is copied, and the pages that are kept of the merge are its files'.
   pub record IsFinishing (v : State) (target : Placed) (below : List Placed) : Type 0 where
@@ -152,28 +150,22 @@ module _ (L0 : Layers) (r : Retiring) where
   then_reaches : (At Next : State → Placed → List Placed → Trace → Type 0) (R : Trace → Trace → Type 0) (a b c : Option Trace) → WhereBothTold (Reaches At) a b → WhereBothTold R b c
       → ((v : State) (target : Placed) (below : List Placed) (y z : Trace) → IsFinishing v target below → At v target below y → R y z → EachOpensNow v y z × Next v target below z) → WhereBothTold (Reaches Next) a c
   then_reaches At Next R a b c reached step on =
-      both_then (Reaches At) R (Reaches Next) a b c reached step
-      (λ x y z so s v target below first before serving.
+      both_join (Reaches At) R (Reaches Next) a b c (λ x y z so s v target below first before serving.
       let was = so v target below first before serving in
       let next = on v target below y z was.0 was.1.1 s in
-      (was.0, (joined v x y z was.1.0 next.0, next.1)))
+      (was.0, (joined v x y z was.1.0 next.0, next.1))) reached
+      step
 
   then_breaks : (At : State → Placed → List Placed → Trace → Type 0) (R : Trace → Trace → Type 0) (a b c : Option Trace) → WhereBothTold (Reaches At) a b → WhereBothTold R b c
       → ((v : State) (target : Placed) (below : List Placed) (y z : Trace) → IsFinishing v target below → At v target below y → R y z → HasEnded v y z) → WhereBothTold Breaks a c
   then_breaks At R a b c reached step on =
-      both_then (Reaches At) R Breaks a b c reached step
-      (λ x y z so s v target below first before serving.
+      both_join (Reaches At) R Breaks a b c (λ x y z so s v target below first before serving.
       let was = so v target below first before serving in
       let next = on v target below y z was.0 was.1.1 s in
-      record { moments = joined v x y z was.1.0 next.moments; still = next.still; past = next.past })
+      record { moments = joined v x y z was.1.0 next.moments; still = next.still; past = next.past }) reached
+      step
 
   -- both of two are told
-  both_and : (R S : Trace → Trace → Type 0) (a b : Option Trace) → WhereBothTold R a b → WhereBothTold S a b → WhereBothTold (λ t u. R t u × S t u) a b
-  both_and R S None None r s = tt
-  both_and R S None (Some u) r s = r
-  both_and R S (Some t) None r s = r
-  both_and R S (Some t) (Some u) r s = (r, s)
-
   -- ---- the target is committed
 
   module _ (kept_is : L0.retiring ≡ Some r) (marked : IsAllMarked r.marks) (a : Layer) (leaf_is : L0.leaf ≡ Some a) (L1 : Layers) (d0 d1 : Disk) (result : Result (Unit {0}) StoreFault) (t : TargetChange Settles L0 L1 d0 d1 result) where

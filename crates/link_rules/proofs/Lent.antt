@@ -226,7 +226,7 @@ both_synced (Some x) (Some y) h = h.synced
 
 -- ---- what is seen of the folder
 
-same_name : (a b : List ℕ) → bytes_eq a b ≡ true → a ≡ b
+pub same_name : (a b : List ℕ) → bytes_eq a b ≡ true → a ≡ b
 same_name a b e = (bytes_eq-Decides a b).0 e
 
 -- a file that is put in is there, and no other is touched

@@ -50,7 +50,7 @@ has_metadata parts n short =
     record { at = omega (arith, at.0); len = omega (arith, len.0); table = omega (arith, len.1); end = n.metadata.end; short = short }
 
 -- what a read gives of it, with no pages laid over it
-laid_none : (trace : Trace) (number : ℕ) → laid_file trace number [] ≡ seen (file_of trace number)
+pub laid_none : (trace : Trace) (number : ℕ) → laid_file trace number [] ≡ seen (file_of trace number)
 laid_none trace number = none_over (seen (file_of trace number))
 
 pub is_inside : (disk : Disk) (number : ℕ) (file : LinkedFile) → WhereTold disk.told (λ trace. IsAsOpened trace number file) → IsInside file.parts number disk

@@ -33,7 +33,7 @@ all_below : (P : LinkedFile → Type 0) (above rest : List LinkedFile) → All P
 all_below P [] rest h = h
 all_below P (file ∷ above) rest h = all_below P above rest (All-tail P file (above ++ rest) h)
 
-opened_below : (trace : Trace) (n : ℕ) (above rest : List LinkedFile) → AreAsOpened trace n (above ++ rest) → AreAsOpened trace (n + length above) rest
+pub opened_below : (trace : Trace) (n : ℕ) (above rest : List LinkedFile) → AreAsOpened trace n (above ++ rest) → AreAsOpened trace (n + length above) rest
 opened_below trace n [] rest h = let same : n ≡ n + 0 = omega arith in subst (λ (k : ℕ). AreAsOpened trace k rest) same h
 opened_below trace n (file ∷ above) rest h =
     let same : n + 1 + length above ≡ n + length (file ∷ above) = omega arith in

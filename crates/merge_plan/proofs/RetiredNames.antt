@@ -43,6 +43,7 @@ use Rattle.merge_plan.specs.Merging.{GivesLocator, HasPages}
 use Rattle.merge_plan.specs.declared.refusal.PrepareRefusal.{PrepareRefusal}
 use Rattle.merge_plan.specs.declared.refusal.PrepareRefusal.TheVariants as refusals
 use Rattle.merge_plan.proofs.Opened.{lie_within}
+use Rattle.merge_plan.proofs.Paging.{laid_none}
 
 -- ---- the value of a retired name
 
@@ -182,10 +183,6 @@ clears header bytes parts numbers some = by_found (find (is_of_kind Retired) (me
         let none : parts.retired ≡ None = sym (items_read header bytes parts m.0 numbers m.1).1 ∙ none_retired (region_of parts bytes) parts.bat_len m.0 m.1 (item_absent Retired (region_of parts bytes) _ e) in
         let never : true ≡ false = sym some ∙ ap is_some none in
         cc
-
--- with no pages laid over it
-laid_none : (trace : Trace) (number : ℕ) → laid_file trace number [] ≡ seen (file_of trace number)
-laid_none trace number = none_over (seen (file_of trace number))
 
 pub has_clearing : (parts : Parts) (number : ℕ) (disk : Disk) (pages : List Page) → HasNaming parts number [] disk None pages → HasClearing parts number disk pages
 has_clearing parts number disk pages n = record {

@@ -25,7 +25,7 @@ use Rattle.script_session.proofs.Marked.{Marked, marked_kept, marked_of, marked_
 use Rattle.script_session.specs.MergeSteps.{AnswersFetch, AnswersPut, IsUnchanged, KeepsHistory}
 use Rattle.script_session.proofs.Moving.{ok_reached}
 use Rattle.script_session.proofs.Room.{each_stripe, target_is_far}
-use Rattle.script_session.proofs.Telling.{both_told, kept_same, over_events}
+use Rattle.script_session.proofs.Telling.{IsFar, both_told, kept_same, over_events}
 
 -- ---- a session with a merge under way, of which these stripes are copied
 
@@ -216,9 +216,6 @@ pub record Put (drive : Drive) (v : State) (new : Session) (l : Bool) (copied : 
 pub data PutEnds (drive : Drive) (v : State) (new : Session) (l : Bool) (copied : ℕ → Bool) (trace now : Trace) : ChainRefusal → Type 0 where
   put_stops : (x : ChainRefusal) → StopsPut x → IsCopying drive v new now l copied → PutEnds drive v new l copied trace now x
   put_fails : (file count : ℕ) → new.broken ≡ Some (fault_of file count) → HasEnded v trace now → PutEnds drive v new l copied trace now (Broken file count)
-
-abbrev IsFar : ChainRefusal → Type 0
-IsFar x = (next : ℕ) → x ≡ FileFull next → 2 ^ 43 < next + 1024
 
 module _ (drive : Drive) (v : State) (old new : Session) (trace now : Trace) (l : Bool) (copied : ℕ → Bool) (piece : Piece) (marks : KeepsMerge old.layers new.layers → IsMarkedSo new.layers copied l) (over : IsOver drive v new) (seen : new.disk.told ≡ Some now) where
   goes_on : new.broken ≡ None → KeepsMerge old.layers new.layers → IsRefused v new.layers trace now → IsCopying drive v new now l copied

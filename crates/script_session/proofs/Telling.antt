@@ -118,7 +118,7 @@ data Outcome (reads : Bool) (e : Entry) (v : State) (s : Session) (trace now : T
   ends : (file count : ℕ) → reads ≡ false → s.broken ≡ Some (fault_of file count) → HasBroken e v trace now → Outcome reads e v s trace now (Broken file count)
 
 -- a change that is stopped for want of room is near the file's last place
-abbrev IsFar : ChainRefusal → Type 0
+abbrev pub IsFar : ChainRefusal → Type 0
 IsFar x = (next : ℕ) → x ≡ FileFull next → 2 ^ 43 < next + 1024
 
 module _ (e : Entry) (v : State) (old new : Session) (trace now : Trace) where

@@ -8,7 +8,7 @@ use Rattle.vx_base.specs.Fields.{bytes_at, guid_at}
 use Rattle.shown_ids.specs.Shown.{listed, place_id, place_ids}
 
 -- a part of n bytes at a place
-part_at : (file : List ℕ) (at len from n : ℕ) → from + n ≤ len → take n (drop from (take len (drop at file))) ≡ take n (drop (at + from) file)
+pub part_at : (file : List ℕ) (at len from n : ℕ) → from + n ≤ len → take n (drop from (take len (drop at file))) ≡ take n (drop (at + from) file)
 part_at file at len from n h =
     let cut : len ≡ from + (len - from) = omega arith in
     ap (λ (k : ℕ). take n (drop from (take k (drop at file)))) cut

@@ -22,7 +22,7 @@ use Rattle.link_rules.proofs.OneLinking.{one_linking}
 use Rattle.merge_plan.specs.Attached.{BeginsInUse}
 use Rattle.vhdx_app.specs.Folders.{files_of}
 use Rattle.vhdx_app.specs.Sessions.{IsChainIn, IsFollowedTo, first_of, leaf_name}
-use Rattle.vhdx_app.proofs.Followed.{opened_after}
+use Rattle.vhdx_app.proofs.Followed.{opened_after, same_files}
 
 -- ---- the leaf isn't retired
 
@@ -34,9 +34,6 @@ leaf_in_use files _ _ _ (chains.unopened retired name refusal opens) found e = c
 leaf_in_use files _ _ _ (chains.in_use retired name parts opens none) found e = subst (λ (x : Found). x.leaf.parts.retired ≡ None) (same_found _ found e) none
 leaf_in_use files _ _ _ (chains.loop retired name parts next opens is among) found e = cc
 leaf_in_use files _ _ _ (chains.further retired name parts next result opens is apart rest) found e = leaf_in_use files _ next result rest found e
-
-same_files : (a b : List LinkedFile) → (let r : Result (List LinkedFile) chains.Refusal = Ok a in r) ≡ Ok b → a ≡ b
-same_files a b e = cc
 
 begins_in_use : (files : Contents) (retired : List (List ℕ)) (above : List LinkedFile) (child : LinkedFile) (result : Result (List LinkedFile) chains.Refusal) → ParentsAre files retired above child result → child.parts.retired ≡ None
     → (found : List LinkedFile) → result ≡ Ok found → BeginsInUse found

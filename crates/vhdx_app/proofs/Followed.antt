@@ -51,6 +51,7 @@ use Rattle.vhdx_format.proofs.FileLemmas.{stands_once}
 use Rattle.vhdx_app.specs.Making.{ShowIds, more, none}
 use Rattle.vhdx_app.specs.Refusals.{Refusal, OfChain, OutOfRange}
 use Rattle.vhdx_app.proofs.Lent.{anew_safe}
+use Rattle.vhdx_app.proofs.OneAnswer.{not_two}
 
 -- ---- the files of a chain
 
@@ -58,7 +59,7 @@ use Rattle.vhdx_app.proofs.Lent.{anew_safe}
 abbrev pub AreListed : Contents → List ℕ → List LinkedFile → Type 0
 AreListed files leaf linked = AllByRecursion (λ f. IsOnWay files leaf f.name × OpensIn files f.name (Ok f.parts)) linked
 
-same_files : (a b : List LinkedFile) → (let r : Result (List LinkedFile) chains.Refusal = Ok a in r) ≡ Ok b → a ≡ b
+pub same_files : (a b : List LinkedFile) → (let r : Result (List LinkedFile) chains.Refusal = Ok a in r) ≡ Ok b → a ≡ b
 same_files a b e = cc
 
 record NextListed (files : Contents) (leaf : List ℕ) (next : LinkedFile) : Type 0 where
@@ -180,9 +181,6 @@ chain_cause files leaf P each (refuses refusal) h = each refusal h
 chain_cause files leaf P each (host_failed fault) h = tt
 chain_cause files leaf P each (store_failed fault) h = tt
 chain_cause files leaf P each no_memory h = tt
-
-not_two : (linked : Linked) (refusal : chains.Refusal) → (let r : Result Linked chains.Refusal = Ok linked in r) ≡ Err refusal → ⊥
-not_two linked refusal e = cc
 
 same_linked : (a b : Linked) → (let r : Result Linked chains.Refusal = Ok a in r) ≡ Ok b → a ≡ b
 same_linked a b e = cc

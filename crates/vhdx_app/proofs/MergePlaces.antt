@@ -12,7 +12,8 @@ use Rattle.merge_plan.specs.Merging.{HasFirst, MergeFiles, child_place, source_p
 use Rattle.chain_core.specs.LeafStarting.{is_first_two}
 use Rattle.chain_core.specs.MergeStarting.{chain_files, first_or, is_changed, is_written, leaf_of, target_place}
 use Rattle.vhdx_app.specs.Starts.{changed_names, first_name, is_leaf, merged_with}
-use Rattle.vhdx_app.proofs.Lent.{is_itself, same_name}
+use Rattle.vhdx_app.proofs.Lent.{is_itself}
+use Rattle.link_rules.proofs.Lent.{same_name}
 
 -- ---- places
 

@@ -15,9 +15,9 @@ use Rattle.chain_model.specs.Images.{IsCleanImage}
 use Rattle.chain_model.specs.Members.{NoneTwice}
 use Rattle.link_rules.specs.Folders.{AllIdle, contents}
 use Rattle.link_rules.specs.Laws.{at_rest_all}
-use Rattle.link_rules.proofs.Lent.{can_attach}
+use Rattle.link_rules.proofs.Lent.{can_attach, same_name}
 use Rattle.vhdx_app.specs.Crashes.{HaveNoTornMatch}
-use Rattle.vhdx_app.proofs.Lent.{names_in, names_with, same_name, there_of}
+use Rattle.vhdx_app.proofs.Lent.{names_in, names_with, there_of}
 
 -- ---- files by their names
 

@@ -11,12 +11,12 @@ use Rattle.chain_model.specs.Images.{name_of}
 use Rattle.chain_model.specs.Members.{NoneTwice}
 use Rattle.link_rules.specs.Chains.{is_among}
 use Rattle.link_rules.specs.Folders.{AllIdle}
-use Rattle.link_rules.proofs.Lent.{can_attach}
+use Rattle.link_rules.proofs.Lent.{can_attach, same_name}
 use Rattle.vhdx_app.specs.Commands.{AreAnew, IsAnew}
 use Rattle.vhdx_app.specs.Commands as anew
 use Rattle.vhdx_app.specs.Crashes.{AreSpared, IsSpared}
 use Rattle.vhdx_app.specs.Crashes as spared
-use Rattle.vhdx_app.proofs.Lent.{AreAt, back_over, each_at, names_attached, names_in, same_name}
+use Rattle.vhdx_app.proofs.Lent.{AreAt, back_over, each_at, names_attached, names_in}
 
 -- ---- a file that isn't changed in the end wasn't before
 

@@ -18,7 +18,7 @@ use Rattle.vhdx_format.specs.Locators.{is_no_locator, text_at, both, pair_at, re
 use Rattle.vhdx_format.specs.Relinking.{with_value, has, with_behind, without, linked_twice, relinked, IsReadBack, RelinkedAreRead}
 use Rattle.vhdx_format.proofs.WrittenTexts.{AreUnits}
 use Rattle.vhdx_format.proofs.WrittenLocators.{locators_are_read}
-use Rattle.vhdx_format.proofs.ChildLocators.{ascii-literal, ascii_writable, path_writable, length-braced}
+use Rattle.vhdx_format.proofs.ChildLocators.{all_units, ascii-literal, ascii_writable, length-braced, path_writable}
 use Rattle.vhdx_format.proofs.RelinkedValues.{first_link, second_link, relative, volume, absolute, path_of, bare}
 use Rattle.vhdx_format.proofs.RelinkedRules.{twice_keeps, relinked_keeps}
 
@@ -41,11 +41,6 @@ unfolding units_of
 units_few [] = omega arith
 units_few (low ∷ []) = omega arith
 units_few (low ∷ high ∷ bytes) = omega (arith, units_few bytes)
-
-all_units : (units : List ℕ) → AreUnits units → All (λ unit. unit < 2 ^ 16) units
-all_units [] h k d l = absurd (omega (arith, l))
-all_units (u ∷ us) h zero d l = h.0
-all_units (u ∷ us) h (suc k) d l = all_units us h.1 k d (omega (arith, l))
 
 u16_small : (bytes : List ℕ) (at : ℕ) → IsBytes bytes → u16_at bytes at < 2 ^ 16
 unfolding number_at
