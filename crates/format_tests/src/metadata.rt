@@ -2,9 +2,9 @@
 
 use crate::stores::Repeated;
 use metadata_table::{Metadata, MetadataRefusal, Regions, build, parse, written_len};
-use std::alloc::{AllocError, Global};
+use std::alloc::Global;
 use std::test::Fail;
-use vx_base::{Bytes, Guid, Name, u32_at};
+use vx_base::{Bytes, Guid, Name, u32_at, zeroed};
 
 const REGIONS: Regions = Regions {
     bat_at: 3_145_728,
@@ -12,10 +12,6 @@ const REGIONS: Regions = Regions {
     meta_at: 2_097_152,
     meta_len: 1_048_576,
 };
-
-fn zeroed(alloc: Global, len: usize) -> Result<Vec<u8>, AllocError> {
-    vec![in alloc; 0u8; len]
-}
 
 // The metadata of a retired leaf, as they are written, and zeros behind them.
 fn written(alloc: Global) -> Result<Vec<u8>, Fail> {

@@ -10,10 +10,10 @@ use crate::tables::child;
 use meta_edit::{MetaRefusal, Updates, locator_update, retire_update};
 use metadata_table::{Metadata, build, written_len};
 use parent_locator::{Locator, Pair, child_locator, relinked, with_both_linkages};
-use std::alloc::{AllocError, Global};
+use std::alloc::Global;
 use std::test::Fail;
 use vhdx_format::Page;
-use vx_base::{Guid, Name, Parts, Units, put_u16, put_u32};
+use vx_base::{Guid, Name, Parts, Units, put_u16, put_u32, zeroed};
 
 /// A region of 1 MB, and one of 72 KB.
 const LONG: u32 = 1_048_576;
@@ -65,10 +65,6 @@ fn locator_of(alloc: Global, len: usize) -> Result<Change, Fail> {
     let mut locator = Locator::new(alloc);
     locator.push(Pair { key, value })?;
     Ok(Change::Locator(locator))
-}
-
-fn zeroed(alloc: Global, len: usize) -> Result<Vec<u8>, AllocError> {
-    vec![in alloc; 0u8; len]
 }
 
 fn put_metadata(out: &mut [u8], meta: &Metadata) {

@@ -19,20 +19,13 @@ use layer_session::{FileLayer, Layer};
 use sector_bits::set_range;
 use std::alloc::Global;
 use store_model::{Store, StoreFault};
-use vx_base::{Geometry, NoRoom};
+use vx_base::{Geometry, NoRoom, zeroed};
 
 /// The bytes of a piece.
 const LONG: usize = 1_048_576;
 
 /// The bytes of its mask.
 const MASK: usize = 256;
-
-// So many zeros.
-fn zeros_of(alloc: Global, n: usize) -> Result<Vec<u8>, NoRoom>
-    ensures { IfOk result (λ made. length made.items ≡ n) }
-{
-    Ok(vec![in alloc; 0u8; n]?)
-}
 
 // No bit says that a file has one of so many sectors.
 fn set_none(mask: &mut [u8], count: u64)
@@ -109,8 +102,8 @@ impl Piece {
             first: 0,
             count: 0,
             sector: 512,
-            bytes: zeros_of(alloc, LONG)?,
-            mask: zeros_of(alloc, MASK)?,
+            bytes: zeroed(alloc, LONG)?,
+            mask: zeroed(alloc, MASK)?,
         })
     }
 

@@ -2,13 +2,13 @@
 use Rattle.std.proofs.Common.{◌≡◌, ℕ, zero, suc, ◌+◌, ◌<◌, ◌≤◌, ◌^◌, List, [], ◌∷◌, length, get_or, sym, subst, ◌∙◌, arith}
 use Rattle.vx_base.specs.declared.parts.Header.{Header}
 use Rattle.vhdx_format.specs.FileParts.{LieWithin}
-use Rattle.store_model.specs.Disk.{Disk, ReadFailed}
+use Rattle.store_model.specs.Disk.{Disk, LeavesBy, ReadFailed}
 use Rattle.store_model.specs.File.{seen}
 use Rattle.store_model.specs.Trace.{Trace, file_of}
 use Rattle.link_rules.specs.declared.linked.LinkedFile.{LinkedFile}
 use Rattle.layer_session.proofs.Numbers.{are_numbers}
 use Rattle.log_write.proofs.Heads.{head_of, place_of}
-use Rattle.shown_ids.specs.Faults.{Leaves}
+use Rattle.shown_ids.specs.Faults.{fault_of}
 use Rattle.shown_ids.specs.declared.fault.CollectFault.{CollectFault}
 use Rattle.shown_ids.specs.declared.fault.CollectFault.TheVariants.{NoRoom, Store}
 use Rattle.merge_plan.specs.Attached.{AreAsOpened, IsAsOpened}
@@ -41,7 +41,7 @@ lie_at trace k files d all below =
     lie_within trace k (get_or files k d) (subst (λ (n : ℕ). IsAsOpened trace n (get_or files k d)) same (opened_at trace 0 k files d all below))
 
 -- the identifiers that one shows weren't collected
-pub one_failed : (file : ℕ) (old mid new : Disk) (e : CollectFault) → mid ≡ old → file < old.files → Leaves file mid new e → CollectFails old new e
+pub one_failed : (file : ℕ) (old mid new : Disk) (e : CollectFault) → mid ≡ old → file < old.files → LeavesBy file mid new (fault_of e) → CollectFails old new e
 one_failed file old mid new (Store fault) same there h =
     let own : ReadFailed file old new fault = subst (λ d. ReadFailed file d new fault) same h in
     (subst (λ n. n < old.files) (sym own.of_file) there, subst (λ n. ReadFailed n old new fault) (sym own.of_file) own)

@@ -2,7 +2,7 @@
 use Rattle.std.proofs.Common.{◌≡◌, ℕ, ◌+◌, ◌^◌, ◌<◌, ◌≤◌, List, [], length, Option, Some, None, refl, sym, ap, subst, ◌∙◌, arith}
 use Rattle.std.specs.Prelude.{Ok, Err, is_some}
 use Rattle.store_model.proofs.Parts.{length-part}
-use Rattle.store_model.specs.Disk.{Disk, ReadFailed, WhereTold}
+use Rattle.store_model.specs.Disk.{Disk, LeavesBy, ReadFailed, WhereTold}
 use Rattle.store_model.specs.File.{seen}
 use Rattle.store_model.specs.Trace.{Trace, file_of}
 use Rattle.vx_base.specs.declared.parts.Header.{Header}
@@ -21,7 +21,7 @@ use Rattle.link_rules.specs.declared.linked.LinkedFile.{LinkedFile}
 use Rattle.meta_edit.specs.declared.ItemKind.TheVariants.{Locator}
 use Rattle.meta_edit.specs.declared.MetaRefusal.{MetaRefusal}
 use Rattle.meta_edit.specs.declared.MetaRefusal.TheVariants as meta
-use Rattle.meta_edit.specs.Edits.{Answers, Gives, IsInside, IsNotTooLarge, IsSound, Leaves, NamesFile, changed_item, region_of}
+use Rattle.meta_edit.specs.Edits.{Answers, Gives, IsInside, IsNotTooLarge, IsSound, NamesFile, changed_item, fault_of, region_of}
 use Rattle.meta_edit.specs.Pages.{ArePages, HasMetadata, laid_file}
 use Rattle.meta_edit.proofs.ItemRead.{fine_locator, item_read}
 use Rattle.meta_edit.proofs.PageLaws.{none_over, turns_alike}
@@ -101,7 +101,7 @@ has_pages disk number file pairs pages opened h short are few answers = record {
 
 pub update_fails : (old new : Disk) (number : ℕ) (parts : Parts) (pairs : List Pair) (refusal : MetaRefusal) → number < old.files
     → Answers parts number [] old (λ bytes. changed_item Locator parts (locator_bytes pairs) bytes) (Err refusal)
-    → IsNotTooLarge refusal → NamesFile number refusal → Leaves number old new refusal → UpdateFails parts number old new pairs (of_meta refusal)
+    → IsNotTooLarge refusal → NamesFile number refusal → LeavesBy number old new (fault_of refusal) → UpdateFails parts number old new pairs (of_meta refusal)
 update_fails old new number parts pairs (meta.LocatorTooLarge len) there answers short names leaves = absurd short
 update_fails old new number parts pairs (meta.MetadataFull full) there answers short names leaves =
     (names, λ t told. subst (λ (z : List ℕ). changed_item Locator parts (locator_bytes pairs) z ≡ None) (laid_none t number) (answers t told), leaves)

@@ -3,7 +3,7 @@ use Rattle.std.proofs.Common.{◌≡◌, ℕ, ◌+◌, ◌<◌, ◌≤◌, false
 use Rattle.std.specs.Prelude.{Result, Ok, Err, IsOk, is_none, is_ok, is_some, nat_le, option_and_then}
 use Rattle.std.proofs.lemmas.Bool.{le-leb}
 use Rattle.store_model.proofs.Parts.{length-part, part-overwritten}
-use Rattle.store_model.specs.Disk.{Disk, ReadFailed, WhereTold}
+use Rattle.store_model.specs.Disk.{Disk, LeavesBy, ReadFailed, WhereTold}
 use Rattle.store_model.specs.File.{seen}
 use Rattle.store_model.specs.Trace.{Trace, file_of}
 use Rattle.vx_base.specs.declared.parts.Header.{Header}
@@ -27,7 +27,7 @@ use Rattle.link_rules.specs.declared.linked.LinkedFile.{LinkedFile}
 use Rattle.meta_edit.specs.declared.ItemKind.TheVariants.{Locator, Retired}
 use Rattle.meta_edit.specs.declared.MetaRefusal.{MetaRefusal}
 use Rattle.meta_edit.specs.declared.MetaRefusal.TheVariants as meta
-use Rattle.meta_edit.specs.Edits.{Answers, Gives, IsNotTooLarge, IsSound, Leaves, NamesFile, changed_item, is_of_kind, region_of, retired_value}
+use Rattle.meta_edit.specs.Edits.{Answers, Gives, IsNotTooLarge, IsSound, NamesFile, changed_item, fault_of, is_of_kind, region_of, retired_value}
 use Rattle.meta_edit.specs.Pages.{ArePages, HasMetadata, laid_file, with_pages}
 use Rattle.meta_edit.proofs.ItemLists.{table_read}
 use Rattle.meta_edit.proofs.ItemRead.{fine_retired, item_read}
@@ -102,7 +102,7 @@ has_naming disk number file over to pages opened h laid sound named are few answ
 
 pub naming_fails : (old new : Disk) (number : ℕ) (parts : Parts) (over : List Page) (to : Option (List ℕ)) (refusal : MetaRefusal) → number < old.files
     → Answers parts number over old (λ bytes. changed_item Retired parts (retired_value to) bytes) (Err refusal)
-    → IsNotTooLarge refusal → NamesFile number refusal → Leaves number old new refusal → NamingFails parts number over old new to (of_meta refusal)
+    → IsNotTooLarge refusal → NamesFile number refusal → LeavesBy number old new (fault_of refusal) → NamingFails parts number over old new to (of_meta refusal)
 naming_fails old new number parts over to (meta.LocatorTooLarge len) there answers small names leaves = absurd small
 naming_fails old new number parts over to (meta.MetadataFull full) there answers small names leaves = (names, answers, leaves)
 naming_fails old new number parts over to (meta.Store fault) there answers small names leaves =

@@ -3,7 +3,6 @@
 ghost use Rattle.std.specs.Prelude.{◌≡◌, ◌^◌, ◌-◌, None, min, option_map, IfErr, IfOk, OnOk};
 ghost use Rattle.vhdx_format.specs.Relinking as relinking;
 ghost use Rattle.vhdx_format.specs.Relinking.{linked_twice};
-ghost use Rattle.vx_base.specs.Fields.{IsBytes};
 ghost use Rattle.merge_plan.specs.Merging as merging;
 ghost use Rattle.merge_plan.specs.Merging.{locator_pairs};
 ghost use Rattle.merge_plan.specs.Steps.{AreBytes, AreTyped, HasSoundLocator, LengthRefuses};
@@ -13,7 +12,7 @@ use crate::refusal::PrepareRefusal;
 use link_rules::LinkedFile;
 use parent_locator::{Locator, LocatorRefusal, fits, len_of, parse, relinked, with_both_linkages};
 use std::alloc::Global;
-use vx_base::{Bytes, Guid, NoRoom};
+use vx_base::{Bytes, Guid, NoRoom, are_bytes};
 
 /// The new locators of source and child.
 #[derive(Drop)]
@@ -21,11 +20,6 @@ pub struct NewLocators {
     pub twice: Locator,
     pub once: Locator,
 }
-
-// The items of a slice are bytes.
-fn are_bytes(bytes: &[u8])
-    ensures { IsBytes bytes.now }
-{}
 
 pub(crate) fn are_items(locator: &Option<Bytes>)
     ensures { AreBytes locator.now }

@@ -2,7 +2,7 @@
 use Rattle.std.proofs.Common.{◌≡◌, ℕ, ◌+◌, ◌<◌, ◌≤◌, nat_lt, Bool, true, false, List, length, refl, ap, sym, ◌∙◌, arith}
 use Rattle.std.specs.Prelude.{Option, Some, None, Err, find}
 use Rattle.std.proofs.lemmas.Bool.{lt-ltb, le-ltb}
-use Rattle.store_model.specs.Disk.{Disk}
+use Rattle.store_model.specs.Disk.{Disk, LeavesBy}
 use Rattle.vx_base.specs.Fields.{written_over}
 use Rattle.vx_base.specs.declared.parts.Parts.{Parts}
 use Rattle.vx_base.specs.Fields.{u16_bytes}
@@ -14,7 +14,7 @@ use Rattle.meta_edit.specs.declared.ItemKind.{ItemKind}
 use Rattle.meta_edit.specs.declared.ItemKind.TheVariants.{Locator, Retired}
 use Rattle.meta_edit.specs.declared.MetaRefusal.{MetaRefusal}
 use Rattle.meta_edit.specs.declared.MetaRefusal.TheVariants.{LocatorTooLarge, MetadataFull, Store, NoRoom}
-use Rattle.meta_edit.specs.Edits.{changed_item, flags_of, id_of, is_of_kind, region_of, AnswersUpdate, IsNotTooLarge, Leaves, NamesFile}
+use Rattle.meta_edit.specs.Edits.{changed_item, flags_of, id_of, is_of_kind, region_of, AnswersUpdate, IsNotTooLarge, NamesFile, fault_of}
 use Rattle.meta_edit.specs.Steps.{added_there, found_in_table, item_in_table, IsFromOutside}
 
 pub outside_answers : (refusal : MetaRefusal) (parts : Parts) (file : List ℕ) (region : Option (List ℕ)) → IsFromOutside refusal → AnswersUpdate parts file region (Err refusal)
@@ -23,7 +23,7 @@ outside_answers (MetadataFull full) parts file region h = absurd h
 outside_answers (Store fault) parts file region h = tt
 outside_answers NoRoom parts file region h = tt
 
-pub outside_names : (refusal : MetaRefusal) (file : ℕ) (old new : Disk) → IsFromOutside refusal → Leaves file old new refusal → NamesFile file refusal × IsNotTooLarge refusal
+pub outside_names : (refusal : MetaRefusal) (file : ℕ) (old new : Disk) → IsFromOutside refusal → LeavesBy file old new (fault_of refusal) → NamesFile file refusal × IsNotTooLarge refusal
 outside_names (LocatorTooLarge len) file old new h l = absurd h
 outside_names (MetadataFull full) file old new h l = absurd h
 outside_names (Store fault) file old new h l = (l.of_file, tt)

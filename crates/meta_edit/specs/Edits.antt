@@ -1,8 +1,9 @@
 -- What an update of one item answers.
 use Rattle.std.specs.Prelude.{◌≡◌, ℕ, ◌+◌, ◌^◌, ◌-◌, min, Bool, List, [], Option, Some, None, Result, Ok, Err, length, IsOk, ◌≤◌}
-use Rattle.store_model.specs.Disk.{Disk, ReadFailed, WhereTold}
+use Rattle.store_model.specs.Disk.{Disk, WhereTold}
 use Rattle.store_model.specs.File.{seen}
 use Rattle.store_model.specs.Trace.{file_of}
+use Rattle.store_model.specs.declared.fault.StoreFault.{StoreFault}
 use Rattle.vhdx_format.specs.declared.TheConstants.{PARENT_LOCATOR, RETIRED}
 use Rattle.vhdx_format.specs.declared.log_entry.Page.{Page}
 use Rattle.vhdx_format.specs.declared.metadata.Metadata.{Metadata}
@@ -59,16 +60,10 @@ AnswersUpdate parts file region (Err (MetadataFull full)) = region ≡ None
 AnswersUpdate parts file region (Err (Store fault)) = Unit {0}
 AnswersUpdate parts file region (Err NoRoom) = Unit {0}
 
--- a fault is a read of the file that failed; after any other answer the store is as it was
-abbrev pub Leaves : ℕ → Disk → Disk → MetaRefusal → Type 0
-Leaves file old new (LocatorTooLarge len) = new ≡ old
-Leaves file old new (MetadataFull full) = new ≡ old
-Leaves file old new (Store fault) = ReadFailed file old new fault
-Leaves file old new NoRoom = new ≡ old
-
-abbrev pub LeavesStore : {A : Type 0} → ℕ → Disk → Disk → Result A MetaRefusal → Type 0
-LeavesStore file old new (Ok pages) = new ≡ old
-LeavesStore file old new (Err refusal) = Leaves file old new refusal
+-- the fault of the store that it tells
+abbrev pub fault_of : MetaRefusal → Option StoreFault
+fault_of (Store fault) = Some fault
+fault_of other = None
 
 -- of the file's own: a full region is this file's
 abbrev pub NamesFile : ℕ → MetaRefusal → Type 0

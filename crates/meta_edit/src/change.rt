@@ -6,9 +6,10 @@ ghost use Rattle.vhdx_format.specs.Updates as spec;
 ghost use Rattle.vhdx_format.specs.Updates.{with_changed, with_new};
 ghost use Rattle.vx_base.specs.Fields as fields;
 ghost use Rattle.meta_edit.specs.Edits as edits;
-ghost use Rattle.meta_edit.specs.Edits.{IsNotTooLarge, IsSound, LeavesStore, NamesFile, is_of_kind};
+ghost use Rattle.meta_edit.specs.Edits.{IsNotTooLarge, IsSound, NamesFile, fault_of, is_of_kind};
 ghost use Rattle.meta_edit.specs.Pages.{ArePages, HasMetadata};
 ghost use Rattle.meta_edit.specs.Steps.{AnswersLaid, IsLaid, IsFromOutside, IsSoundTable, WritesLaid, added_there, changed_there, item_in_table, moved_to};
+ghost use Rattle.store_model.specs.Disk.{LeavesStore};
 
 use crate::laying::{LaidFile, put, read_table};
 use crate::table::{find_item, is_full_table, items_end};
@@ -101,7 +102,7 @@ fn put_in_region<S: Store>(
     ensures pages { OnOk result (ArePages laid.now.parts.now updates.new) }
     ensures few { OnOk result (length updates.new ≤ length updates.old + length bytes.now / 4096 + 2) }
     ensures err { IfErr result IsFromOutside }
-    ensures store { LeavesStore laid.now.file (S.disk store.old) (S.disk store.new) result }
+    ensures store { LeavesStore fault_of laid.now.file (S.disk store.old) (S.disk store.new) result }
 {
     if bytes.is_empty() {
         return Ok(());
@@ -134,7 +135,7 @@ fn change_in_place<S: Store>(
     ensures pages { IfOk result (ArePages laid.now.parts.now) }
     ensures few { IfOk result (λ pages. length pages ≤ 22) }
     ensures err { IfErr result (λ refusal. NamesFile laid.now.file refusal × IsNotTooLarge refusal) }
-    ensures store { LeavesStore laid.now.file (S.disk store.old) (S.disk store.new) result }
+    ensures store { LeavesStore fault_of laid.now.file (S.disk store.old) (S.disk store.new) result }
 {
     let mut updates = Updates::new(alloc);
     put_in_region(store, laid, &mut updates, old.at, value)?;
@@ -160,7 +161,7 @@ fn move_item<S: Store>(
     ensures pages { IfOk result (ArePages laid.now.parts.now) }
     ensures few { IfOk result (λ pages. length pages ≤ 22) }
     ensures err { IfErr result (λ refusal. NamesFile laid.now.file refusal × IsNotTooLarge refusal) }
-    ensures store { LeavesStore laid.now.file (S.disk store.old) (S.disk store.new) result }
+    ensures store { LeavesStore fault_of laid.now.file (S.disk store.old) (S.disk store.new) result }
 {
     let Some(place) = place_for(laid.parts, end, value) else {
         return Err(MetaRefusal::MetadataFull { file: laid.file });
@@ -191,7 +192,7 @@ fn change_item<S: Store>(
     ensures pages { IfOk result (ArePages laid.now.parts.now) }
     ensures few { IfOk result (λ pages. length pages ≤ 22) }
     ensures err { IfErr result (λ refusal. NamesFile laid.now.file refusal × IsNotTooLarge refusal) }
-    ensures store { LeavesStore laid.now.file (S.disk store.old) (S.disk store.new) result }
+    ensures store { LeavesStore fault_of laid.now.file (S.disk store.old) (S.disk store.new) result }
 {
     if goes_in_place(laid.parts, old, value) {
         change_in_place(alloc, store, laid, old, value)
@@ -218,7 +219,7 @@ fn add_entry<S: Store>(
     ensures pages { IfOk result (ArePages laid.now.parts.now) }
     ensures few { IfOk result (λ pages. length pages ≤ 22) }
     ensures err { IfErr result (λ refusal. NamesFile laid.now.file refusal × IsNotTooLarge refusal) }
-    ensures store { LeavesStore laid.now.file (S.disk store.old) (S.disk store.new) result }
+    ensures store { LeavesStore fault_of laid.now.file (S.disk store.old) (S.disk store.new) result }
 {
     let mut updates = Updates::new(alloc);
     let count = u32::from(count) + 1;
@@ -247,7 +248,7 @@ fn add_item<S: Store>(
     ensures pages { IfOk result (ArePages laid.now.parts.now) }
     ensures few { IfOk result (λ pages. length pages ≤ 22) }
     ensures err { IfErr result (λ refusal. NamesFile laid.now.file refusal × IsNotTooLarge refusal) }
-    ensures store { LeavesStore laid.now.file (S.disk store.old) (S.disk store.new) result }
+    ensures store { LeavesStore fault_of laid.now.file (S.disk store.old) (S.disk store.new) result }
 {
     if is_full_table(table) {
         return Err(MetaRefusal::MetadataFull { file: laid.file });
@@ -276,7 +277,7 @@ fn change_or_add<S: Store>(
     ensures pages { IfOk result (ArePages laid.now.parts.now) }
     ensures few { IfOk result (λ pages. length pages ≤ 22) }
     ensures err { IfErr result (λ refusal. NamesFile laid.now.file refusal × IsNotTooLarge refusal) }
-    ensures store { LeavesStore laid.now.file (S.disk store.old) (S.disk store.new) result }
+    ensures store { LeavesStore fault_of laid.now.file (S.disk store.old) (S.disk store.new) result }
 {
     // of a table that was read this is known, but of a store that tells nothing
     if u16_at(table, 10) > 2047 {
@@ -305,7 +306,7 @@ pub fn update<S: Store>(
     ensures pages { IfOk result (ArePages laid.now.parts.now) }
     ensures few { IfOk result (λ pages. length pages ≤ 22) }
     ensures err { IfErr result (λ refusal. NamesFile laid.now.file refusal × IsNotTooLarge refusal) }
-    ensures store { LeavesStore laid.now.file (S.disk store.old) (S.disk store.new) result }
+    ensures store { LeavesStore fault_of laid.now.file (S.disk store.old) (S.disk store.new) result }
 {
     let table = read_table(alloc, store, laid, METADATA_TABLE_LEN)?;
     change_or_add(alloc, store, laid, table.as_slice(), kind, value)

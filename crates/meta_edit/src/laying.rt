@@ -1,10 +1,10 @@
 //! What the file shows with pages laid over it.
 
 ghost use Rattle.std.specs.Prelude.{◌≡◌, ◌≤◌, ◌<◌, ◌+◌, ◌%◌, ◌/◌, ◌^◌, length, OnOk, IfOk, IfErr};
-ghost use Rattle.store_model.specs.Disk.{WhereTold};
+ghost use Rattle.store_model.specs.Disk.{LeavesStore, WhereTold};
 ghost use Rattle.vx_base.specs.Fields as fields;
 ghost use Rattle.log_format.specs.PendingPages.{HasOnePageEach};
-ghost use Rattle.meta_edit.specs.Edits.{LeavesStore};
+ghost use Rattle.meta_edit.specs.Edits.{fault_of};
 ghost use Rattle.meta_edit.specs.Pages.{ArePages, laid_file, with_pages};
 ghost use Rattle.meta_edit.specs.Steps as spec;
 ghost use Rattle.meta_edit.specs.Steps.{IsLaid, IsFromOutside, WritesLaid};
@@ -61,7 +61,7 @@ pub fn read_laid<S: Store>(
     ensures bytes { OnOk result (WhereTold (S.disk store.old).told
         (λ trace. out.new ≡ fields.bytes_at (laid_file trace laid.now.file laid.now.over.now) at (length out.old))) }
     ensures err { IfErr result IsFromOutside }
-    ensures store { LeavesStore laid.now.file (S.disk store.old) (S.disk store.new) result }
+    ensures store { LeavesStore fault_of laid.now.file (S.disk store.old) (S.disk store.new) result }
 {
     store.read_at(laid.file, at, out)?;
     lay(out, at, laid.over);
@@ -82,7 +82,7 @@ pub fn read_table<S: Store>(
     ensures bytes { IfOk result (λ table. WhereTold (S.disk store.old).told
         (λ trace. table ≡ fields.bytes_at (laid_file trace laid.now.file laid.now.over.now) laid.now.parts.now.meta_at len)) }
     ensures err { IfErr result IsFromOutside }
-    ensures store { LeavesStore laid.now.file (S.disk store.old) (S.disk store.new) result }
+    ensures store { LeavesStore fault_of laid.now.file (S.disk store.old) (S.disk store.new) result }
 {
     let mut table = vec![in alloc; 0u8; len]?;
     read_laid(store, laid, laid.parts.meta_at, table.as_mut_slice())?;
@@ -107,7 +107,7 @@ fn read_page<S: Store>(
     ensures bytes { IfOk result (λ page. WhereTold (S.disk store.old).told
         (λ trace. page.bytes ≡ fields.bytes_at (with_pages updates.now (laid_file trace laid.now.file laid.now.over.now)) at 4096)) }
     ensures err { IfErr result IsFromOutside }
-    ensures store { LeavesStore laid.now.file (S.disk store.old) (S.disk store.new) result }
+    ensures store { LeavesStore fault_of laid.now.file (S.disk store.old) (S.disk store.new) result }
 {
     let mut page = Page {
         at,
@@ -135,7 +135,7 @@ fn put_piece<S: Store>(
     ensures pages { OnOk result (ArePages laid.now.parts.now updates.new) }
     ensures few { OnOk result (length updates.new ≤ length updates.old + 1) }
     ensures err { IfErr result IsFromOutside }
-    ensures store { LeavesStore laid.now.file (S.disk store.old) (S.disk store.new) result }
+    ensures store { LeavesStore fault_of laid.now.file (S.disk store.old) (S.disk store.new) result }
 {
     let start = at - at % 4096;
     let mut page = read_page(store, laid, updates, start)?;
@@ -160,7 +160,7 @@ pub fn put<S: Store>(
     ensures pages { OnOk result (ArePages laid.now.parts.now updates.new) }
     ensures few { OnOk result (length updates.new ≤ length updates.old + length bytes.now / 4096 + 2) }
     ensures err { IfErr result IsFromOutside }
-    ensures store { LeavesStore laid.now.file (S.disk store.old) (S.disk store.new) result }
+    ensures store { LeavesStore fault_of laid.now.file (S.disk store.old) (S.disk store.new) result }
 {
     let mut done = 0;
     while done < bytes.len() {

@@ -4,8 +4,9 @@
 ghost use Rattle.std.specs.Prelude.{◌≡◌, ◌≤◌, ◌<◌, length, IfOk, IfErr, IsErr};
 ghost use Rattle.vhdx_format.specs.Locators.{locator_bytes, locator_len, longest_locator};
 ghost use Rattle.std.specs.Option.{option_copied};
-ghost use Rattle.meta_edit.specs.Edits.{Answers, IsInside, IsNotTooLarge, IsSound, IsTooLarge, LeavesStore, NamesFile, ReadsLocator, ReadsRetired, changed_item, retired_value};
+ghost use Rattle.meta_edit.specs.Edits.{Answers, IsInside, IsNotTooLarge, IsSound, IsTooLarge, NamesFile, ReadsLocator, ReadsRetired, changed_item, fault_of, retired_value};
 ghost use Rattle.meta_edit.specs.Pages.{ArePages, HasMetadata};
+ghost use Rattle.store_model.specs.Disk.{LeavesStore};
 
 mod change;
 mod laying;
@@ -115,7 +116,7 @@ pub fn locator_update<S: Store>(
     ensures pages { IfOk result (ArePages parts.now) }
     ensures few { IfOk result (λ pages. length pages ≤ 22) }
     ensures file { IfErr result (NamesFile file) }
-    ensures store { LeavesStore file (S.disk store.old) (S.disk store.new) result }
+    ensures store { LeavesStore fault_of file (S.disk store.old) (S.disk store.new) result }
 {
     if !fits(new) {
         return Err(MetaRefusal::LocatorTooLarge { len: len_of(new) });
@@ -148,7 +149,7 @@ pub fn retire_update<S: Store>(
     ensures pages { IfOk result (ArePages parts.now) }
     ensures few { IfOk result (λ pages. length pages ≤ 22) }
     ensures file { IfErr result (NamesFile file) }
-    ensures store { LeavesStore file (S.disk store.old) (S.disk store.new) result }
+    ensures store { LeavesStore fault_of file (S.disk store.old) (S.disk store.new) result }
 {
     let value = value::retired_value(alloc, to)?;
     let laid = LaidFile { file, parts, over };

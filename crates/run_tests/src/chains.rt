@@ -8,7 +8,7 @@ ghost use Rattle.store_model.specs.Disk.{WhereTold};
 use crate::common::{
     Patch, add, bytes_of, empty_host, host_with, ids_of, line_of, prepare, run_done, run_line,
 };
-use crate::files::{FIXED, file_of, place, zeroed};
+use crate::files::{FIXED, file_of, place};
 use mem_store::{MemHost, MemIds, Room};
 use parent_locator::{Locator, Pair, build, fits};
 use std::alloc::Global;
@@ -16,7 +16,7 @@ use std::sync::Wait;
 use std::test::Fail;
 use std::thread::Threads;
 use vhdx_app::Status;
-use vx_base::Units;
+use vx_base::{Units, zeroed};
 
 // The bytes of the host's file of a name, with these bytes over its own.
 fn patched_file(

@@ -2,10 +2,10 @@
 #![tactic(auto)]
 
 ghost use Rattle.std.specs.Prelude.{◌≡◌, ◌<◌, ◌≤◌, ◌+◌, ◌*◌, ◌^◌, ◌++◌, length, IfOk, OnOk, IfErr};
-ghost use Rattle.shown_ids.specs.Faults.{LeavesStore};
+ghost use Rattle.shown_ids.specs.Faults.{fault_of};
 ghost use Rattle.shown_ids.specs.Shown.{header_ids, listed, locator_ids, place_ids, shown};
 ghost use Rattle.shown_ids.specs.Shown as spec;
-ghost use Rattle.store_model.specs.Disk.{ReadFailed, WhereTold};
+ghost use Rattle.store_model.specs.Disk.{LeavesStore, ReadFailed, WhereTold};
 ghost use Rattle.store_model.specs.File.{seen};
 ghost use Rattle.store_model.specs.Trace.{file_of};
 ghost use Rattle.vhdx_format.specs.FileParts.{HasNumbers, LieWithin};
@@ -56,7 +56,7 @@ fn add_copy<S: Store>(
     requires inside { WhereTold (S.disk store.old).told (λ trace. 196608 ≤ length (seen (file_of trace file))) }
     ensures ids { OnOk result (WhereTold (S.disk store.old).told
         (λ trace. ids.new.items ≡ ids.old.items ++ header_ids (held_header (seen (file_of trace file)) copy))) }
-    ensures store { LeavesStore file (S.disk store.old) (S.disk store.new) result }
+    ensures store { LeavesStore fault_of file (S.disk store.old) (S.disk store.new) result }
 {
     let mut bytes = [0; HEADER_LEN];
     store.read_at(file, HEADER_STEP as u64 * u64::from(copy), &mut bytes)?;
@@ -102,7 +102,7 @@ fn add_places<S: Store>(
     requires end { at + 4096 * count < 2 ^ 64 }
     requires inside { WhereTold (S.disk store.old).told (λ trace. at + 4096 * count ≤ length (seen (file_of trace file))) }
     ensures ids { OnOk result (WhereTold (S.disk store.old).told (λ trace. ids.new.items ≡ ids.old.items ++ place_ids (seen (file_of trace file)) at count)) }
-    ensures store { LeavesStore file (S.disk store.old) (S.disk store.new) result }
+    ensures store { LeavesStore fault_of file (S.disk store.old) (S.disk store.new) result }
 {
     for k in 0..count {
         let id = place_id(store, file, at + LOG_SECTOR as u64 * u64::from(k))?;
@@ -149,7 +149,7 @@ pub fn collect<S: Store>(
     // Where the content is told: exactly these.
     ensures ids { IfOk result (λ ids. WhereTold (S.disk store.old).told (λ trace. ids.items ≡ shown parts.now (seen (file_of trace file)))) }
     // For every store.
-    ensures store { LeavesStore file (S.disk store.old) (S.disk store.new) result }
+    ensures store { LeavesStore fault_of file (S.disk store.old) (S.disk store.new) result }
 {
     let mut ids = Vec::new(alloc);
     add_copy(store, file, 1, &mut ids)?;
