@@ -26,9 +26,9 @@ loop-entry-preserved c =
     record {
       placed = ap (λ n. n + 1) c.loop-entry.invariant.placed;
       text = next_line (λ hs. entry_lines guests (i + 1) hs) history i e _ _ _ _ _ c.loop-entry-test.true c.in_ok-push_served_line.ensures
-      (ap (λ l. l ++ entry_lines guests (i + 1 + 1) (drop (i + 1) history))
-      (ap (λ (x : Entry). served_line (Some (i + 1)) x.guest x.no (told_of guests x.guest x.no)) (sym c.entry-item.is)
-      ∙ ap (λ t. served_line (Some (i + 1)) e.guest e.no t) told
-      ∙ ap (λ n. served_line (Some (n + 1)) e.guest e.no c.as_str.result.now) (sym c.loop-entry.invariant.placed)))
-      c.loop-entry.invariant.text;
+          (ap (λ l. l ++ entry_lines guests (i + 1 + 1) (drop (i + 1) history))
+          (ap (λ (x : Entry). served_line (Some (i + 1)) x.guest x.no (told_of guests x.guest x.no)) (sym c.entry-item.is)
+          ∙ ap (λ t. served_line (Some (i + 1)) e.guest e.no t) told
+          ∙ ap (λ n. served_line (Some (n + 1)) e.guest e.no c.as_str.result.now) (sym c.loop-entry.invariant.placed)))
+          c.loop-entry.invariant.text;
     }
