@@ -1,5 +1,6 @@
-use Rattle.std.proofs.Common.{◌++◌}
-use Rattle.std.proofs.KnownBytes.{Consumes-trans}
+use Rattle.std.proofs.Common.{◌++◌, arith, refl, ◌∙◌}
+use Rattle.std.proofs.lemmas.Grind.{common_steps}
+use Rattle.std.proofs.KnownBytes.{Consumes-nil, Consumes-trans}
 use Rattle.std.proofs.lemmas.Result.{err_from_is_err_and}
 use Rattle.script.proofs.from_source.text_of.Goals as goal
 
@@ -8,3 +9,21 @@ returns-in_err-take_piece-clause-part g c =
     let p = err_from_is_err_and c.from_residual-in_err-take_piece.result c.from_residual-in_err-take_piece.ensures.1 in
     let part = c.in_err-take_piece.ensures.part in
     rw p.1 (c.loop-source.text.items ++ part.0, Consumes-trans _ _ _ c.loop-source.text.items part.0 c.loop-source.invariant.taken part.1)
+
+pub loop-source-init : goal.loop-source-init
+loop-source-init g c = record {
+  room = c.in_ok-piece.ensures;
+  taken = rw c.new-text.ensures.items (Consumes-nil _);
+  most = rw c.new-text.ensures.items (omega arith);
+  quiet = refl;
+}
+
+pub loop-source-preserved : goal.loop-source-preserved
+loop-source-preserved g c =
+    let taken = c.in_ok-take_piece.ensures.taken in
+    record {
+      room = grind (arith, common_steps);
+      taken = rw taken.1 (Consumes-trans _ _ _ c.loop-source.text.items taken.0 c.loop-source.invariant.taken taken.2);
+      most = c.in_ok-take_piece.ensures.most;
+      quiet = c.in_ok-take_piece.ensures.count ∙ c.loop-source.invariant.quiet;
+    }

@@ -1,0 +1,14 @@
+use Rattle.std.proofs.Common.{◌≡◌, ◌+◌, ◌++◌, sym, ap, drop, ◌∙◌}
+use Rattle.script.specs.declared.told.ToldCall.{ToldCall}
+use Rattle.script.specs.Transcript.{steps_text, told_line}
+use Rattle.script.proofs.Lines.{next_line}
+use Rattle.script.proofs.transcript.steps_text.Goals as goal
+
+pub loop-line-preserved : goal.loop-line-preserved
+loop-line-preserved c =
+    let told = c.args.told.now in
+    let i = c.loop-line.line-index in
+    next_line steps_text told i c.line-item.result _ _ _ _ _ c.loop-line-test.true c.in_ok-push_told_line.ensures
+    (ap (λ l. l ++ steps_text (drop (i + 1) told))
+    (ap (λ (t : ToldCall). told_line t.place t.text) (sym c.line-item.is) ∙ ap (λ t. told_line c.line-item.result.place t) (sym c.as_str.ensures)))
+    c.loop-line.invariant
