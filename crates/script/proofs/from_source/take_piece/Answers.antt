@@ -1,6 +1,8 @@
-use Rattle.std.proofs.Common.{◌≡◌, ◌≤◌, ◌<◌, ◌+◌, ◌-◌, ◌++◌, ℕ, arith, ap, length, take, length-append, length-take-le, ◌∙◌}
+use Rattle.std.proofs.Common.{◌≡◌, ◌≤◌, ◌<◌, ◌+◌, ◌-◌, ◌++◌, [], ℕ, arith, ap, length, take, length-append, length-take-le, ◌∙◌}
 use Rattle.std.specs.Prelude.{min}
+use Rattle.std.proofs.KnownBytes.{Consumes-kept, Consumes-nil}
 use Rattle.std.proofs.lemmas.List.{take-append-le}
+use Rattle.std.proofs.lemmas.Result.{err_from_is_err_and}
 use borrow.Author.Tests.{ltb-false, ltb-true}
 use Rattle.script.proofs.from_source.take_piece.Given as given
 use Rattle.script.proofs.from_source.take_piece.Goals as goal
@@ -46,3 +48,23 @@ none n h = omega arith
 
 pub returns-clause-end : goal.returns-clause-end
 returns-clause-end g c = λ e. c.in_ok-taken.ensures.bytes.1 (none _ (ltb-false 0 c.in_ok-taken.taken e)) (rw (out_len g c) (room_asked g c).0)
+
+pub returns-in_err-taken-clause-part : goal.returns-in_err-taken-clause-part
+returns-in_err-taken-clause-part g c =
+    let p = err_from_is_err_and c.from_residual.result c.from_residual.ensures.1 in
+    rw p.1 ([], Consumes-kept _ _ _ [] (Consumes-nil _) c.in_err-taken.ensures.bytes)
+
+pub returns-in_err-taken-clause-unread : goal.returns-in_err-taken-clause-unread
+returns-in_err-taken-clause-unread g c =
+    let p = err_from_is_err_and c.from_residual.result c.from_residual.ensures.1 in
+    rw (p.1, p.2) tt
+
+pub returns-in_err-extend_from_slice-clause-part : goal.returns-in_err-extend_from_slice-clause-part
+returns-in_err-extend_from_slice-clause-part g c =
+    let p = err_from_is_err_and c.from_residual-in_err-extend_from_slice.result c.from_residual-in_err-extend_from_slice.ensures.1 in
+    rw p.1 (take c.in_ok-taken.taken c.read.new.out, c.in_ok-taken.ensures.bytes.0)
+
+pub returns-in_err-extend_from_slice-clause-unread : goal.returns-in_err-extend_from_slice-clause-unread
+returns-in_err-extend_from_slice-clause-unread g c =
+    let p = err_from_is_err_and c.from_residual-in_err-extend_from_slice.result c.from_residual-in_err-extend_from_slice.ensures.1 in
+    rw (p.1, p.2) tt
