@@ -1,4 +1,4 @@
-use Rattle.std.proofs.Common.{◌≡◌, ◌+◌, ◌++◌, List, refl, sym, ap, drop, ◌∙◌}
+use Rattle.std.proofs.Common.{◌+◌, ◌++◌, List, refl, sym, ap, drop, ◌∙◌}
 use Rattle.script.specs.declared.told.ToldCall.{ToldCall}
 use Rattle.script.specs.Transcript.{entry_lines, unplaced_from, unplaced_lines}
 use Rattle.script.proofs.Lines.{last_line, next_line}

@@ -1,4 +1,4 @@
-use Rattle.std.proofs.Common.{◌≡◌, ◌+◌, ◌++◌, refl, sym, ap, drop, ◌∙◌}
+use Rattle.std.proofs.Common.{◌+◌, ◌++◌, refl, sym, ap, drop, ◌∙◌}
 use Rattle.script.specs.declared.told.ToldCall.{ToldCall}
 use Rattle.script.specs.Transcript.{steps_text, told_line}
 use Rattle.script.proofs.Lines.{last_line, next_line}
