@@ -3,7 +3,7 @@ use Rattle.std.proofs.Math.ListN.{drop_of_length-le}
 use Rattle.std.proofs.lemmas.Bool.{true≢false}
 use Rattle.std.proofs.lemmas.List.{drop_more}
 use Rattle.clap.specs.Words.{App, app_of, new_app, with_subcommand}
-use Rattle.command_line.specs.Parsing.{with_forms, with_words}
+use Rattle.command_line.specs.Parsing.{form_app, with_forms, with_words}
 use Rattle.command_line.specs.declared.parsing.Word.{Word}
 use Rattle.command_line.proofs.parsing.with_forms.Goals as goal
 
@@ -26,7 +26,7 @@ loop-form-preserved c =
     let forms = c.args.forms.now in
     let i = c.loop-form.form-index in
     let form = get_or forms i _ in
-    let below : app_of c.in_ok-below.below ≡ with_words (new_app form.name.now) form.words.now = c.in_ok-below.ensures ∙ ap (λ a. with_words a form.words.now) c.new.ensures.app in
+    let below : app_of c.in_ok-below.below ≡ form_app form = c.in_ok-below.ensures in
     let plain : (app_of c.in_ok-below.below).top.is_plain ≡ true = ap (λ (a : App). a.top.is_plain) below ∙ plain_words (new_app form.name.now) form.words.now in
     ap (λ a. with_forms a (drop (i + 1) forms)) (c.in_ok-command.ensures.shape (not_global _ _ _ _ plain) ∙ ap (λ (a : App). with_subcommand (app_of c.loop-form.command) a.top) below)
     ∙ ap (with_forms (app_of c.loop-form.command)) (sym (drop_more forms i _ c.loop-form-test.true))

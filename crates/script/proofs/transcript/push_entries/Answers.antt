@@ -1,5 +1,4 @@
-use Rattle.std.proofs.Common.{◌≡◌, ◌+◌, ◌-◌, ◌++◌, List, [], Some, None, arith, refl, sym, ap, get_or, length, drop, subst, ◌∙◌}
-use Rattle.std.specs.Prelude.{string_bytes}
+use Rattle.std.proofs.Common.{◌≡◌, ◌+◌, ◌-◌, ◌++◌, List, [], Some, None, arith, sym, ap, get_or, length, drop, subst, ◌∙◌}
 use Rattle.std.proofs.lemmas.List.{get_or_default}
 use Rattle.guest_model.specs.declared.call.Entry.{Entry}
 use Rattle.script.specs.declared.told.ToldCall.{ToldCall}

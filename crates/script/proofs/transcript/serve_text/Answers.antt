@@ -1,7 +1,7 @@
-use Rattle.std.proofs.Common.{◌≡◌, ◌+◌, ◌++◌, List, sym, ap, drop, ◌∙◌}
+use Rattle.std.proofs.Common.{◌+◌, ◌++◌, List, refl, sym, ap, drop, ◌∙◌}
 use Rattle.script.specs.declared.told.ToldCall.{ToldCall}
-use Rattle.script.specs.Transcript.{unplaced_from, unplaced_lines}
-use Rattle.script.proofs.Lines.{next_line}
+use Rattle.script.specs.Transcript.{entry_lines, unplaced_from, unplaced_lines}
+use Rattle.script.proofs.Lines.{last_line, next_line}
 use Rattle.script.proofs.transcript.serve_text.Goals as goal
 
 pub loop-told-preserved : goal.loop-told-preserved
@@ -16,3 +16,13 @@ loop-told-preserved c =
           ∙ ap (λ n. unplaced_from (n + 1) 1 c.calls.result.now) (sym c.loop-told.invariant.numbered)))
           c.loop-told.invariant.text;
     }
+
+pub loop-told-init : goal.loop-told-init
+loop-told-init c = record {
+  numbered = refl;
+  text = ap (λ l. l ++ unplaced_lines 1 c.args.guests.now) (c.in_ok-push_entries.ensures ∙ ap (λ l. l ++ entry_lines c.args.guests.now 1 c.args.history.now) c.new-out.ensures.bytes);
+}
+
+pub returns : goal.returns
+returns c =
+    last_line (λ gs. unplaced_lines (c.loop-told.told-index + 1) gs) c.args.guests.now c.loop-told.told-index _ _ c.loop-told-test.false refl c.loop-told.invariant.text
