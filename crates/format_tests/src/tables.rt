@@ -86,7 +86,7 @@ fn the_first_broken_rule_of_a_table_is_named(rt: HostRuntime) -> Result<(), Fail
     ];
     for (entries, wanted) in rows {
         let found = answer_of(rt.alloc(), entries)?;
-        assert_eq!(rt; found, wanted);
+        assert!(rt; found == wanted);
     }
     Ok(())
 }

@@ -19,9 +19,8 @@ fn ranges(rt: HostRuntime) {
         (u64::MAX, 1, out_of_range(u64::MAX, 1)),
     ];
     for (first, count, wanted) in cases {
-        assert_eq!(rt;
-            check_range(first, count, 2_048, SECTORS),
-            wanted,
+        assert!(rt;
+            check_range(first, count, 2_048, SECTORS) == wanted,
             "{first} {count}"
         );
     }

@@ -33,7 +33,7 @@ pub enum ItemKind {
 }
 
 /// Why an item isn't changed.
-#[derive(Clone, Copy)]
+#[derive(Clone, Copy, PartialEq, Eq)]
 pub enum MetaRefusal {
     /// A locator of more bytes than one may have.
     LocatorTooLarge { len: u64 },
