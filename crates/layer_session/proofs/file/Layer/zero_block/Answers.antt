@@ -73,12 +73,12 @@ returns-in_err-make_block-clause-broken g c =
     if_err c.from_residual.result c.in_err-make_block.field-0.0 _ (search rules) (make_broken c.args.self.now (g.S.Store.disk c.args.store.now) c.requires.ready c.args.plan c.args.first c.args.count c.requires.some c.requires.on_disk c.requires.run c.requires.todo
     c.make_block.new.self (g.S.Store.disk c.make_block.new.store) c.in_err-make_block.field-0.0 c.in_err-make_block.ensures.broken)
 
-pub returns-then-eq-clause-moments : goal.returns-then-eq-clause-moments
-returns-then-eq-clause-moments g c =
+pub returns-then-plan-eq4-clause-moments : goal.returns-then-plan-eq4-clause-moments
+returns-then-plan-eq4-clause-moments g c =
     keeps_puts c.args.self.now c.args.first c.args.count (g.S.Store.disk c.args.store.now).told (g.S.Store.disk c.make_block.new.store).told c.make_block.ensures.moments
 
-pub returns-then-eq-clause-done : goal.returns-then-eq-clause-done
-returns-then-eq-clause-done g c =
+pub returns-then-plan-eq4-clause-done : goal.returns-then-plan-eq4-clause-done
+returns-then-plan-eq4-clause-done g c =
     let step : c.args.plan.step ≡ Make = search rules in
     record {
       put = make_zeros c.args.self.now (g.S.Store.disk c.args.store.now) c.requires.ready c.args.plan c.args.first c.args.count c.requires.some c.requires.on_disk c.requires.run c.requires.todo step c.make_block.new.self (g.S.Store.disk c.make_block.new.store) c.in_ok-make_block.field-0 c.in_ok-make_block.ensures.made;
