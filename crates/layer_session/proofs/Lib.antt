@@ -83,3 +83,4 @@ pub mod Finished
 pub mod AtHand
 pub mod CallPrepared
 pub mod BothChunks
+pub mod Choices
