@@ -84,3 +84,4 @@ pub mod AtHand
 pub mod CallPrepared
 pub mod BothChunks
 pub mod Choices
+pub mod EntryBrought
