@@ -83,3 +83,5 @@ pub mod Finished
 pub mod AtHand
 pub mod CallPrepared
 pub mod BothChunks
+pub mod Choices
+pub mod EntryBrought

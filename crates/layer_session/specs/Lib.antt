@@ -16,3 +16,6 @@ pub mod Updating
 pub mod Identifying
 pub mod Masked
 pub mod Laws
+pub mod ByTables
+pub mod ByLayers
+pub mod ByFiles

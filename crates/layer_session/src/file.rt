@@ -1,23 +1,21 @@
 //! A file in a session, as the layer that it is in a chain.
 
-ghost use Rattle.std.specs.Prelude.{◌≡◌, ◌⊎◌, ◌+◌, ◌-◌, ◌*◌, ◌/◌, ◌^◌, ◌<◌, ◌≤◌, ◌↔◌, ℕ, Bool, List, [], length, map, All, IsTrue, IfOk, IfErr, OnOk, OnErr, Ok, Err};
+ghost use Rattle.std.specs.Prelude.{◌≡◌, ◌+◌, ◌-◌, ◌*◌, ◌/◌, ◌^◌, ◌<◌, ◌≤◌, ◌↔◌, [], length, All, IsTrue, IfOk, IfErr, OnOk, OnErr, Ok, Err};
 ghost use Rattle.store_model.specs.Disk.{ReadFailed, WhereTold, WhereBothTold};
 ghost use Rattle.store_model.specs.Plans.{FailsToChange};
 ghost use Rattle.vx_base.specs.Fields.{zeros};
-ghost use Rattle.vx_base.specs.declared.parts.Parts as declared;
 ghost use Rattle.vhdx_format.specs.Fields.{megabyte};
 ghost use Rattle.vhdx_format.specs.FileParts.{HasNumbers};
 ghost use Rattle.log_write.specs.Writing.{BeginFails, CanCommit, session_header};
-ghost use Rattle.table_pages.specs.Held.{IsNew, shape_of};
-ghost use Rattle.block_alloc.specs.Spaces as spaces;
+ghost use Rattle.table_pages.specs.Held.{IsNew};
 ghost use Rattle.chain_model.specs.Layers as chain;
 ghost use Rattle.layer_session.specs.Calls as calls;
-ghost use Rattle.layer_session.specs.Calls.{AddsOwned, Fails, HasCommitted, HasEnded, HasPut, HoldsRest, IsSame, KeepsOver, PutsInto, own_bytes, with_bytes};
-ghost use Rattle.layer_session.specs.Keeping.{IsHeld, IsReadable, IsReady};
+ghost use Rattle.layer_session.specs.Calls.{Fails, HasCommitted, HasEnded, IsSame, KeepsOver, PutsInto};
+ghost use Rattle.layer_session.specs.Keeping.{IsReadable, IsReady};
 ghost use Rattle.layer_session.specs.Begins.{BeginsOver, CanServe, HasBegun, IsOf};
-ghost use Rattle.layer_session.specs.Bringing.{SaysAllSame};
-ghost use Rattle.layer_session.specs.Steps.{StandFrom, held_by};
-ghost use Rattle.layer_session.specs.Taking.{IsBroken, IsDone, KeepsEntries};
+ghost use Rattle.layer_session.specs.Steps.{StandFrom};
+ghost use Rattle.layer_session.specs.Taking.{IsBroken, KeepsEntries};
+ghost use Rattle.layer_session.specs.ByLayers.{AddsHeld, HasWritten, MayCommit, ReadsOn, TellsAllSame};
 
 use crate::planning::{Plan, Step};
 use crate::reading::own_missing;
@@ -154,7 +152,7 @@ impl Layer {
         requires out { length out.old ≡ self.old.tables.parts.sector * count }
         requires mask { at + count ≤ 8 * length mask.old }
         requires ends { at + count < 2 ^ 64 }
-        ensures owned { OnOk result ((parts : declared.Parts) (layer : chain.Layer) → WhereTold (S.disk store.old).told (λ trace. IsHeld self.old parts layer (own_bytes self.old trace) → AddsOwned layer self.old.tables.parts.sector first count at mask.old mask.new out.old out.new)) }
+        ensures owned { OnOk result (AddsHeld self.old (S.disk store.old) first count at mask.old mask.new out.old out.new) }
         ensures same { IsSame self.old self.new (S.disk store.old) }
         ensures stays { OnOk result (S.disk store.new ≡ S.disk store.old) }
         ensures err { IfErr result (ReadFailed self.old.tables.parts.file (S.disk store.old) (S.disk store.new)) }
@@ -177,9 +175,9 @@ impl Layer {
         ensures leave { self.new.leave ≡ self.old.leave }
         ensures plans { self.new.plans ≡ self.old.plans }
         // The tables say the same, and places that were freed can be taken.
-        ensures says { OnOk result (WhereBothTold (λ before after. SaysAllSame (shape_of self.old.tables.parts) (held_by self.old before) (held_by self.new after)) (S.disk store.old).told (S.disk store.new).told) }
-        ensures space { OnOk result ((self.new.space ≡ self.old.space) ⊎ (self.new.space ≡ record self.old.space { freed = map spaces.committed self.old.space.freed })) }
-        ensures broken { OnErr result (IsReadable self.new (S.disk store.new) × WhereBothTold (HoldsRest self.old self.new 0 0) (S.disk store.old).told (S.disk store.new).told) }
+        ensures says { OnOk result (WhereBothTold (TellsAllSame self.old self.new) (S.disk store.old).told (S.disk store.new).told) }
+        ensures space { OnOk result (MayCommit self.old.space self.new.space) }
+        ensures broken { OnErr result (ReadsOn self.old self.new 0 0 (S.disk store.old) (S.disk store.new)) }
         ensures counts { OnOk result (S.disk store.new ≡ record (S.disk store.old) { told = (S.disk store.new).told }) }
         ensures err { IfErr result (FailsToChange self.old.tables.parts.file (S.disk store.old) (S.disk store.new)) }
     {
@@ -199,7 +197,7 @@ impl Layer {
         ensures moments { WhereBothTold (KeepsOver self.old) (S.disk store.old).told (S.disk store.new).told }
         ensures log { OnOk result (self.new ≡ record (self.old) { log = record (self.old.log) { len = len } }) }
         ensures kept { OnErr result (self.new ≡ self.old) }
-        ensures broken { OnErr result (IsReadable self.new (S.disk store.new) × WhereBothTold (HoldsRest self.old self.new 0 0) (S.disk store.old).told (S.disk store.new).told) }
+        ensures broken { OnErr result (ReadsOn self.old self.new 0 0 (S.disk store.old) (S.disk store.new)) }
         ensures counts { OnOk result (S.disk store.new ≡ record (S.disk store.old) { told = (S.disk store.new).told }) }
         ensures err { IfErr result (Fails self.old.tables.parts.file (S.disk store.old) (S.disk store.new)) }
     {
@@ -222,7 +220,7 @@ impl Layer {
         requires on_disk { first + calls.sectors_in self.now bytes.now ≤ self.now.tables.parts.sectors }
         requires stand { WhereTold (S.disk store.old).told (λ trace. StandFrom self.now first (calls.sectors_in self.now bytes.now) place trace) }
         ensures moments { WhereBothTold (PutsInto self.now first (calls.sectors_in self.now bytes.now)) (S.disk store.old).told (S.disk store.new).told }
-        ensures done { OnOk result (IsDone self.now self.now first (calls.sectors_in self.now bytes.now) (with_bytes self.now.tables.parts.sector first (calls.sectors_in self.now bytes.now) bytes.now) (S.disk store.old) (S.disk store.new)) }
+        ensures done { OnOk result (HasWritten self.now self.now first (calls.sectors_in self.now bytes.now) bytes.now (S.disk store.old) (S.disk store.new)) }
         // No table changes.
         ensures same { OnOk result (WhereBothTold (KeepsEntries self.now self.now) (S.disk store.old).told (S.disk store.new).told) }
         // A write that failed may have left any bytes of those sectors.

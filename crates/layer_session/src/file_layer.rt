@@ -1,17 +1,13 @@
 //! A file of a chain, in a session or only read.
 
-ghost use Rattle.std.specs.Prelude.{◌≡◌, ◌+◌, ◌-◌, ◌*◌, ◌^◌, ◌<◌, ◌≤◌, ℕ, List, length, Contains, IfErr, OnOk, OnErr, None, Ok, is_some, map};
+ghost use Rattle.std.specs.Prelude.{◌≡◌, ◌+◌, ◌-◌, ◌*◌, ◌^◌, ◌<◌, ◌≤◌, ℕ, length, Contains, IfErr, OnOk, OnErr, None, Ok, is_some, map};
 ghost use Rattle.store_model.specs.Disk.{ReadFailed, WhereTold, WhereBothTold};
 ghost use Rattle.store_model.specs.Plans.{FailsToChange};
 ghost use Rattle.log_format.specs.PendingPages.{HasOnePageEach};
-ghost use Rattle.chain_model.specs.Images.{Placed, members_of};
-ghost use Rattle.chain_model.specs.Layers as chain;
-ghost use Rattle.chain_model.specs.Layers.{through};
-ghost use Rattle.chain_model.specs.Members.{layers_of};
-ghost use Rattle.layer_session.specs.Calls.{AddsOwned};
 ghost use Rattle.layer_session.specs.ReadOnly.{SomeReadFailed};
-ghost use Rattle.layer_session.specs.FileLayers.{AreReadableFiles, AreSameFiles, FileCanBeRead, FileIsReady, FileLayersStand, HaveFiles, HaveSameNumbers, HasFile, Hold, Holds, IsSameFile, OthersStand, file_numbers, log_header, log_number, number_of, table_parts};
+ghost use Rattle.layer_session.specs.FileLayers.{AreReadableFiles, AreSameFiles, FileCanBeRead, FileIsReady, FileLayersStand, HaveSameNumbers, IsSameFile, OthersStand, file_numbers, log_header, log_number, number_of, table_parts};
 ghost use Rattle.layer_session.specs.FileLayers.{FileHasCommitted, FileHasEnded, FileHasUpdated, FileHoldsStill, FileKeepsOver, FileTurns, FileUpdatesOver, HasSession, IsNumbered, WaitsForNone};
+ghost use Rattle.layer_session.specs.ByFiles.{AddHad, AddHeld, AddsHad, AddsHeld};
 
 use crate::file::Layer;
 use crate::read_layer::ReadLayer;
@@ -56,8 +52,8 @@ impl FileLayer {
         requires out { length out.old ≡ (table_parts self.old).sector * count }
         requires mask { at + count ≤ 8 * length mask.old }
         requires ends { at + count < 2 ^ 64 }
-        ensures held { OnOk result ((layer : chain.Layer) → WhereTold (S.disk store.old).told (λ trace. Holds self.old trace layer → AddsOwned layer (table_parts self.old).sector first count at mask.old mask.new out.old out.new)) }
-        ensures owned { OnOk result ((file : Placed) → WhereTold (S.disk store.old).told (λ trace. HasFile self.old trace file → AddsOwned file.member.layer (table_parts self.old).sector first count at mask.old mask.new out.old out.new)) }
+        ensures held { OnOk result (AddsHeld self.old (S.disk store.old) first count at mask.old mask.new out.old out.new) }
+        ensures owned { OnOk result (AddsHad self.old (S.disk store.old) first count at mask.old mask.new out.old out.new) }
         ensures same { IsSameFile self.old self.new (S.disk store.old) }
         ensures stays { OnOk result (S.disk store.new ≡ S.disk store.old) }
         ensures err { IfErr result (ReadFailed (number_of self.old) (S.disk store.old) (S.disk store.new)) }
@@ -159,8 +155,8 @@ pub fn own_files<S: Store>(
     requires out { length out.old ≡ geometry.sector * count }
     requires mask { at + count ≤ 8 * length mask.old }
     requires ends { at + count < 2 ^ 64 }
-    ensures held { OnOk result ((each : List chain.Layer) → WhereTold (S.disk store.old).told (λ trace. Hold layers.old trace each → AddsOwned (through each) geometry.sector first count at mask.old mask.new out.old out.new)) }
-    ensures owned { OnOk result ((files : List Placed) → WhereTold (S.disk store.old).told (λ trace. HaveFiles layers.old trace files → AddsOwned (through (layers_of (members_of files))) geometry.sector first count at mask.old mask.new out.old out.new)) }
+    ensures held { OnOk result (AddHeld layers.old geometry.sector (S.disk store.old) first count at mask.old mask.new out.old out.new) }
+    ensures owned { OnOk result (AddHad layers.old geometry.sector (S.disk store.old) first count at mask.old mask.new out.old out.new) }
     ensures same { AreSameFiles geometry layers.old layers.new (S.disk store.old) }
     ensures numbers { HaveSameNumbers layers.old layers.new }
     ensures headers { map log_header layers.new ≡ map log_header layers.old }

@@ -5,10 +5,10 @@ ghost use Rattle.store_model.specs.Disk.{WhereBothTold};
 ghost use Rattle.store_model.specs.Plans.{FailsToChange};
 ghost use Rattle.log_write.specs.Writing as writes;
 ghost use Rattle.log_write.specs.Writing.{HasNextNumber, identified_header};
-ghost use Rattle.layer_session.specs.Calls.{HoldsRest};
 ghost use Rattle.layer_session.specs.FileLayers.{FileCanBeRead, FileHoldsStill, FileIsReady, HasSession, WaitsForNone, log_header, log_number, number_of, table_parts};
 ghost use Rattle.layer_session.specs.Identifying.{FileHasIdentified, FileIdentifiesOver, HasIdentified, IdentifiesOver};
-ghost use Rattle.layer_session.specs.Keeping.{IsReadable, IsReady};
+ghost use Rattle.layer_session.specs.Keeping.{IsReady};
+ghost use Rattle.layer_session.specs.ByLayers.{ReadsOn};
 
 use crate::file::Layer;
 use crate::file_layer::FileLayer;
@@ -33,7 +33,7 @@ impl Layer {
         ensures space { self.new.space ≡ self.old.space }
         ensures leave { self.new.leave ≡ self.old.leave }
         ensures plans { self.new.plans ≡ self.old.plans }
-        ensures broken { OnErr result (IsReadable self.new (S.disk store.new) × WhereBothTold (HoldsRest self.old self.new 0 0) (S.disk store.old).told (S.disk store.new).told) }
+        ensures broken { OnErr result (ReadsOn self.old self.new 0 0 (S.disk store.old) (S.disk store.new)) }
         ensures counts { OnOk result (S.disk store.new ≡ record (S.disk store.old) { told = (S.disk store.new).told }) }
         ensures err { IfErr result (FailsToChange self.old.tables.parts.file (S.disk store.old) (S.disk store.new)) }
     {

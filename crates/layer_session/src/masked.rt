@@ -1,16 +1,17 @@
 //! Sectors of one block are put that a mask names.
 
-ghost use Rattle.std.specs.Prelude.{◌≡◌, ◌≢◌, ◌+◌, ◌-◌, ◌*◌, ◌/◌, ◌%◌, ◌^◌, ◌<◌, ◌≤◌, ℕ, true, false, length, IfOk, IfErr, OnOk, Ok, Err};
+ghost use Rattle.std.specs.Prelude.{◌≡◌, ◌≢◌, ◌+◌, ◌-◌, ◌*◌, ◌/◌, ◌%◌, ◌^◌, ◌<◌, ◌≤◌, ℕ, true, false, length, IfOk, IfErr, OnOk, Ok};
 ghost use Rattle.vhdx_format.specs.Fields.{megabyte};
 ghost use Rattle.vhdx_format.specs.SectorBitmaps.{bit_of};
 ghost use Rattle.store_model.specs.Disk.{WhereTold, WhereBothTold};
 ghost use Rattle.log_format.specs.PendingPages.{has_place};
 ghost use Rattle.table_pages.specs.Held.{shape_of};
-ghost use Rattle.layer_session.specs.Calls.{Fails, HasKept, KeepsOver, OnBroken, OnRefused, OnRoom, PutsInto, with_bytes};
-ghost use Rattle.layer_session.specs.Keeping.{IsReadable, IsReady};
-ghost use Rattle.layer_session.specs.Masked.{HasEmpty, HasMarkPages, HasPutNamed, HoldsUnnamed, IsBrokenNamed, IsDoneNamed, IsSpot, KeepsSpots, PutsNamed, is_masked, with_masked};
+ghost use Rattle.layer_session.specs.Calls.{Fails, HasKept, KeepsOver, OnBroken, OnRefused, OnRoom, PutsInto};
+ghost use Rattle.layer_session.specs.Keeping.{IsReady};
+ghost use Rattle.layer_session.specs.Masked.{HasEmpty, HasMarkPages, IsBrokenNamed, KeepsSpots, PutsNamed, is_masked};
 ghost use Rattle.layer_session.specs.Steps.{HasPages, HasRoomFor, IsToDo, has_room, held_by, is_full};
-ghost use Rattle.layer_session.specs.Taking.{HasPagesOfPart, IsAbsent, IsBroken, IsDone, LeavesRest, takes_of};
+ghost use Rattle.layer_session.specs.Taking.{HasPagesOfPart, IsAbsent, IsBroken, LeavesRest, takes_of};
+ghost use Rattle.layer_session.specs.ByLayers.{HasPutMasked, HasWritten, HasWrittenMasked, OnFull, ReadsOnUnnamed, StandAtSpot};
 
 use crate::file::{Layer, LayerFault};
 use crate::geometry::{block_sectors, block_start, offset_in_block, place_in};
@@ -85,7 +86,7 @@ impl Layer {
         requires todo { WhereTold (S.disk store.old).told (λ trace. IsToDo (shape_of self.old.tables.parts) (held_by self.old trace) false first count plan) }
         ensures moments { WhereBothTold (KeepsOver self.old) (S.disk store.old).told (S.disk store.new).told }
         ensures kept { OnOk result (WhereBothTold (HasKept self.old self.new) (S.disk store.old).told (S.disk store.new).told) }
-        ensures spot { IfOk result (λ spot. WhereTold (S.disk store.new).told (λ trace. IsSpot (shape_of self.old.tables.parts) (held_by self.new trace) first count spot)) }
+        ensures spot { IfOk result (λ spot. StandAtSpot self.old self.new (S.disk store.new) first count spot) }
         ensures pages { IfOk result (HasMarkPages self.new.tables first count) }
         ensures ready { OnOk result (IsReady self.new (S.disk store.new)) }
         ensures parts { OnOk result (self.new.tables.parts ≡ self.old.tables.parts) }
@@ -141,10 +142,10 @@ impl Layer {
         requires whole { length bytes.now ≡ self.old.tables.parts.sector * count }
         requires on_disk { first + count ≤ self.old.tables.parts.sectors }
         requires run { first * self.old.tables.parts.sector % self.old.tables.parts.block + count * self.old.tables.parts.sector ≤ self.old.tables.parts.block }
-        requires spot { WhereTold (S.disk store.old).told (λ trace. IsSpot (shape_of self.old.tables.parts) (held_by self.old trace) first count spot) }
+        requires spot { StandAtSpot self.old self.old (S.disk store.old) first count spot }
         requires pages { HasMarkPages self.old.tables first count spot }
         ensures moments { WhereBothTold (PutsInto self.old first count) (S.disk store.old).told (S.disk store.new).told }
-        ensures done { OnOk result (IsDone self.old self.new first count (with_bytes self.old.tables.parts.sector first count bytes.now) (S.disk store.old) (S.disk store.new)) }
+        ensures done { OnOk result (HasWritten self.old self.new first count bytes.now (S.disk store.old) (S.disk store.new)) }
         ensures spots { OnOk result (WhereBothTold (KeepsSpots self.old self.new spot.marks) (S.disk store.old).told (S.disk store.new).told) }
         ensures places { (at : ℕ) → has_place at self.old.tables.pending ≡ true → has_place at self.new.tables.pending ≡ true }
         ensures broken { IfErr result (IsBroken self.old self.new first count (S.disk store.old) (S.disk store.new)) }
@@ -173,10 +174,10 @@ impl Layer {
         requires run { first * self.old.tables.parts.sector % self.old.tables.parts.block + count * self.old.tables.parts.sector ≤ self.old.tables.parts.block }
         requires mask { at + count ≤ 8 * length mask.now }
         requires ends { at + count < 2 ^ 64 }
-        requires spot { 0 < count → WhereTold (S.disk store.old).told (λ trace. IsSpot (shape_of self.old.tables.parts) (held_by self.old trace) first count spot) }
+        requires spot { 0 < count → StandAtSpot self.old self.old (S.disk store.old) first count spot }
         requires pages { HasMarkPages self.old.tables first count spot }
         ensures moments { WhereBothTold (PutsNamed self.old (is_masked first count at mask.now)) (S.disk store.old).told (S.disk store.new).told }
-        ensures done { OnOk result (IsDoneNamed self.old self.new (is_masked first count at mask.now) (with_masked self.old.tables.parts.sector first count at mask.now bytes.now) (S.disk store.old) (S.disk store.new)) }
+        ensures done { OnOk result (HasWrittenMasked self.old self.new first count at mask.now bytes.now (S.disk store.old) (S.disk store.new)) }
         ensures broken { IfErr result (IsBrokenNamed self.old self.new (is_masked first count at mask.now) (S.disk store.old) (S.disk store.new)) }
     {
         if count == 0 {
@@ -231,12 +232,12 @@ impl Layer {
         requires numbers { self.old.log.number + 1 ≤ 2 ^ 64 - 2 ^ 32 }
         // At each moment, whatever it answers, in every image without a torn match.
         ensures moments { WhereBothTold (PutsNamed self.old (is_masked first count 0 mask.now)) (S.disk store.old).told (S.disk store.new).told }
-        ensures put { OnOk result (WhereBothTold (HasPutNamed self.old self.new (is_masked first count 0 mask.now) (with_masked self.old.tables.parts.sector first count 0 mask.now bytes.now)) (S.disk store.old).told (S.disk store.new).told) }
+        ensures put { OnOk result (HasPutMasked self.old self.new first count mask.now bytes.now (S.disk store.old) (S.disk store.new)) }
         ensures ready { OnOk result (IsReady self.new (S.disk store.new)) }
         ensures refused { OnRefused result (IsReady self.new (S.disk store.new)) }
         ensures kept { OnRefused result (WhereBothTold (HasKept self.old self.new) (S.disk store.old).told (S.disk store.new).told) }
         ensures quiet { OnRefused result (WhereBothTold (KeepsOver self.old) (S.disk store.old).told (S.disk store.new).told) }
-        ensures broken { OnBroken result (IsReadable self.new (S.disk store.new) × WhereBothTold (HoldsUnnamed self.old self.new (is_masked first count 0 mask.now)) (S.disk store.old).told (S.disk store.new).told) }
+        ensures broken { OnBroken result (ReadsOnUnnamed self.old self.new (is_masked first count 0 mask.now) (S.disk store.old) (S.disk store.new)) }
         ensures parts { self.new.tables.parts ≡ self.old.tables.parts }
         // It commits once at most.
         ensures number { self.new.log.number ≤ self.old.log.number + 1 }
@@ -246,7 +247,7 @@ impl Layer {
         // Where the mask names none, nothing is done.
         ensures nothing { ((s : ℕ) → is_masked first count 0 mask.now s ≡ false) → (result ≡ Ok tt) × ((self.new ≡ self.old) × (store.new ≡ store.old)) }
         // Refused for want of room exactly where there is none.
-        ensures full { (next : ℕ) → result ≡ Err (LayerFault.FileFull next) → is_full false first count next self.old (S.disk store.old) }
+        ensures full { OnFull result (λ next. is_full false first count next self.old (S.disk store.old)) }
         ensures room { (s : ℕ) → is_masked first count 0 mask.now s ≡ true → OnRoom result (has_room false first count self.old (S.disk store.old)) }
     {
         if !names_some(mask, count as usize) {

@@ -1,13 +1,14 @@
 //! What a call is to do with each block that its sectors lie in. The tables are read, and nothing is changed.
 
 ghost use Rattle.std.specs.Prelude.{◌≡◌, ◌+◌, ◌*◌, ◌/◌, ◌%◌, ◌^◌, ◌<◌, ◌≤◌, ◌↔◌, true, false, ℕ, length, slice_get, IfOk, IfErr, OnOk, IsTrue};
-ghost use Rattle.store_model.specs.Disk.{ReadFailed, WhereTold};
+ghost use Rattle.store_model.specs.Disk.{ReadFailed};
 ghost use Rattle.vhdx_format.specs.Layers.{entry_of, table_entry};
-ghost use Rattle.table_pages.specs.Held.{HasTables, held_file, shape_of};
+ghost use Rattle.table_pages.specs.Held.{shape_of};
 ghost use Rattle.layer_session.specs.Planning as spec;
-ghost use Rattle.layer_session.specs.Planning.{AreCounted, IsLooked, IsPlanned};
+ghost use Rattle.layer_session.specs.Planning.{AreCounted, IsPlanned};
 ghost use Rattle.layer_session.specs.TablesRead.{AreBitsThere, AreReadable, HasRead};
 ghost use Rattle.layer_session.specs.Blocks as blocks;
+ghost use Rattle.layer_session.specs.ByTables.{IsLookedBy, WantsAtMost, WhereHeld};
 
 use crate::geometry::{CHUNK, bitmap_entry_index, entry_index, is_whole_block, run_in_block};
 use sector_bits::are_set;
@@ -70,7 +71,7 @@ fn are_few_marked<S: Store>(
     requires on_disk { first + count ≤ tables.old.parts.sectors }
     requires chunk { first % 2 ^ 23 + count ≤ 2 ^ 23 }
     requires bitmap { AreBitsThere first tables.old (S.disk store.old) }
-    ensures marked { IfOk result (λ marked. WhereTold (S.disk store.old).told (λ trace. IsTrue marked ↔ spec.AreMarked (shape_of tables.old.parts) (held_file tables.old trace) first count)) }
+    ensures marked { IfOk result (λ marked. WhereHeld tables.old (S.disk store.old) (λ p file. IsTrue marked ↔ spec.AreMarked p file first count)) }
     ensures reads { HasRead tables.old tables.new (S.disk store.old) }
     ensures stays { OnOk result (S.disk store.new ≡ S.disk store.old) }
     ensures err { IfErr result (ReadFailed tables.old.parts.file (S.disk store.old) (S.disk store.new)) }
@@ -95,7 +96,7 @@ fn are_marked<S: Store>(
     requires on_disk { first + count ≤ tables.old.parts.sectors }
     requires chunk { first % 2 ^ 23 + count ≤ 2 ^ 23 }
     requires bitmap { 0 < count → AreBitsThere first tables.old (S.disk store.old) }
-    ensures marked { IfOk result (λ marked. WhereTold (S.disk store.old).told (λ trace. marked ≡ spec.are_marked (shape_of tables.old.parts) (held_file tables.old trace) first count)) }
+    ensures marked { IfOk result (λ marked. WhereHeld tables.old (S.disk store.old) (λ p file. marked ≡ spec.are_marked p file first count)) }
     ensures reads { HasRead tables.old tables.new (S.disk store.old) }
     ensures stays { OnOk result (S.disk store.new ≡ S.disk store.old) }
     ensures err { IfErr result (ReadFailed tables.old.parts.file (S.disk store.old) (S.disk store.new)) }
@@ -122,7 +123,7 @@ fn plan_of<S: Store>(
     requires some { 0 < count }
     requires on_disk { first + count ≤ tables.old.parts.sectors }
     requires run { first * tables.old.parts.sector % tables.old.parts.block + count * tables.old.parts.sector ≤ tables.old.parts.block }
-    ensures planned { IfOk result (λ plan. WhereTold (S.disk store.old).told (λ trace. IsPlanned (shape_of tables.old.parts) (held_file tables.old trace) trims first count plan)) }
+    ensures planned { IfOk result (λ plan. WhereHeld tables.old (S.disk store.old) (λ p file. IsPlanned p file trims first count plan)) }
     ensures reads { HasRead tables.old tables.new (S.disk store.old) }
     ensures stays { OnOk result (S.disk store.new ≡ S.disk store.old) }
     ensures err { IfErr result (ReadFailed tables.old.parts.file (S.disk store.old) (S.disk store.new)) }
@@ -171,8 +172,8 @@ fn plan_part<S: Store>(
     requires on_disk { first + count ≤ tables.old.parts.sectors }
     requires run { first * tables.old.parts.sector % tables.old.parts.block + count * tables.old.parts.sector ≤ tables.old.parts.block }
     requires state { word % 8 ≡ 7 }
-    requires word { WhereTold (S.disk store.old).told (λ trace. word ≡ table_entry (shape_of tables.old.parts) (held_file tables.old trace) (entry_of (shape_of tables.old.parts) first)) }
-    ensures planned { IfOk result (λ plan. WhereTold (S.disk store.old).told (λ trace. IsPlanned (shape_of tables.old.parts) (held_file tables.old trace) false first count plan)) }
+    requires word { WhereHeld tables.old (S.disk store.old) (λ p file. word ≡ table_entry p file (entry_of p first)) }
+    ensures planned { IfOk result (λ plan. WhereHeld tables.old (S.disk store.old) (λ p file. IsPlanned p file false first count plan)) }
     ensures reads { HasRead tables.old tables.new (S.disk store.old) }
     ensures stays { OnOk result (S.disk store.new ≡ S.disk store.old) }
     ensures err { IfErr result (ReadFailed tables.old.parts.file (S.disk store.old) (S.disk store.new)) }
@@ -221,9 +222,9 @@ pub fn look<S: Store>(
     requires on_disk { first + count ≤ tables.old.parts.sectors }
     requires few { k + blocks.blocks_of (shape_of tables.old.parts) first count ≤ length plans.old }
     requires room { length plans.old < 2 ^ 16 }
-    ensures looked { IfOk result (λ all. WhereTold (S.disk store.old).told (λ trace. IsLooked (shape_of tables.old.parts) (held_file tables.old trace) trims plans.new k first count all)) }
+    ensures looked { IfOk result (λ all. IsLookedBy tables.old.parts tables.old (S.disk store.old) trims plans.new k first count all) }
     ensures counted { IfOk result (AreCounted (shape_of tables.old.parts) plans.new k first count) }
-    ensures few { IfOk result (λ all. (all.blocks ≤ blocks.blocks_of (shape_of tables.old.parts) first count) × (all.bitmaps ≤ blocks.blocks_of (shape_of tables.old.parts) first count)) }
+    ensures few { IfOk result (λ all. WantsAtMost (blocks.blocks_of (shape_of tables.old.parts) first count) all) }
     ensures before { (i : ℕ) → i < k → slice_get plans.new i ≡ slice_get plans.old i }
     ensures reads { HasRead tables.old tables.new (S.disk store.old) }
     ensures stays { OnOk result (S.disk store.new ≡ S.disk store.old) }

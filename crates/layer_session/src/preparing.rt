@@ -1,23 +1,24 @@
 //! What comes before the steps of a call: the steps are planned, their pages are put among the changed ones, and sector bitmap
 //! blocks that are missing are made. Reads are done here alone, so a read that fails and a file that is full change nothing.
 
-ghost use Rattle.std.specs.Prelude.{◌≡◌, ◌⊎◌, ◌+◌, ◌-◌, ◌*◌, ◌/◌, ◌%◌, ◌^◌, ◌<◌, ◌≤◌, ℕ, Bool, List, true, false, None, length, slice_get, IfOk, IfErr, IfSome, OnOk, Err, if◌then◌else◌};
+ghost use Rattle.std.specs.Prelude.{◌≡◌, ◌⊎◌, ◌+◌, ◌-◌, ◌*◌, ◌/◌, ◌%◌, ◌^◌, ◌<◌, ◌≤◌, ℕ, Bool, true, false, None, length, slice_get, IfOk, IfErr, IfSome, OnOk, Err, if◌then◌else◌};
 ghost use Rattle.vhdx_format.specs.Fields.{megabyte};
-ghost use Rattle.vhdx_format.specs.Layers.{bitmap_entry_of, entry_of, state_at, table_entry};
+ghost use Rattle.vhdx_format.specs.Layers.{bitmap_entry_of, state_at};
 ghost use Rattle.store_model.specs.Disk.{ReadFailed, WhereBothTold, WhereTold};
 ghost use Rattle.log_format.specs.PendingPages.{has_place};
 ghost use Rattle.block_alloc.specs.Spaces as spaces;
-ghost use Rattle.table_pages.specs.Held.{AreChanged, AreClear, AreTables, HasTables, IsHeldAlike, KeepsWithin, PutsWithin, bit_pages, entry_place, held, held_file, shape_of};
-ghost use Rattle.table_pages.specs.Pages.{page_place};
+ghost use Rattle.table_pages.specs.Held.{HasTables, bit_pages, held, shape_of};
 ghost use Rattle.layer_session.specs.Blocks as blocks;
 ghost use Rattle.layer_session.specs.Bringing as spec;
-ghost use Rattle.layer_session.specs.Bringing.{AreBitsOf, AreNamed, Brings, GoesOn, HasBits, HasBrought, HasEntry, HasMade, InChunk, IsBitsOf, Leads, NamesBitmap, SaysAllSame, SaysSameBut, SetsEntry};
-ghost use Rattle.layer_session.specs.Calls.{Fails, HasKept, HoldsRest, KeepsOver, OnBroken, OnRefused, OnRoom};
-ghost use Rattle.layer_session.specs.Keeping.{IsReadable, IsReady};
-ghost use Rattle.layer_session.specs.Planning.{AreCounted, ArePlanned, EachRun, IsLooked, is_marking};
+ghost use Rattle.layer_session.specs.Bringing.{AreBitsOf, AreNamed, Brings, GoesOn, HasBrought, HasEntry, HasMade, InChunk, IsBitsOf, Leads, SetsEntry};
+ghost use Rattle.layer_session.specs.Calls.{Fails, KeepsOver, OnBroken, OnRefused, OnRoom};
+ghost use Rattle.layer_session.specs.Keeping.{IsReady};
+ghost use Rattle.layer_session.specs.Planning.{AreCounted, EachRun, is_marking};
 ghost use Rattle.layer_session.specs.Prepared.{IsPrepared};
-ghost use Rattle.layer_session.specs.Steps.{Begins, Wants, has_room, held_by, is_full};
+ghost use Rattle.layer_session.specs.Steps.{Begins, has_room, held_by, is_full};
 ghost use Rattle.layer_session.specs.TablesRead.{AreReadable};
+ghost use Rattle.layer_session.specs.ByTables.{AreBitsAtHand, HaveBits, IsBitmapEntryAtHand, IsLookedBy, NameFar, NameIn, NameNear, WhereHeld, most_brought, most_made};
+ghost use Rattle.layer_session.specs.ByLayers.{HasPlanned, KeepsRoom, OnFull, PlansNameFar, PlansNameNear, ReadsOn, ServesOn, TellsAllSame, TellsSameBut, WantsPlanned};
 
 use crate::file::{Layer, LayerFault};
 use crate::geometry::{
@@ -236,16 +237,16 @@ fn bring_chunk<S: Store>(
     requires size { tables.old.parts.sector * count ≤ 2 ^ 28 }
     requires few { blocks.blocks_of (shape_of tables.old.parts) first count ≤ length plans.old }
     requires parent { missing ≡ true → tables.old.parts.parent ≡ true }
-    requires there { missing ≡ false → WhereTold (S.disk store.old).told (λ trace. EachRun (shape_of tables.old.parts) plans.old (InChunk (sector / 2 ^ 23) (NamesBitmap (shape_of tables.old.parts) (held_file tables.old trace))) 0 first count) }
+    requires there { missing ≡ false → NameIn (sector / 2 ^ 23) tables.old.parts tables.old (S.disk store.old) plans.old first count }
     requires room { length tables.old.pending + spec.most_bit_pages (shape_of tables.old.parts) count ≤ 120 }
     ensures brought { HasBrought tables.old tables.new (S.disk store.old) }
     ensures few { length tables.new.pending ≤ length tables.old.pending + (if missing then 1 else spec.most_bit_pages (shape_of tables.old.parts) count) }
     ensures len { length plans.new ≡ length plans.old }
     ensures same { missing ≡ true → plans.new ≡ plans.old }
     ensures named { missing ≡ false → AreNamed (shape_of tables.old.parts) (sector / 2 ^ 23) plans.old plans.new 0 first count }
-    ensures at_hand { missing ≡ false → OnOk result (EachRun (shape_of tables.old.parts) plans.new (InChunk (sector / 2 ^ 23) (HasBits tables.new)) 0 first count) }
-    ensures there { missing ≡ false → WhereTold (S.disk store.old).told (λ trace. EachRun (shape_of tables.old.parts) plans.new (InChunk (sector / 2 ^ 23) (NamesBitmap (shape_of tables.old.parts) (held_file tables.old trace))) 0 first count) }
-    ensures entry { missing ≡ true → OnOk result (has_place (page_place (entry_place tables.old.parts (bitmap_entry_of (shape_of tables.old.parts) sector))) tables.new.pending ≡ true) }
+    ensures at_hand { missing ≡ false → OnOk result (HaveBits (sector / 2 ^ 23) (shape_of tables.old.parts) tables.new plans.new first count) }
+    ensures there { missing ≡ false → NameIn (sector / 2 ^ 23) tables.old.parts tables.old (S.disk store.old) plans.new first count }
+    ensures entry { missing ≡ true → OnOk result (IsBitmapEntryAtHand tables.old.parts sector tables.new.pending) }
     ensures stays { OnOk result (S.disk store.new ≡ S.disk store.old) }
     ensures err { IfErr result (ReadFailed tables.old.parts.file (S.disk store.old) (S.disk store.new)) }
 {
@@ -305,15 +306,15 @@ fn bring<S: Store>(
     requires few { blocks.blocks_of (shape_of tables.old.parts) first count ≤ length plans.old }
     requires near { missing.near ≡ true → tables.old.parts.parent ≡ true }
     requires far { missing.far ≡ true → tables.old.parts.parent ≡ true }
-    requires near_there { missing.near ≡ false → WhereTold (S.disk store.old).told (λ trace. EachRun (shape_of tables.old.parts) plans.old (InChunk (first / 2 ^ 23) (NamesBitmap (shape_of tables.old.parts) (held_file tables.old trace))) 0 first count) }
-    requires far_there { GoesOn first count → missing.far ≡ false → WhereTold (S.disk store.old).told (λ trace. EachRun (shape_of tables.old.parts) plans.old (InChunk ((first + count - 1) / 2 ^ 23) (NamesBitmap (shape_of tables.old.parts) (held_file tables.old trace))) 0 first count) }
+    requires near_there { missing.near ≡ false → NameNear tables.old (S.disk store.old) plans.old first count }
+    requires far_there { GoesOn first count → missing.far ≡ false → NameFar tables.old (S.disk store.old) plans.old first count }
     requires room { length tables.old.pending + 2 + 2 * spec.most_bit_pages (shape_of tables.old.parts) count ≤ 120 }
     ensures brought { HasBrought tables.old tables.new (S.disk store.old) }
-    ensures few { length tables.new.pending ≤ length tables.old.pending + 2 + ((if missing.near then 1 else spec.most_bit_pages (shape_of tables.old.parts) count) + (if missing.far then 1 else spec.most_bit_pages (shape_of tables.old.parts) count)) }
+    ensures few { length tables.new.pending ≤ length tables.old.pending + 2 + most_brought missing (shape_of tables.old.parts) count }
     ensures len { length plans.new ≡ length plans.old }
     ensures brings { OnOk result (Brings tables.old.parts missing first count tables.new plans.old plans.new) }
-    ensures near_there { missing.near ≡ false → OnOk result (WhereTold (S.disk store.old).told (λ trace. EachRun (shape_of tables.old.parts) plans.new (InChunk (first / 2 ^ 23) (NamesBitmap (shape_of tables.old.parts) (held_file tables.old trace))) 0 first count)) }
-    ensures far_there { GoesOn first count → missing.far ≡ false → OnOk result (WhereTold (S.disk store.old).told (λ trace. EachRun (shape_of tables.old.parts) plans.new (InChunk ((first + count - 1) / 2 ^ 23) (NamesBitmap (shape_of tables.old.parts) (held_file tables.old trace))) 0 first count)) }
+    ensures near_there { missing.near ≡ false → OnOk result (NameNear tables.old (S.disk store.old) plans.new first count) }
+    ensures far_there { GoesOn first count → missing.far ≡ false → OnOk result (NameFar tables.old (S.disk store.old) plans.new first count) }
     ensures stays { OnOk result (S.disk store.new ≡ S.disk store.old) }
     ensures err { IfErr result (ReadFailed tables.old.parts.file (S.disk store.old) (S.disk store.new)) }
 {
@@ -340,11 +341,11 @@ impl Layer {
         requires few { self.old.tables.parts.sector * count ≤ 2 ^ 28 }
         ensures leads { Leads self.old self.new (S.disk store.old) (S.disk store.new) result }
         ensures quiet { OnBroken result ⊥ }
-        ensures looked { IfOk result (λ all. WhereTold (S.disk store.new).told (λ trace. IsLooked (shape_of self.old.tables.parts) (held_by self.new trace) trims self.new.plans.items 0 first count all)) }
+        ensures looked { IfOk result (λ all. IsLookedBy self.old.tables.parts self.new.tables (S.disk store.new) trims self.new.plans.items 0 first count all) }
         ensures counted { IfOk result (AreCounted (shape_of self.old.tables.parts) self.new.plans.items 0 first count) }
         ensures fits { IfOk result (λ all. spaces.fits_in all.blocks (self.old.tables.parts.block / megabyte) all.bitmaps self.new.space ≡ true) }
         ensures log { self.new.log ≡ self.old.log }
-        ensures full { (next : ℕ) → result ≡ Err (LayerFault.FileFull next) → is_full trims first count next self.old (S.disk store.old) }
+        ensures full { OnFull result (λ next. is_full trims first count next self.old (S.disk store.old)) }
         ensures room { IfOk result (λ all. has_room trims first count self.old (S.disk store.old)) }
     {
         let wanted = self.look(store, first, count, trims)?;
@@ -368,7 +369,7 @@ impl Layer {
         requires few { self.old.tables.parts.sector * count ≤ 2 ^ 28 }
         ensures leads { Leads self.old self.new (S.disk store.old) (S.disk store.new) result }
         ensures quiet { OnBroken result ⊥ }
-        ensures looked { IfOk result (λ all. WhereTold (S.disk store.old).told (λ trace. IsLooked (shape_of self.old.tables.parts) (held_by self.old trace) trims self.new.plans.items 0 first count all)) }
+        ensures looked { IfOk result (λ all. IsLookedBy self.old.tables.parts self.old.tables (S.disk store.old) trims self.new.plans.items 0 first count all) }
         ensures counted { IfOk result (AreCounted (shape_of self.old.tables.parts) self.new.plans.items 0 first count) }
         ensures held { WhereTold (S.disk store.old).told (λ trace. held_by self.new trace ≡ held_by self.old trace) }
         ensures log { self.new.log ≡ self.old.log }
@@ -392,8 +393,8 @@ impl Layer {
         ensures refused { OnRefused result ⊥ }
         ensures room { OnOk result (length self.new.tables.pending + pages ≤ 120) }
         ensures plans { self.new.plans ≡ self.old.plans }
-        ensures says { OnOk result (WhereBothTold (λ before after. SaysAllSame (shape_of self.old.tables.parts) (held_by self.old before) (held_by self.new after)) (S.disk store.old).told (S.disk store.new).told) }
-        ensures fits { OnOk result ((payloads units bitmaps : ℕ) → spaces.fits_in payloads units bitmaps self.old.space ≡ true → spaces.fits_in payloads units bitmaps self.new.space ≡ true) }
+        ensures says { OnOk result (WhereBothTold (TellsAllSame self.old self.new) (S.disk store.old).told (S.disk store.new).told) }
+        ensures fits { OnOk result (KeepsRoom self.old.space self.new.space) }
         ensures number { self.new.log.number ≤ self.old.log.number + 1 }
         ensures header { self.new.log.header ≡ self.old.log.header }
     {
@@ -422,8 +423,8 @@ impl Layer {
         requires some { bits.first < bits.end }
         requires to { bits.end ≤ sector / 2 ^ 23 * 2 ^ 23 + 2 ^ 23 }
         requires few { length self.old.tables.pending + 1 + bit_pages (bits.first % 2 ^ 23) (bits.end - bits.first) ≤ 120 }
-        requires at_hand { has_place (page_place (entry_place self.old.tables.parts (bitmap_entry_of (shape_of self.old.tables.parts) sector))) self.old.tables.pending ≡ true }
-        requires missing { WhereTold (S.disk store.old).told (λ trace. state_at (shape_of self.old.tables.parts) (held_by self.old trace) (bitmap_entry_of (shape_of self.old.tables.parts) sector) ≡ 6 → ⊥) }
+        requires at_hand { IsBitmapEntryAtHand self.old.tables.parts sector self.old.tables.pending }
+        requires missing { WhereHeld self.old.tables (S.disk store.old) (λ p file. state_at p file (bitmap_entry_of p sector) ≡ 6 → ⊥) }
         ensures leads { Leads self.old self.new (S.disk store.old) (S.disk store.new) result }
         ensures refused { OnRefused result ⊥ }
         ensures space { OnOk result (self.new.space ≡ spaces.grown 1 self.old.space) }
@@ -432,7 +433,7 @@ impl Layer {
         ensures header { self.new.log.header ≡ self.old.log.header }
         ensures keeps { (at : ℕ) → has_place at self.old.tables.pending ≡ true → has_place at self.new.tables.pending ≡ true }
         ensures few { length self.new.tables.pending ≤ length self.old.tables.pending + 1 + bit_pages (bits.first % 2 ^ 23) (bits.end - bits.first) }
-        ensures at_hand { IfOk result (λ word. AreChanged (word / 2 ^ 20 * megabyte) (bits.first % 2 ^ 23 / 32768) (bit_pages (bits.first % 2 ^ 23) (bits.end - bits.first)) self.new.tables.pending) }
+        ensures at_hand { IfOk result (λ word. AreBitsAtHand word bits self.new.tables.pending) }
         ensures six { IfOk result (λ word. word % 8 ≡ 6) }
         ensures made { IfOk result (λ word. WhereBothTold (HasMade self.old self.new sector word) (S.disk store.old).told (S.disk store.new).told) }
     {
@@ -470,21 +471,21 @@ impl Layer {
         requires parent { missing ≡ true → self.old.tables.parts.parent ≡ true }
         requires room { missing ≡ true → spaces.has_room 1 self.old.space ≡ true }
         requires pages { missing ≡ true → length self.old.tables.pending + 1 + spec.most_bit_pages (shape_of self.old.tables.parts) count ≤ 120 }
-        requires entry { missing ≡ true → has_place (page_place (entry_place self.old.tables.parts (bitmap_entry_of (shape_of self.old.tables.parts) sector))) self.old.tables.pending ≡ true }
-        requires lacks { missing ≡ true → WhereTold (S.disk store.old).told (λ trace. state_at (shape_of self.old.tables.parts) (held_by self.old trace) (bitmap_entry_of (shape_of self.old.tables.parts) sector) ≡ 6 → ⊥) }
-        requires at_hand { missing ≡ false → EachRun (shape_of self.old.tables.parts) self.old.plans.items (InChunk (sector / 2 ^ 23) (HasBits self.old.tables)) 0 first count }
-        requires there { missing ≡ false → WhereTold (S.disk store.old).told (λ trace. EachRun (shape_of self.old.tables.parts) self.old.plans.items (InChunk (sector / 2 ^ 23) (NamesBitmap (shape_of self.old.tables.parts) (held_by self.old trace))) 0 first count) }
+        requires entry { missing ≡ true → IsBitmapEntryAtHand self.old.tables.parts sector self.old.tables.pending }
+        requires lacks { missing ≡ true → WhereHeld self.old.tables (S.disk store.old) (λ p file. state_at p file (bitmap_entry_of p sector) ≡ 6 → ⊥) }
+        requires at_hand { missing ≡ false → HaveBits (sector / 2 ^ 23) (shape_of self.old.tables.parts) self.old.tables self.old.plans.items first count }
+        requires there { missing ≡ false → NameIn (sector / 2 ^ 23) self.old.tables.parts self.old.tables (S.disk store.old) self.old.plans.items first count }
         ensures leads { Leads self.old self.new (S.disk store.old) (S.disk store.new) result }
         ensures refused { OnRefused result ⊥ }
         ensures number { self.new.log.number ≡ self.old.log.number }
         ensures header { self.new.log.header ≡ self.old.log.header }
         ensures space { OnOk result ((self.new.space ≡ self.old.space) ⊎ ((missing ≡ true) × (self.new.space ≡ spaces.grown 1 self.old.space))) }
         ensures keeps { (at : ℕ) → has_place at self.old.tables.pending ≡ true → has_place at self.new.tables.pending ≡ true }
-        ensures pages { length self.new.tables.pending ≤ length self.old.tables.pending + (if missing then 1 + spec.most_bit_pages (shape_of self.old.tables.parts) count else 0) }
+        ensures pages { length self.new.tables.pending ≤ length self.old.tables.pending + most_made missing (shape_of self.old.tables.parts) count }
         ensures named { OnOk result (AreNamed (shape_of self.old.tables.parts) (sector / 2 ^ 23) self.old.plans.items self.new.plans.items 0 first count) }
-        ensures at_hand { OnOk result (EachRun (shape_of self.old.tables.parts) self.new.plans.items (InChunk (sector / 2 ^ 23) (HasBits self.new.tables)) 0 first count) }
-        ensures there { OnOk result (WhereTold (S.disk store.new).told (λ trace. EachRun (shape_of self.old.tables.parts) self.new.plans.items (InChunk (sector / 2 ^ 23) (NamesBitmap (shape_of self.old.tables.parts) (held_by self.new trace))) 0 first count)) }
-        ensures says { OnOk result (WhereBothTold (λ before after. SaysSameBut (shape_of self.old.tables.parts) (sector / 2 ^ 23) (held_by self.old before) (held_by self.new after)) (S.disk store.old).told (S.disk store.new).told) }
+        ensures at_hand { OnOk result (HaveBits (sector / 2 ^ 23) (shape_of self.old.tables.parts) self.new.tables self.new.plans.items first count) }
+        ensures there { OnOk result (NameIn (sector / 2 ^ 23) self.old.tables.parts self.new.tables (S.disk store.new) self.new.plans.items first count) }
+        ensures says { OnOk result (WhereBothTold (TellsSameBut (sector / 2 ^ 23) self.old self.new) (S.disk store.old).told (S.disk store.new).told) }
     {
         if !missing {
             return Ok(());
@@ -522,18 +523,18 @@ impl Layer {
         requires few { blocks.blocks_of (shape_of self.old.tables.parts) first count ≤ 257 }
         requires near { missing.near ≡ true → self.old.tables.parts.parent ≡ true }
         requires far { missing.far ≡ true → self.old.tables.parts.parent ≡ true }
-        requires near_there { missing.near ≡ false → WhereTold (S.disk store.old).told (λ trace. EachRun (shape_of self.old.tables.parts) self.old.plans.items (InChunk (first / 2 ^ 23) (NamesBitmap (shape_of self.old.tables.parts) (held_by self.old trace))) 0 first count) }
-        requires far_there { GoesOn first count → missing.far ≡ false → WhereTold (S.disk store.old).told (λ trace. EachRun (shape_of self.old.tables.parts) self.old.plans.items (InChunk ((first + count - 1) / 2 ^ 23) (NamesBitmap (shape_of self.old.tables.parts) (held_by self.old trace))) 0 first count) }
+        requires near_there { missing.near ≡ false → PlansNameNear self.old self.old (S.disk store.old) first count }
+        requires far_there { GoesOn first count → missing.far ≡ false → PlansNameFar self.old self.old (S.disk store.old) first count }
         requires room { length self.old.tables.pending + 2 + 2 * (2 + spec.most_bit_pages (shape_of self.old.tables.parts) count) ≤ 120 }
         ensures leads { Leads self.old self.new (S.disk store.old) (S.disk store.new) result }
         ensures never { (next : ℕ) → result ≡ Err (LayerFault.FileFull next) → ⊥ }
         ensures log { self.new.log ≡ self.old.log }
         ensures space { self.new.space ≡ self.old.space }
-        ensures few { length self.new.tables.pending ≤ length self.old.tables.pending + 2 + ((if missing.near then 1 else spec.most_bit_pages (shape_of self.old.tables.parts) count) + (if missing.far then 1 else spec.most_bit_pages (shape_of self.old.tables.parts) count)) }
+        ensures few { length self.new.tables.pending ≤ length self.old.tables.pending + 2 + most_brought missing (shape_of self.old.tables.parts) count }
         ensures held { OnOk result (WhereTold (S.disk store.old).told (λ trace. held_by self.new trace ≡ held_by self.old trace)) }
         ensures brings { OnOk result (Brings self.old.tables.parts missing first count self.new.tables self.old.plans.items self.new.plans.items) }
-        ensures near_there { missing.near ≡ false → OnOk result (WhereTold (S.disk store.old).told (λ trace. EachRun (shape_of self.old.tables.parts) self.new.plans.items (InChunk (first / 2 ^ 23) (NamesBitmap (shape_of self.old.tables.parts) (held_by self.old trace))) 0 first count)) }
-        ensures far_there { GoesOn first count → missing.far ≡ false → OnOk result (WhereTold (S.disk store.old).told (λ trace. EachRun (shape_of self.old.tables.parts) self.new.plans.items (InChunk ((first + count - 1) / 2 ^ 23) (NamesBitmap (shape_of self.old.tables.parts) (held_by self.old trace))) 0 first count)) }
+        ensures near_there { missing.near ≡ false → OnOk result (PlansNameNear self.old self.new (S.disk store.old) first count) }
+        ensures far_there { GoesOn first count → missing.far ≡ false → OnOk result (PlansNameFar self.old self.new (S.disk store.old) first count) }
         ensures stays { OnOk result (S.disk store.new ≡ S.disk store.old) }
     {
         let plans = self.plans.as_mut_slice();
@@ -558,14 +559,14 @@ impl Layer {
         requires few { blocks.blocks_of (shape_of self.old.tables.parts) first count ≤ 257 }
         requires numbers { self.old.log.number ≤ 2 ^ 64 - 2 ^ 32 }
         requires counted { AreCounted (shape_of self.old.tables.parts) self.old.plans.items 0 first count wanted.now }
-        requires planned { WhereTold (S.disk store.old).told (λ trace. (trims : Bool) × ArePlanned (shape_of self.old.tables.parts) (held_by self.old trace) trims self.old.plans.items 0 first count) }
+        requires planned { HasPlanned self.old (S.disk store.old) first count }
         requires fits { spaces.fits_in wanted.now.blocks (self.old.tables.parts.block / megabyte) wanted.now.bitmaps self.old.space ≡ true }
         ensures leads { Leads self.old self.new (S.disk store.old) (S.disk store.new) result }
         ensures never { (next : ℕ) → result ≡ Err (LayerFault.FileFull next) → ⊥ }
         ensures number { self.new.log.number ≤ self.old.log.number + 1 }
         ensures header { self.new.log.header ≡ self.old.log.header }
         ensures prepared { OnOk result (IsPrepared self.new 0 first count) }
-        ensures wants { (trims : Bool) → OnOk result (WhereBothTold (λ before after. ArePlanned (shape_of self.old.tables.parts) (held_by self.old before) trims self.old.plans.items 0 first count → Wants self.new 0 first count trims after) (S.disk store.old).told (S.disk store.new).told) }
+        ensures wants { (trims : Bool) → OnOk result (WantsPlanned self.old self.new first count trims (S.disk store.old) (S.disk store.new)) }
     {
         let parts = self.tables.parts;
         let last = first + count - 1;
@@ -594,8 +595,8 @@ impl Layer {
         ensures done { OnOk result (WhereBothTold (Begins self.old self.new first count trims) (S.disk store.old).told (S.disk store.new).told) }
         ensures prepared { OnOk result (IsPrepared self.new 0 first count) }
         ensures ready { OnOk result (IsReady self.new (S.disk store.new)) }
-        ensures refused { OnRefused result (IsReady self.new (S.disk store.new) × WhereBothTold (HasKept self.old self.new) (S.disk store.old).told (S.disk store.new).told) }
-        ensures broken { OnBroken result (IsReadable self.new (S.disk store.new) × WhereBothTold (HoldsRest self.old self.new 0 0) (S.disk store.old).told (S.disk store.new).told) }
+        ensures refused { OnRefused result (ServesOn self.old self.new (S.disk store.old) (S.disk store.new)) }
+        ensures broken { OnBroken result (ReadsOn self.old self.new 0 0 (S.disk store.old) (S.disk store.new)) }
         ensures parts { self.new.tables.parts ≡ self.old.tables.parts }
         ensures leave { self.new.leave ≡ self.old.leave }
         // It commits once at most.
@@ -604,7 +605,7 @@ impl Layer {
         ensures counts { OnOk result (S.disk store.new ≡ record (S.disk store.old) { told = (S.disk store.new).told }) }
         ensures err { IfErr result (Fails self.old.tables.parts.file (S.disk store.old) (S.disk store.new)) }
         // Refused for want of room exactly where there is none.
-        ensures full { (next : ℕ) → result ≡ Err (LayerFault.FileFull next) → is_full trims first count next self.old (S.disk store.old) }
+        ensures full { OnFull result (λ next. is_full trims first count next self.old (S.disk store.old)) }
         ensures room { OnRoom result (has_room trims first count self.old (S.disk store.old)) }
     {
         let wanted = self.plan(store, first, count, trims)?;

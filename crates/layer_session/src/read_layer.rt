@@ -1,13 +1,10 @@
 //! A file of a chain that is only read.
 
-ghost use Rattle.std.specs.Prelude.{◌≡◌, ◌+◌, ◌*◌, ◌^◌, ◌<◌, ◌≤◌, ℕ, List, length, Contains, IfOk, IfErr, OnOk};
-ghost use Rattle.store_model.specs.Disk.{ReadFailed, WhereTold};
+ghost use Rattle.std.specs.Prelude.{◌≡◌, ◌+◌, ◌*◌, ◌^◌, ◌<◌, ◌≤◌, length, Contains, IfOk, IfErr, OnOk};
+ghost use Rattle.store_model.specs.Disk.{ReadFailed};
 ghost use Rattle.vhdx_format.specs.FileParts.{HasNumbers};
-ghost use Rattle.chain_model.specs.Images.{Placed, members_of};
-ghost use Rattle.chain_model.specs.Layers.{through};
-ghost use Rattle.chain_model.specs.Members.{layers_of};
-ghost use Rattle.layer_session.specs.Calls.{AddsOwned};
-ghost use Rattle.layer_session.specs.ReadOnly.{AreRead, AreReadable, AreSameRead, CanRead, HaveSameParts, IsRead, IsReadOf, IsSameRead, ReadLayersStand, SomeReadFailed, numbers_of};
+ghost use Rattle.layer_session.specs.ReadOnly.{AreReadable, AreSameRead, CanRead, HaveSameParts, IsReadOf, IsSameRead, ReadLayersStand, SomeReadFailed, numbers_of};
+ghost use Rattle.layer_session.specs.ByFiles.{AddRead, AddsRead};
 
 use crate::reading::own_missing;
 use sector_bits::are_set;
@@ -49,7 +46,7 @@ impl ReadLayer {
         requires out { length out.old ≡ self.old.tables.parts.sector * count }
         requires mask { at + count ≤ 8 * length mask.old }
         requires ends { at + count < 2 ^ 64 }
-        ensures owned { OnOk result ((file : Placed) → WhereTold (S.disk store.old).told (λ trace. IsRead self.old trace file → AddsOwned file.member.layer self.old.tables.parts.sector first count at mask.old mask.new out.old out.new)) }
+        ensures owned { OnOk result (AddsRead self.old (S.disk store.old) first count at mask.old mask.new out.old out.new) }
         ensures same { IsSameRead self.old self.new (S.disk store.old) }
         ensures stays { OnOk result (S.disk store.new ≡ S.disk store.old) }
         ensures err { IfErr result (ReadFailed self.old.tables.parts.file (S.disk store.old) (S.disk store.new)) }
@@ -75,7 +72,7 @@ pub fn own_through<S: Store>(
     requires out { length out.old ≡ geometry.sector * count }
     requires mask { at + count ≤ 8 * length mask.old }
     requires ends { at + count < 2 ^ 64 }
-    ensures owned { OnOk result ((files : List Placed) → WhereTold (S.disk store.old).told (λ trace. AreRead layers.old trace files → AddsOwned (through (layers_of (members_of files))) geometry.sector first count at mask.old mask.new out.old out.new)) }
+    ensures owned { OnOk result (AddRead layers.old geometry.sector (S.disk store.old) first count at mask.old mask.new out.old out.new) }
     ensures same { AreSameRead geometry layers.old layers.new (S.disk store.old) }
     ensures parts { HaveSameParts layers.old layers.new }
     ensures stays { OnOk result (S.disk store.new ≡ S.disk store.old) }

@@ -1,17 +1,14 @@
 //! Sectors are read by the tables of their file. No table is changed.
 
-ghost use Rattle.std.specs.Prelude.{◌≡◌, ◌+◌, ◌*◌, ◌%◌, ◌^◌, ◌<◌, ◌≤◌, ◌⊎◌, ℕ, min, length, true, OnOk, IfErr, ◌-◌};
+ghost use Rattle.std.specs.Prelude.{◌≡◌, ◌+◌, ◌*◌, ◌%◌, ◌^◌, ◌<◌, ◌≤◌, ℕ, min, length, true, OnOk, IfErr, ◌-◌};
 ghost use Rattle.store_model.specs.Disk.{ReadFailed, WhereTold};
 ghost use Rattle.store_model.specs.File.{seen};
 ghost use Rattle.store_model.specs.Trace.{file_of};
 ghost use Rattle.vx_base.specs.Fields.{zeros};
-ghost use Rattle.vhdx_format.specs.Layers.{entry_of, place_at, state_at};
 ghost use Rattle.vhdx_format.specs.SectorBitmaps.{bit_of, bit_value};
-ghost use Rattle.table_pages.specs.Held.{held_file, shape_of};
-ghost use Rattle.layer_session.specs.Calls.{AddsOwned, HasOwned};
 ghost use Rattle.layer_session.specs.Keeping.{IsPartAt};
-ghost use Rattle.layer_session.specs.Reading.{AreStored, layer_by, marked_layer, run_layer};
 ghost use Rattle.layer_session.specs.TablesRead.{AreBitsThere, AreReadable, HasRead};
+ghost use Rattle.layer_session.specs.ByTables.{AddsOwnedBy, HasOwnedBy, HasOwnedMarked, HasOwnedRun, HasStored, LieIn, WhereHeld};
 
 use crate::geometry::{entry_index, offset_in_block, place_in, run_in_block};
 use sector_bits::{first_run, set_range};
@@ -49,8 +46,8 @@ fn take_run<S: Store>(
     requires out { length out.old ≡ parts.now.sector * count }
     requires mask { at + count ≤ 8 * length mask.old }
     requires ends { at + count < 2 ^ 64 }
-    requires inside { has ≡ true → WhereTold (S.disk store.old).told (λ trace. place + parts.now.sector * count ≤ length (seen (file_of trace parts.now.file))) }
-    ensures owned { OnOk result (WhereTold (S.disk store.old).told (λ trace. HasOwned (run_layer has (seen (file_of trace parts.now.file)) place parts.now.sector) parts.now.sector 0 count at mask.old mask.new out.old out.new)) }
+    requires inside { has ≡ true → LieIn parts.now (S.disk store.old) place count }
+    ensures owned { OnOk result (HasOwnedRun parts.now (S.disk store.old) has place count at mask.old mask.new out.old out.new) }
     ensures stays { OnOk result (S.disk store.new ≡ S.disk store.old) }
     ensures err { IfErr result (ReadFailed parts.now.file (S.disk store.old) (S.disk store.new)) }
 {
@@ -81,9 +78,9 @@ fn own_marked<S: Store>(
     requires out { length out.old ≡ parts.now.sector * count }
     requires mask { at + count ≤ 8 * length mask.old }
     requires ends { at + count < 2 ^ 64 }
-    requires inside { WhereTold (S.disk store.old).told (λ trace. place + parts.now.sector * count ≤ length (seen (file_of trace parts.now.file))) }
+    requires inside { LieIn parts.now (S.disk store.old) place count }
     requires small { WhereTold (S.disk store.old).told (λ trace. length (seen (file_of trace parts.now.file)) < 2 ^ 64) }
-    ensures owned { OnOk result (WhereTold (S.disk store.old).told (λ trace. HasOwned (marked_layer bits.now skip (seen (file_of trace parts.now.file)) place parts.now.sector) parts.now.sector 0 count at mask.old mask.new out.old out.new)) }
+    ensures owned { OnOk result (HasOwnedMarked parts.now (S.disk store.old) bits.now skip place count at mask.old mask.new out.old out.new) }
     ensures stays { OnOk result (S.disk store.new ≡ S.disk store.old) }
     ensures err { IfErr result (ReadFailed parts.now.file (S.disk store.old) (S.disk store.new)) }
 {
@@ -120,12 +117,12 @@ pub fn own_missing<S: Store>(
     at: usize,
 ) -> Result<(), StoreFault>
     requires readable { AreReadable tables.old (S.disk store.old) }
-    requires stored { WhereTold (S.disk store.old).told (λ trace. AreStored (shape_of tables.old.parts) (seen (file_of trace tables.old.parts.file)) (held_file tables.old trace)) }
+    requires stored { HasStored tables.old (S.disk store.old) }
     requires on_disk { first + count ≤ tables.old.parts.sectors }
     requires out { length out.old ≡ tables.old.parts.sector * count }
     requires mask { at + count ≤ 8 * length mask.old }
     requires ends { at + count < 2 ^ 64 }
-    ensures added { OnOk result (WhereTold (S.disk store.old).told (λ trace. AddsOwned (layer_by tables.old trace) tables.old.parts.sector first count at mask.old mask.new out.old out.new)) }
+    ensures added { OnOk result (AddsOwnedBy tables.old (S.disk store.old) first count at mask.old mask.new out.old out.new) }
     ensures reads { HasRead tables.old tables.new (S.disk store.old) }
     ensures stays { OnOk result (S.disk store.new ≡ S.disk store.old) }
     ensures err { IfErr result (ReadFailed tables.old.parts.file (S.disk store.old) (S.disk store.new)) }
@@ -161,13 +158,13 @@ fn add_run<S: Store>(
     at: usize,
 ) -> Result<(), StoreFault>
     requires readable { AreReadable tables.old (S.disk store.old) }
-    requires stored { WhereTold (S.disk store.old).told (λ trace. AreStored (shape_of tables.old.parts) (seen (file_of trace tables.old.parts.file)) (held_file tables.old trace)) }
+    requires stored { HasStored tables.old (S.disk store.old) }
     requires on_disk { first + count ≤ tables.old.parts.sectors }
     requires out { length out.old ≡ tables.old.parts.sector * count }
     requires mask { at + count ≤ 8 * length mask.old }
     requires ends { at + count < 2 ^ 64 }
     requires all { (i : ℕ) → at ≤ i → i < at + count → bit_of mask.old i ≡ bit_value found }
-    ensures added { OnOk result (WhereTold (S.disk store.old).told (λ trace. AddsOwned (layer_by tables.old trace) tables.old.parts.sector first count at mask.old mask.new out.old out.new)) }
+    ensures added { OnOk result (AddsOwnedBy tables.old (S.disk store.old) first count at mask.old mask.new out.old out.new) }
     ensures reads { HasRead tables.old tables.new (S.disk store.old) }
     ensures stays { OnOk result (S.disk store.new ≡ S.disk store.old) }
     ensures err { IfErr result (ReadFailed tables.old.parts.file (S.disk store.old) (S.disk store.new)) }
@@ -191,12 +188,12 @@ fn own_all<S: Store>(
     at: usize,
 ) -> Result<(), StoreFault>
     requires readable { AreReadable tables.old (S.disk store.old) }
-    requires stored { WhereTold (S.disk store.old).told (λ trace. AreStored (shape_of tables.old.parts) (seen (file_of trace tables.old.parts.file)) (held_file tables.old trace)) }
+    requires stored { HasStored tables.old (S.disk store.old) }
     requires on_disk { first + count ≤ tables.old.parts.sectors }
     requires out { length out.old ≡ tables.old.parts.sector * count }
     requires mask { at + count ≤ 8 * length mask.old }
     requires ends { at + count < 2 ^ 64 }
-    ensures owned { OnOk result (WhereTold (S.disk store.old).told (λ trace. HasOwned (layer_by tables.old trace) tables.old.parts.sector first count at mask.old mask.new out.old out.new)) }
+    ensures owned { OnOk result (HasOwnedBy tables.old (S.disk store.old) first count at mask.old mask.new out.old out.new) }
     ensures reads { HasRead tables.old tables.new (S.disk store.old) }
     ensures stays { OnOk result (S.disk store.new ≡ S.disk store.old) }
     ensures err { IfErr result (ReadFailed tables.old.parts.file (S.disk store.old) (S.disk store.new)) }
@@ -230,14 +227,14 @@ fn own_run<S: Store>(
     at: usize,
 ) -> Result<(), StoreFault>
     requires readable { AreReadable tables.old (S.disk store.old) }
-    requires stored { WhereTold (S.disk store.old).told (λ trace. AreStored (shape_of tables.old.parts) (seen (file_of trace tables.old.parts.file)) (held_file tables.old trace)) }
+    requires stored { HasStored tables.old (S.disk store.old) }
     requires some { 0 < count }
     requires on_disk { first + count ≤ tables.old.parts.sectors }
     requires run { first * tables.old.parts.sector % tables.old.parts.block + count * tables.old.parts.sector ≤ tables.old.parts.block }
     requires out { length out.old ≡ tables.old.parts.sector * count }
     requires mask { at + count ≤ 8 * length mask.old }
     requires ends { at + count < 2 ^ 64 }
-    ensures owned { OnOk result (WhereTold (S.disk store.old).told (λ trace. HasOwned (layer_by tables.old trace) tables.old.parts.sector first count at mask.old mask.new out.old out.new)) }
+    ensures owned { OnOk result (HasOwnedBy tables.old (S.disk store.old) first count at mask.old mask.new out.old out.new) }
     ensures reads { HasRead tables.old tables.new (S.disk store.old) }
     ensures stays { OnOk result (S.disk store.new ≡ S.disk store.old) }
     ensures err { IfErr result (ReadFailed tables.old.parts.file (S.disk store.old) (S.disk store.new)) }
@@ -272,7 +269,7 @@ fn own_part<S: Store>(
     at: usize,
 ) -> Result<(), StoreFault>
     requires readable { AreReadable tables.old (S.disk store.old) }
-    requires stored { WhereTold (S.disk store.old).told (λ trace. AreStored (shape_of tables.old.parts) (seen (file_of trace tables.old.parts.file)) (held_file tables.old trace)) }
+    requires stored { HasStored tables.old (S.disk store.old) }
     requires on_disk { first + count ≤ tables.old.parts.sectors }
     requires out { length out.old ≡ tables.old.parts.sector * count }
     requires mask { at + count ≤ 8 * length mask.old }
@@ -280,8 +277,8 @@ fn own_part<S: Store>(
     requires parent { tables.old.parts.parent ≡ true }
     requires chunk { first % 2 ^ 23 + count ≤ 2 ^ 23 }
     requires bitmap { 0 < count → AreBitsThere first tables.old (S.disk store.old) }
-    requires part { 0 < count → WhereTold (S.disk store.old).told (λ trace. IsPartAt (shape_of tables.old.parts) (held_file tables.old trace) first count place) }
-    ensures owned { OnOk result (WhereTold (S.disk store.old).told (λ trace. HasOwned (layer_by tables.old trace) tables.old.parts.sector first count at mask.old mask.new out.old out.new)) }
+    requires part { 0 < count → WhereHeld tables.old (S.disk store.old) (λ p file. IsPartAt p file first count place) }
+    ensures owned { OnOk result (HasOwnedBy tables.old (S.disk store.old) first count at mask.old mask.new out.old out.new) }
     ensures reads { HasRead tables.old tables.new (S.disk store.old) }
     ensures stays { OnOk result (S.disk store.new ≡ S.disk store.old) }
     ensures err { IfErr result (ReadFailed tables.old.parts.file (S.disk store.old) (S.disk store.new)) }
@@ -318,7 +315,7 @@ fn own_few<S: Store>(
     at: usize,
 ) -> Result<(), StoreFault>
     requires readable { AreReadable tables.old (S.disk store.old) }
-    requires stored { WhereTold (S.disk store.old).told (λ trace. AreStored (shape_of tables.old.parts) (seen (file_of trace tables.old.parts.file)) (held_file tables.old trace)) }
+    requires stored { HasStored tables.old (S.disk store.old) }
     requires some { 0 < count }
     requires few { first % 8 + count ≤ 2048 }
     requires on_disk { first + count ≤ tables.old.parts.sectors }
@@ -328,8 +325,8 @@ fn own_few<S: Store>(
     requires parent { tables.old.parts.parent ≡ true }
     requires chunk { first % 2 ^ 23 + count ≤ 2 ^ 23 }
     requires bitmap { AreBitsThere first tables.old (S.disk store.old) }
-    requires part { WhereTold (S.disk store.old).told (λ trace. IsPartAt (shape_of tables.old.parts) (held_file tables.old trace) first count place) }
-    ensures owned { OnOk result (WhereTold (S.disk store.old).told (λ trace. HasOwned (layer_by tables.old trace) tables.old.parts.sector first count at mask.old mask.new out.old out.new)) }
+    requires part { WhereHeld tables.old (S.disk store.old) (λ p file. IsPartAt p file first count place) }
+    ensures owned { OnOk result (HasOwnedBy tables.old (S.disk store.old) first count at mask.old mask.new out.old out.new) }
     ensures reads { HasRead tables.old tables.new (S.disk store.old) }
     ensures stays { OnOk result (S.disk store.new ≡ S.disk store.old) }
     ensures err { IfErr result (ReadFailed tables.old.parts.file (S.disk store.old) (S.disk store.new)) }

@@ -1,24 +1,22 @@
 //! Single steps of a call: a block gets a place, leaves it, or has sectors marked.
 
-ghost use Rattle.std.specs.Prelude.{◌≡◌, ◌⊎◌, ◌+◌, ◌*◌, ◌/◌, ◌%◌, ◌^◌, ◌<◌, ◌≤◌, ℕ, List, true, length, IfOk, IfErr, OnOk, OnErr};
+ghost use Rattle.std.specs.Prelude.{◌≡◌, ◌⊎◌, ◌+◌, ◌*◌, ◌/◌, ◌%◌, ◌^◌, ◌<◌, ◌≤◌, true, length, IfOk, IfErr, OnOk, OnErr};
 ghost use Rattle.vx_base.specs.Fields.{zeros};
 ghost use Rattle.vhdx_format.specs.Fields.{megabyte};
-ghost use Rattle.vhdx_format.specs.HeldBlocks.{Area};
-ghost use Rattle.vhdx_format.specs.Layers.{bitmap_entry_of, entry_of, table_entry};
+ghost use Rattle.vhdx_format.specs.Layers.{entry_of, table_entry};
 ghost use Rattle.store_model.specs.Disk.{WhereTold, WhereBothTold};
-ghost use Rattle.store_model.specs.File.{seen};
 ghost use Rattle.store_model.specs.Plans.{FailsToChange};
-ghost use Rattle.store_model.specs.Trace.{file_of};
 ghost use Rattle.log_format.specs.PendingPages.{has_place};
-ghost use Rattle.table_pages.specs.Held.{AreChanged, AreTables, AreTablesIn, IsSet, KeepsWithin, PutsWithin, SetsBlock, bit_pages, entry_place, held_file, shape_of};
+ghost use Rattle.table_pages.specs.Held.{AreChanged, AreTablesIn, IsSet, KeepsWithin, PutsWithin, bit_pages, entry_place, shape_of};
 ghost use Rattle.table_pages.specs.Pages.{page_place};
 ghost use Rattle.block_alloc.specs.Spaces.{can_take, taken};
-ghost use Rattle.chain_model.specs.Images.{Placed};
 ghost use Rattle.layer_session.specs.Calls.{KeepsOver};
 ghost use Rattle.layer_session.specs.Keeping.{IsReadable, IsReady};
 ghost use Rattle.layer_session.specs.Planning.{is_whole};
 ghost use Rattle.layer_session.specs.Steps.{DropsBlock, HasRoomFor, IsMade, held_by};
-ghost use Rattle.layer_session.specs.Taking.{ClearsOver, HasCleared, HasMade, HasTaken, HasUnused, HasPagesOfPart, HoldsBeside, IsAbsent, IsBroken, IsPartOf, KeepsOthers, LeavesRest, MayBeMade};
+ghost use Rattle.layer_session.specs.Taking.{ClearsOver, HasCleared, HasMade, HasTaken, HasPagesOfPart, IsAbsent, IsBroken, KeepsOthers, LeavesRest, MayBeMade};
+ghost use Rattle.layer_session.specs.ByTables.{IsEntryAtHand, KeepsInTable, SetsMarks, WhereHeld};
+ghost use Rattle.layer_session.specs.ByLayers.{HasTakenBlock, LieUnused, ReadsOnBeside};
 
 use crate::file::{Layer, LayerFault};
 use crate::geometry::{
@@ -43,8 +41,8 @@ impl Layer {
         requires on_disk { first + count ≤ self.old.tables.parts.sectors }
         requires run { first * self.old.tables.parts.sector % self.old.tables.parts.block + count * self.old.tables.parts.sector ≤ self.old.tables.parts.block }
         requires whole { WhereTold (S.disk store.old).told (λ trace. is_whole (shape_of self.old.tables.parts) first count ≡ true) }
-        requires at_hand { has_place (page_place (entry_place self.old.tables.parts (entry_of (shape_of self.old.tables.parts) first))) self.old.tables.pending ≡ true }
-        requires found { WhereTold (S.disk store.old).told (λ trace. word ≡ table_entry (shape_of self.old.tables.parts) (held_file self.old.tables trace) (entry_of (shape_of self.old.tables.parts) first)) }
+        requires at_hand { IsEntryAtHand self.old.tables.parts first self.old.tables.pending }
+        requires found { WhereHeld self.old.tables (S.disk store.old) (λ p file. word ≡ table_entry p file (entry_of p first)) }
         ensures dropped { WhereTold (S.disk store.old).told (DropsBlock self.old self.new first count) }
         ensures ready { IsReady self.new (S.disk store.old) }
         ensures others { WhereTold (S.disk store.old).told (λ trace. KeepsOthers self.old self.new first trace trace) }
@@ -65,11 +63,11 @@ impl Layer {
         requires readable { IsReadable self.now (S.disk store.old) }
         requires one_file { self.now.log.file ≡ self.now.tables.parts.file }
         requires clear { self.now.zeros.items ≡ zeros megabyte }
-        requires unused { WhereTold (S.disk store.old).told (λ trace. (range : Area) × ((file : Placed) × (HasUnused self.now trace range file × IsPartOf range place count))) }
+        requires unused { LieUnused self.now (S.disk store.old) place count }
         // At each moment, whatever it answers, in every image without a torn match.
         ensures moments { WhereBothTold (ClearsOver self.now place count) (S.disk store.old).told (S.disk store.new).told }
         ensures cleared { OnOk result (WhereBothTold (HasCleared self.now place count) (S.disk store.old).told (S.disk store.new).told) }
-        ensures broken { OnErr result (IsReadable self.now (S.disk store.new) × WhereBothTold (HoldsBeside self.now place count) (S.disk store.old).told (S.disk store.new).told) }
+        ensures broken { OnErr result (ReadsOnBeside self.now place count (S.disk store.old) (S.disk store.new)) }
         ensures counts { OnOk result (S.disk store.new ≡ record (S.disk store.old) { told = (S.disk store.new).told }) }
         ensures err { IfErr result (FailsToChange self.now.tables.parts.file (S.disk store.old) (S.disk store.new)) }
     {
@@ -89,7 +87,7 @@ impl Layer {
         ensures taken { IfOk result (λ unit. WhereBothTold (HasTaken self.old self.new unit) (S.disk store.old).told (S.disk store.new).told) }
         ensures unit { IfOk result (λ unit. unit < 2 ^ 44) }
         ensures ready { OnOk result (IsReady self.new (S.disk store.new)) }
-        ensures only { self.new ≡ record (self.old) { log = record (self.old.log) { len = self.new.log.len }; space = taken (self.old.tables.parts.block / megabyte) self.old.space } }
+        ensures only { HasTakenBlock self.old self.new }
         ensures counts { OnOk result (S.disk store.new ≡ record (S.disk store.old) { told = (S.disk store.new).told }) }
         ensures broken { IfErr result (IsBroken self.old self.new 0 0 (S.disk store.old) (S.disk store.new)) }
     {
@@ -122,7 +120,7 @@ impl Layer {
         requires ready { IsReady self.old (S.disk store.old) }
         requires first { first < self.old.tables.parts.sectors }
         requires state { (state ≡ 6) ⊎ (state ≡ 7) }
-        requires at_hand { has_place (page_place (entry_place self.old.tables.parts (entry_of (shape_of self.old.tables.parts) first))) self.old.tables.pending ≡ true }
+        requires at_hand { IsEntryAtHand self.old.tables.parts first self.old.tables.pending }
         requires room { HasRoomFor (self.old.tables.parts.block / megabyte) 1 0 self.old.space }
         requires may { WhereTold (S.disk store.old).told (λ trace. MayBeMade (shape_of self.old.tables.parts) (held_by self.old trace) first state) }
         ensures moments { WhereBothTold (KeepsOver self.old) (S.disk store.old).told (S.disk store.new).told }
@@ -178,7 +176,7 @@ impl Layer {
         ensures only { self.new ≡ record (self.old) { tables = self.new.tables } }
         ensures parts { self.new.tables.parts ≡ self.old.tables.parts }
         ensures within { PutsWithin (bitmap / 2 ^ 20 * megabyte) self.old.tables.pending self.new.tables.pending }
-        ensures set { (file : List ℕ) → AreTables self.old.tables.parts file self.old.tables.pending self.old.tables.cache → bitmap / 2 ^ 20 * megabyte + megabyte ≤ length file → SetsBlock (bitmap / 2 ^ 20 * megabyte) (first % 2 ^ 23) count on self.old.tables self.new.tables file }
+        ensures set { SetsMarks bitmap first count on self.old.tables self.new.tables }
         ensures places { KeepsWithin 0 0 self.old.tables self.new.tables }
     {
         let place = (bitmap >> 20) * MEGABYTE;
@@ -195,7 +193,7 @@ impl Layer {
         ensures set { IsSet index word self.old.tables self.new.tables (S.disk store.old) }
         ensures few { length self.new.tables.pending ≤ length self.old.tables.pending + 1 }
         ensures tables { AreTablesIn self.new.tables (S.disk store.old) }
-        ensures places { KeepsWithin self.old.tables.parts.bat_at (self.old.tables.parts.bat_at + self.old.tables.parts.bat_len) self.old.tables self.new.tables }
+        ensures places { KeepsInTable self.old.tables self.new.tables }
         ensures stays { S.disk store.new ≡ S.disk store.old }
     {
         let _ = self.tables.set_entry(store, index, word);

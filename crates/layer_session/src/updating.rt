@@ -1,13 +1,12 @@
 //! An entry of the log that changes a file's metadata.
 
-ghost use Rattle.std.specs.Prelude.{◌≡◌, ◌⊎◌, ◌+◌, ◌-◌, ◌^◌, ◌≤◌, [], length, map, OnOk, OnErr, IfErr};
+ghost use Rattle.std.specs.Prelude.{◌≡◌, ◌+◌, ◌-◌, ◌^◌, ◌≤◌, [], length, OnOk, OnErr, IfErr};
 ghost use Rattle.store_model.specs.Disk.{WhereTold, WhereBothTold};
 ghost use Rattle.store_model.specs.Plans.{FailsToChange};
 ghost use Rattle.log_format.specs.PendingPages.{HasOnePageEach};
-ghost use Rattle.block_alloc.specs.Spaces as spaces;
-ghost use Rattle.layer_session.specs.Calls.{HoldsRest};
-ghost use Rattle.layer_session.specs.Keeping.{IsReadable, IsReady};
+ghost use Rattle.layer_session.specs.Keeping.{IsReady};
 ghost use Rattle.layer_session.specs.Updating.{HasUpdated, Turns, UpdatesOver};
+ghost use Rattle.layer_session.specs.ByLayers.{MayCommit, ReadsOn};
 
 use crate::file::Layer;
 use log_format::Page;
@@ -35,8 +34,8 @@ impl Layer {
         ensures leave { self.new.leave ≡ self.old.leave }
         ensures plans { self.new.plans ≡ self.old.plans }
         // Places that were freed can be taken.
-        ensures space { OnOk result ((self.new.space ≡ self.old.space) ⊎ (self.new.space ≡ record self.old.space { freed = map spaces.committed self.old.space.freed })) }
-        ensures broken { OnErr result (IsReadable self.new (S.disk store.new) × WhereBothTold (HoldsRest self.old self.new 0 0) (S.disk store.old).told (S.disk store.new).told) }
+        ensures space { OnOk result (MayCommit self.old.space self.new.space) }
+        ensures broken { OnErr result (ReadsOn self.old self.new 0 0 (S.disk store.old) (S.disk store.new)) }
         ensures counts { OnOk result (S.disk store.new ≡ record (S.disk store.old) { told = (S.disk store.new).told }) }
         ensures err { IfErr result (FailsToChange self.old.tables.parts.file (S.disk store.old) (S.disk store.new)) }
     {

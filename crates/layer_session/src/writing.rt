@@ -1,15 +1,17 @@
 //! Sectors are put, and made zeros.
 
-ghost use Rattle.std.specs.Prelude.{◌≡◌, ◌+◌, ◌-◌, ◌*◌, ◌/◌, ◌%◌, ◌^◌, ◌<◌, ◌≤◌, ℕ, Bool, true, false, not, length, None, IfOk, IfErr, OnOk, Err};
+ghost use Rattle.std.specs.Prelude.{◌≡◌, ◌+◌, ◌-◌, ◌*◌, ◌/◌, ◌%◌, ◌^◌, ◌<◌, ◌≤◌, Bool, true, false, not, length, None, IfOk, IfErr, OnOk};
 ghost use Rattle.vhdx_format.specs.Fields.{megabyte};
 ghost use Rattle.store_model.specs.Disk.{WhereTold, WhereBothTold};
 ghost use Rattle.table_pages.specs.Held.{shape_of};
 ghost use Rattle.layer_session.specs.Calls as calls;
-ghost use Rattle.layer_session.specs.Calls.{Fails, HasKept, HasPut, HoldsRest, KeepsOver, OnBroken, OnRefused, OnRoom, PutsInto, with_bytes, with_zeros};
-ghost use Rattle.layer_session.specs.Keeping.{IsReadable, IsReady};
+ghost use Rattle.layer_session.specs.Calls.{Fails, HasKept, KeepsOver, OnBroken, OnRefused, OnRoom, PutsInto};
+ghost use Rattle.layer_session.specs.Keeping.{IsReady};
 ghost use Rattle.layer_session.specs.Prepared.{IsPrepared};
 ghost use Rattle.layer_session.specs.Steps.{HasPages, HasRoomFor, IsToDo, StandFrom, Wants, has_room, held_by, is_full};
-ghost use Rattle.layer_session.specs.Taking.{IsBroken, IsDone, IsReadied, IsTrimming, KeepsEntries, KeepsOthers, LeavesRest, takes_of};
+ghost use Rattle.layer_session.specs.Taking.{IsBroken, IsReadied, IsTrimming, KeepsEntries, KeepsOthers, LeavesRest, takes_of};
+ghost use Rattle.layer_session.specs.ByTables.{WhereHeld};
+ghost use Rattle.layer_session.specs.ByLayers.{HasPutBytes, HasPutZeros, HasWritten, HasZeroed, OnFull, ReadsOn};
 
 use crate::file::{Layer, LayerFault};
 use crate::geometry::{offset_in_block, place_in, run_in_block};
@@ -33,12 +35,12 @@ impl Layer {
         requires numbers { self.old.log.number + 1 ≤ 2 ^ 64 - 2 ^ 32 }
         // At each moment, whatever it answers, in every image without a torn match.
         ensures moments { WhereBothTold (PutsInto self.old first (calls.sectors_in self.old bytes.now)) (S.disk store.old).told (S.disk store.new).told }
-        ensures put { OnOk result (WhereBothTold (HasPut self.old self.new first (calls.sectors_in self.old bytes.now) (with_bytes self.old.tables.parts.sector first (calls.sectors_in self.old bytes.now) bytes.now)) (S.disk store.old).told (S.disk store.new).told) }
+        ensures put { OnOk result (HasPutBytes self.old self.new first bytes.now (S.disk store.old) (S.disk store.new)) }
         ensures ready { OnOk result (IsReady self.new (S.disk store.new)) }
         ensures refused { OnRefused result (IsReady self.new (S.disk store.new)) }
         ensures kept { OnRefused result (WhereBothTold (HasKept self.old self.new) (S.disk store.old).told (S.disk store.new).told) }
         ensures quiet { OnRefused result (WhereBothTold (KeepsOver self.old) (S.disk store.old).told (S.disk store.new).told) }
-        ensures broken { OnBroken result (IsReadable self.new (S.disk store.new) × WhereBothTold (HoldsRest self.old self.new first (calls.sectors_in self.old bytes.now)) (S.disk store.old).told (S.disk store.new).told) }
+        ensures broken { OnBroken result (ReadsOn self.old self.new first (calls.sectors_in self.old bytes.now) (S.disk store.old) (S.disk store.new)) }
         ensures parts { self.new.tables.parts ≡ self.old.tables.parts }
         // It commits once at most.
         ensures number { self.new.log.number ≤ self.old.log.number + 1 }
@@ -46,7 +48,7 @@ impl Layer {
         ensures counts { OnOk result (S.disk store.new ≡ record (S.disk store.old) { told = (S.disk store.new).told }) }
         ensures err { IfErr result (Fails self.old.tables.parts.file (S.disk store.old) (S.disk store.new)) }
         // Refused for want of room exactly where there is none.
-        ensures full { (next : ℕ) → result ≡ Err (LayerFault.FileFull next) → is_full false first (calls.sectors_in self.old bytes.now) next self.old (S.disk store.old) }
+        ensures full { OnFull result (λ next. is_full false first (calls.sectors_in self.old bytes.now) next self.old (S.disk store.old)) }
         ensures room { OnRoom result (has_room false first (calls.sectors_in self.old bytes.now) self.old (S.disk store.old)) }
     {
         let sector = self.tables.parts.sector as usize;
@@ -68,12 +70,12 @@ impl Layer {
         requires few { self.old.tables.parts.sector * count ≤ 2 ^ 28 }
         requires numbers { self.old.log.number + 1 ≤ 2 ^ 64 - 2 ^ 32 }
         ensures moments { WhereBothTold (PutsInto self.old first count) (S.disk store.old).told (S.disk store.new).told }
-        ensures put { OnOk result (WhereBothTold (HasPut self.old self.new first count (with_zeros self.old.tables.parts.sector first count)) (S.disk store.old).told (S.disk store.new).told) }
+        ensures put { OnOk result (HasPutZeros self.old self.new first count (S.disk store.old) (S.disk store.new)) }
         ensures ready { OnOk result (IsReady self.new (S.disk store.new)) }
         ensures refused { OnRefused result (IsReady self.new (S.disk store.new)) }
         ensures kept { OnRefused result (WhereBothTold (HasKept self.old self.new) (S.disk store.old).told (S.disk store.new).told) }
         ensures quiet { OnRefused result (WhereBothTold (KeepsOver self.old) (S.disk store.old).told (S.disk store.new).told) }
-        ensures broken { OnBroken result (IsReadable self.new (S.disk store.new) × WhereBothTold (HoldsRest self.old self.new first count) (S.disk store.old).told (S.disk store.new).told) }
+        ensures broken { OnBroken result (ReadsOn self.old self.new first count (S.disk store.old) (S.disk store.new)) }
         ensures parts { self.new.tables.parts ≡ self.old.tables.parts }
         // It commits once at most.
         ensures number { self.new.log.number ≤ self.old.log.number + 1 }
@@ -81,7 +83,7 @@ impl Layer {
         ensures counts { OnOk result (S.disk store.new ≡ record (S.disk store.old) { told = (S.disk store.new).told }) }
         ensures err { IfErr result (Fails self.old.tables.parts.file (S.disk store.old) (S.disk store.new)) }
         // Refused for want of room exactly where there is none.
-        ensures full { (next : ℕ) → result ≡ Err (LayerFault.FileFull next) → is_full (not self.old.leave) first count next self.old (S.disk store.old) }
+        ensures full { OnFull result (λ next. is_full (not self.old.leave) first count next self.old (S.disk store.old)) }
         ensures room { OnRoom result (has_room (not self.old.leave) first count self.old (S.disk store.old)) }
     {
         let trims = !self.leave;
@@ -104,7 +106,7 @@ impl Layer {
         requires run { first * self.old.tables.parts.sector % self.old.tables.parts.block + count * self.old.tables.parts.sector ≤ self.old.tables.parts.block }
         requires pages { HasPages self.old.tables first count plan }
         requires room { HasRoomFor (self.old.tables.parts.block / megabyte) (takes_of plan) 0 self.old.space }
-        requires todo { WhereTold (S.disk store.old).told (λ trace. (trims : Bool) × IsToDo (shape_of self.old.tables.parts) (held_by self.old trace) trims first count plan) }
+        requires todo { WhereHeld self.old.tables (S.disk store.old) (λ p file. (trims : Bool) × IsToDo p file trims first count plan) }
         ensures moments { WhereBothTold (KeepsOver self.old) (S.disk store.old).told (S.disk store.new).told }
         ensures made { IfOk result (λ place. WhereBothTold (IsReadied self.old self.new first count place) (S.disk store.old).told (S.disk store.new).told) }
         ensures trimmed { IfOk result (λ place. place ≡ None → IsTrimming plan.step) }
@@ -156,7 +158,7 @@ impl Layer {
         requires room { HasRoomFor (self.old.tables.parts.block / megabyte) (takes_of plan) 0 self.old.space }
         requires todo { WhereTold (S.disk store.old).told (λ trace. IsToDo (shape_of self.old.tables.parts) (held_by self.old trace) false first count plan) }
         ensures moments { WhereBothTold (PutsInto self.old first count) (S.disk store.old).told (S.disk store.new).told }
-        ensures done { OnOk result (IsDone self.old self.new first count (with_bytes self.old.tables.parts.sector first count bytes.now) (S.disk store.old) (S.disk store.new)) }
+        ensures done { OnOk result (HasWritten self.old self.new first count bytes.now (S.disk store.old) (S.disk store.new)) }
         ensures others { OnOk result (WhereBothTold (KeepsOthers self.old self.new first) (S.disk store.old).told (S.disk store.new).told) }
         ensures leaves { OnOk result (LeavesRest self.old self.new (takes_of plan)) }
         ensures broken { IfErr result (IsBroken self.old self.new first count (S.disk store.old) (S.disk store.new)) }
@@ -182,7 +184,7 @@ impl Layer {
         requires prepared { IsPrepared self.old k first count }
         requires wants { WhereTold (S.disk store.old).told (Wants self.old k first count false) }
         ensures moments { WhereBothTold (PutsInto self.old first count) (S.disk store.old).told (S.disk store.new).told }
-        ensures done { OnOk result (IsDone self.old self.new first count (with_bytes self.old.tables.parts.sector first count bytes.now) (S.disk store.old) (S.disk store.new)) }
+        ensures done { OnOk result (HasWritten self.old self.new first count bytes.now (S.disk store.old) (S.disk store.new)) }
         ensures broken { IfErr result (IsBroken self.old self.new first count (S.disk store.old) (S.disk store.new)) }
     {
         if count == 0 {
@@ -207,7 +209,7 @@ impl Layer {
         requires on_disk { first + count ≤ self.now.tables.parts.sectors }
         requires stand { 0 < count → WhereTold (S.disk store.old).told (StandFrom self.now first count place) }
         ensures moments { WhereBothTold (PutsInto self.now first count) (S.disk store.old).told (S.disk store.new).told }
-        ensures done { OnOk result (IsDone self.now self.now first count (with_zeros self.now.tables.parts.sector first count) (S.disk store.old) (S.disk store.new)) }
+        ensures done { OnOk result (HasZeroed self.now self.now first count (S.disk store.old) (S.disk store.new)) }
         ensures same { OnOk result (WhereBothTold (KeepsEntries self.now self.now) (S.disk store.old).told (S.disk store.new).told) }
         ensures broken { IfErr result (IsBroken self.now self.now first count (S.disk store.old) (S.disk store.new)) }
     {
@@ -235,9 +237,9 @@ impl Layer {
         requires run { first * self.old.tables.parts.sector % self.old.tables.parts.block + count * self.old.tables.parts.sector ≤ self.old.tables.parts.block }
         requires pages { HasPages self.old.tables first count plan }
         requires room { HasRoomFor (self.old.tables.parts.block / megabyte) (takes_of plan) 0 self.old.space }
-        requires todo { WhereTold (S.disk store.old).told (λ trace. (trims : Bool) × IsToDo (shape_of self.old.tables.parts) (held_by self.old trace) trims first count plan) }
+        requires todo { WhereHeld self.old.tables (S.disk store.old) (λ p file. (trims : Bool) × IsToDo p file trims first count plan) }
         ensures moments { WhereBothTold (PutsInto self.old first count) (S.disk store.old).told (S.disk store.new).told }
-        ensures done { OnOk result (IsDone self.old self.new first count (with_zeros self.old.tables.parts.sector first count) (S.disk store.old) (S.disk store.new)) }
+        ensures done { OnOk result (HasZeroed self.old self.new first count (S.disk store.old) (S.disk store.new)) }
         ensures others { OnOk result (WhereBothTold (KeepsOthers self.old self.new first) (S.disk store.old).told (S.disk store.new).told) }
         ensures leaves { OnOk result (LeavesRest self.old self.new (takes_of plan)) }
         ensures broken { IfErr result (IsBroken self.old self.new first count (S.disk store.old) (S.disk store.new)) }
@@ -266,7 +268,7 @@ impl Layer {
         requires prepared { IsPrepared self.old k first count }
         requires wants { WhereTold (S.disk store.old).told (Wants self.old k first count (not self.old.leave)) }
         ensures moments { WhereBothTold (PutsInto self.old first count) (S.disk store.old).told (S.disk store.new).told }
-        ensures done { OnOk result (IsDone self.old self.new first count (with_zeros self.old.tables.parts.sector first count) (S.disk store.old) (S.disk store.new)) }
+        ensures done { OnOk result (HasZeroed self.old self.new first count (S.disk store.old) (S.disk store.new)) }
         ensures broken { IfErr result (IsBroken self.old self.new first count (S.disk store.old) (S.disk store.new)) }
     {
         if count == 0 {

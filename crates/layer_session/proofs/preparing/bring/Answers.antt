@@ -69,3 +69,17 @@ returns-clause-near_there g c e =
     (names_of c.bring_entries.new.tables.parts c.args.tables.now.parts c.bring_chunk.new.plans (c.args.first / 2 ^ 23) (held_file c.bring_entries.new.tables t) (held_file c.args.tables.now t) c.args.first c.args.count
     (sym c.bring_entries.ensures.brought.parts_are) (sym (c.bring_entries.ensures.brought.held t told))
     (c.bring_chunk.ensures.there e t (ap (λ (d : Disk). d.told) c.in_ok-bring_entries.ensures.stays ∙ told))))
+
+pub bring_chunk-requires-clause-readable : goal.bring_chunk-requires-clause-readable
+bring_chunk-requires-clause-readable g c =
+    subst (AreReadable c.bring_entries.new.tables) (sym c.in_ok-bring_entries.ensures.stays)
+    (readable_brought c.args.tables.now c.bring_entries.new.tables (g.S.Store.disk c.args.store.now) c.requires.readable c.bring_entries.ensures.brought)
+
+pub returns-clause-far_there : goal.returns-clause-far_there
+returns-clause-far_there g c goes e =
+    let disk : Disk = g.S.Store.disk c.args.store.now in
+    let b = brought_then c.args.tables.now c.bring_entries.new.tables c.bring_chunk.new.tables disk c.bring_entries.ensures.brought
+    (subst (HasBrought c.bring_entries.new.tables c.bring_chunk.new.tables) c.in_ok-bring_entries.ensures.stays c.bring_chunk.ensures.brought) in
+    any_ok c.bring_chunk-2.result (λ (t : Trace) (told : disk.told ≡ Some t).
+    names_of c.bring_chunk.new.tables.parts c.args.tables.now.parts c.bring_chunk-2.new.plans ((c.args.first + c.args.count - 1) / 2 ^ 23) (held_file c.bring_chunk.new.tables t) (held_file c.args.tables.now t) c.args.first c.args.count
+    (sym b.parts_are) (sym (b.held t told)) (c.bring_chunk-2.ensures.there e t (ap (λ (d : Disk). d.told) (c.in_ok-bring_chunk.ensures.stays ∙ c.in_ok-bring_entries.ensures.stays) ∙ told)))

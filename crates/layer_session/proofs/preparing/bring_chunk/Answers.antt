@@ -7,6 +7,7 @@ use Rattle.layer_session.specs.Bringing.{HasBits, InChunk, IsSpanned}
 use Rattle.layer_session.specs.Planning.{is_marking}
 use Rattle.layer_session.proofs.BitRuns.{each_map}
 use Rattle.layer_session.proofs.Brought.{block_there, hand_then, named_same, names_still, pages_brought}
+use Rattle.layer_session.proofs.EntryBrought.{entry_brought}
 use Rattle.layer_session.proofs.preparing.bring_chunk.Goals as goal
 
 pub returns-in_default-clause-named : goal.returns-in_default-clause-named
@@ -52,3 +53,8 @@ pub returns-clause-there : goal.returns-clause-there
 returns-clause-there g c e t told =
     names_still (shape_of c.args.tables.now.parts) (held_file c.args.tables.now t) c.args.plans.now c.args.sector c.args.first c.args.count c.in-Some.bits c.in-Some.ensures (c.requires.there c.if-missing.false t told)
     c.name_bitmap.new.plans c.name_bitmap.ensures.named c.name_bitmap.ensures.word
+
+pub returns-then-missing-clause-brought : goal.returns-then-missing-clause-brought
+returns-then-missing-clause-brought g c =
+    let e = c.bring_entry.ensures in
+    entry_brought c.args.tables.now c.bring_entry.new.self (g.S.Store.disk c.args.store.now) c.bitmap_entry_index.result c.bring_entry.result c.requires.readable.sizes c.bitmap_entry_index.ensures.inside e.parts e.adds e.unchanged e.tables e.held e.places

@@ -7,7 +7,7 @@ use Rattle.store_model.specs.Trace.{file_of}
 use Rattle.vhdx_format.specs.Layers.{entry_of, state_at, table_entry}
 use Rattle.table_pages.specs.Held.{held_file, shape_of}
 use Rattle.layer_session.specs.TablesRead.{AreReadable, HasRead}
-use Rattle.layer_session.proofs.Parted.{absent_owned, full_owned, ok_then, owned_again, start_is, zeros_owned}
+use Rattle.layer_session.proofs.Parted.{absent_owned, full_owned, ok_then, owned_again, start_is, stored_again, zeros_owned}
 use Rattle.layer_session.proofs.Planned.{entry_reads, read_again, read_then}
 use Rattle.layer_session.proofs.reading.own_run.Goals.{else-state-eq7-via-then-state-eq7+else-parts, else-state-eq7-via-else-state-eq7, else-state-eq0-via-then-state-eq0+else-parts-2, else-state-eq0-via-else-state-eq0}
 use Rattle.layer_session.proofs.reading.own_run.Goals as goal
@@ -70,3 +70,17 @@ returns-clause-owned g c t told =
     (λ e. elim c.else-state-eq7.branch [ else-state-eq7-via-then-state-eq7+else-parts w ↦ w.if-parts.false | else-state-eq7-via-else-state-eq7 w ↦ absurd (w.if-state-eq7.false (sym state ∙ e)) ])
     (λ e. elim c.else-state-eq0.branch [ else-state-eq0-via-then-state-eq0+else-parts-2 w ↦ w.if-parts-2.false | else-state-eq0-via-else-state-eq0 w ↦ absurd (w.if-state-eq0.false (sym state ∙ e)) ])
     c.set_range.ensures c.requires.mask c.set_range.auto.bits c.clear.auto.out (c.clear.ensures ∙ ap zeros c.requires.out)
+
+pub own_part-requires-clause-stored : goal.own_part-requires-clause-stored
+own_part-requires-clause-stored g c t told =
+    stored_again c.args.tables.now c.entry.new.self (g.S.Store.disk c.args.store.now) (entry_reads c.args.tables.now c.entry.new.self (g.S.Store.disk c.args.store.now) c.entry.ensures.as_held c.entry.ensures.places) c.requires.stored
+    t (ap (λ d. d.told) (sym c.in_ok-word.ensures.stays) ∙ told)
+
+pub returns-then-state-eq6-clause-reads : goal.returns-then-state-eq6-clause-reads
+returns-then-state-eq6-clause-reads g c = entry_reads _ _ _ c.entry.ensures.as_held c.entry.ensures.places
+
+pub returns-then-parts-2-clause-reads : goal.returns-then-parts-2-clause-reads
+returns-then-parts-2-clause-reads g c = entry_reads _ _ _ c.entry.ensures.as_held c.entry.ensures.places
+
+pub returns-clause-reads : goal.returns-clause-reads
+returns-clause-reads g c = entry_reads _ _ _ c.entry.ensures.as_held c.entry.ensures.places

@@ -72,3 +72,12 @@ returns-clause-there g c t told =
     subst (λ (plans : List Plan). EachRun (shape_of l.tables.parts) plans (InChunk (c.args.sector / 2 ^ 23) (NamesBitmap (shape_of l.tables.parts) (held_by m t))) 0 c.args.first c.args.count) (sym (with_items_is m.plans c.name_bitmap.new.plans long))
     (names_new (shape_of l.tables.parts) (held_by m t) c.name_bitmap.new.plans c.args.sector c.args.first c.args.count c.in_ok-word.word (c.requires.parent (let e : c.args.missing ≡ true = search rules in e)) c.in_ok-word.ensures.six
     (made_told l m c.args.sector c.in_ok-word.word (g.S.Store.disk c.args.store.now).told (g.S.Store.disk c.make_bitmap.new.store).told t c.in_ok-word.ensures.made told) c.name_bitmap.ensures.word)
+
+pub returns-clause-named : goal.returns-clause-named
+returns-clause-named g c =
+    let l : Layer = c.args.self.now in
+    let m : Layer = c.make_bitmap.new.self in
+    let long : length c.name_bitmap.new.plans ≡ m.plans.len = search rules in
+    let items : c.as_mut_slice.result.now ≡ l.plans.items = search rules in
+    subst (λ (plans : List Plan). AreNamed (shape_of l.tables.parts) (c.args.sector / 2 ^ 23) l.plans.items plans 0 c.args.first c.args.count) (sym (with_items_is m.plans c.name_bitmap.new.plans long))
+    (subst (λ (plans : List Plan). AreNamed (shape_of l.tables.parts) (c.args.sector / 2 ^ 23) plans c.name_bitmap.new.plans 0 c.args.first c.args.count) items c.name_bitmap.ensures.named)

@@ -1,6 +1,7 @@
 use Rattle.std.proofs.Common.{arith, rules, false, true}
-use Rattle.layer_session.proofs.Marks.{Marks}
+use Rattle.layer_session.proofs.Marks.{Marks, marks_rest}
 use Rattle.layer_session.proofs.Parting.{part_broken, part_ends, part_kept, part_made, part_may, part_over, part_ready}
+use Rattle.layer_session.proofs.Resting.{rest_then}
 use Rattle.layer_session.proofs.Told.{if_err}
 use Rattle.layer_session.proofs.file.Layer.make_part.Goals as goal
 
@@ -71,3 +72,11 @@ returns-clause-ready g c =
     part_ends c.args.self.now c.mark.new.self (g.S.Store.disk c.args.store.now) c.requires.ready c.args.bitmap c.args.first c.block_start-start.result c.block_sectors-sectors.result (omega arith) m c.block_start-start.ensures.is c.block_sectors-sectors.ensures
     (search rules) c.requires.absent
     c.make_block.new.self c.mark-2.new.self (g.S.Store.disk c.make_block.new.store) c.in_ok-place.place c.args.count c.in_ok-place.ensures.made c.requires.some c.requires.run c.requires.on_disk c.in_ok-place.ensures.leaves.parts k (search rules) c.in_ok-place.ensures.ready c.in_ok-place.ensures.counts
+
+pub returns-clause-leaves : goal.returns-clause-leaves
+returns-clause-leaves g c =
+    let m : Marks c.args.self.now c.mark.new.self c.args.bitmap c.block_start-start.result c.block_sectors-sectors.result false =
+    record { only = c.mark.ensures.only; parts = c.mark.ensures.parts; within = c.mark.ensures.within; set = c.mark.ensures.set; places = c.mark.ensures.places } in
+    let k : Marks c.make_block.new.self c.mark-2.new.self c.args.bitmap c.args.first c.args.count true =
+    record { only = c.mark-2.ensures.only; parts = c.mark-2.ensures.parts; within = c.mark-2.ensures.within; set = c.mark-2.ensures.set; places = c.mark-2.ensures.places } in
+    rest_then c.args.self.now c.mark.new.self c.mark-2.new.self 0 1 (marks_rest _ _ _ _ _ _ m) (rest_then c.mark.new.self c.make_block.new.self c.mark-2.new.self 1 0 c.in_ok-place.ensures.leaves (marks_rest _ _ _ _ _ _ k))

@@ -1,8 +1,13 @@
-use Rattle.std.proofs.Common.{◌≡◌, rules, sym, subst}
+use Rattle.std.proofs.Common.{◌≡◌, ◌/◌, ◌∙◌, ap, rules, sym, subst, true}
 use Rattle.std.specs.Prelude.{Err, Result}
 use Rattle.layer_session.specs.declared.file.LayerFault.{LayerFault}
+use Rattle.layer_session.specs.declared.file.LayerFault.TheVariants.{FileFull}
+use Rattle.layer_session.specs.declared.planning.Wanted.{Wanted}
 use Rattle.layer_session.specs.Calls.{OnRoom}
 use Rattle.layer_session.specs.Steps.{has_room}
+use Rattle.vhdx_format.specs.Fields.{megabyte}
+use Rattle.block_alloc.specs.Spaces.{fits_in}
+use Rattle.table_pages.specs.declared.tables.TableParts.{TableParts}
 use Rattle.layer_session.proofs.CallPrepared.{done_begins, idle_begins, idle_prepared, no_room, planned_here, some_here}
 use Rattle.layer_session.proofs.Leading.{leads_on, tells_broken, tells_moments, tells_refused}
 use Rattle.layer_session.proofs.file.Layer.prepare.Goals as goal
@@ -51,3 +56,13 @@ returns-clause-broken g c =
 pub returns-clause-full : goal.returns-clause-full
 returns-clause-full g c next e =
     absurd (c.put_at_hand.ensures.never next e)
+
+pub returns-in_err-wanted-clause-full : goal.returns-in_err-wanted-clause-full
+returns-in_err-wanted-clause-full g c next e =
+    let same : c.from_residual.result ≡ Err c.in_err-wanted.field-0.0 = search rules in
+    let full : c.in_err-wanted.field-0.0 ≡ FileFull next = let both = sym same ∙ e in cc in
+    c.in_err-wanted.ensures.full next (ap (λ (fault : LayerFault). (let r : Result Wanted LayerFault = Err fault in r)) full)
+
+pub put_at_hand-requires-clause-fits : goal.put_at_hand-requires-clause-fits
+put_at_hand-requires-clause-fits g c =
+    subst (λ (x : TableParts). fits_in c.in_ok-wanted.wanted.blocks (x.block / megabyte) c.in_ok-wanted.wanted.bitmaps c.plan.new.self.space ≡ true) (sym c.in_ok-wanted.ensures.leads.parts) c.in_ok-wanted.ensures.fits

@@ -1,5 +1,9 @@
-use Rattle.std.proofs.Common.{◌≡◌, rules, sym, subst}
-use Rattle.std.specs.Prelude.{Err}
+use Rattle.std.proofs.Common.{◌≡◌, ℕ, ◌+◌, ◌-◌, ◌&&◌, ◌==◌, ◌∙◌, Bool, true, false, ap, refl, rules, sym, subst}
+use Rattle.std.proofs.lemmas.Bool.{eq-eqb}
+use Rattle.std.specs.Prelude.{Err, not}
+use Rattle.table_pages.specs.declared.tables.TableParts.{TableParts}
+use Rattle.layer_session.specs.declared.preparing.Missing.{Missing}
+use Rattle.layer_session.specs.ByTables.{IsBitmapEntryAtHand}
 use Rattle.layer_session.specs.declared.file.LayerFault.{LayerFault}
 use Rattle.layer_session.specs.Bringing.{Leads}
 use Rattle.layer_session.proofs.AtHand.{entries_four, far_two, hand_four, lacks_four, lacks_three, near_two, prepared_five, room_four, room_three, there_four, wants_five}
@@ -98,3 +102,16 @@ returns-clause-wants g c trims =
     c.bring_pages.new.self (g.S.Store.disk c.bring_pages.new.store) c.in_ok-bring_pages.ensures.leads c.in_ok-bring_pages.ensures.stays c.bring_pages.ensures.space c.in_ok-bring_pages.ensures.held c.in_ok-bring_pages.ensures.brings c.in_ok-bring_pages.ensures.far_there
     c.make_chunk.new.self (g.S.Store.disk c.make_chunk.new.store) c.in_ok-make_chunk.ensures.leads c.in_ok-make_chunk.ensures.space c.make_chunk.ensures.keeps c.in_ok-make_chunk.ensures.named c.in_ok-make_chunk.ensures.at_hand c.in_ok-make_chunk.ensures.there c.in_ok-make_chunk.ensures.says
     c.make_chunk-2.new.self (g.S.Store.disk c.make_chunk-2.new.store) leads space c.make_chunk-2.ensures.keeps named hand there says trims)
+
+-- the last chunk's sector bitmap block is looked for only if that is another chunk
+far_goes : (parent : Bool) (last first : ℕ) (more : Bool) → (parent && (not (last == first) && more)) ≡ true → last ≡ first → ⊥
+far_goes false last first more e same = let no : false ≡ true = e in cc
+far_goes true last first more e same =
+    let one : (last == first) ≡ true = eq-eqb last first same in
+    let none : (not (last == first) && more) ≡ false = rw one refl in
+    let wrong : true ≡ false = sym e ∙ none in cc
+
+pub make_chunk-requires-2-clause-entry : goal.make_chunk-requires-2-clause-entry
+make_chunk-requires-2-clause-entry g c on =
+    subst (λ (x : TableParts). IsBitmapEntryAtHand x (c.args.first + c.args.count - 1) c.make_chunk.new.self.tables.pending) (sym (c.in_ok-make_chunk.ensures.leads.parts ∙ c.in_ok-bring_pages.ensures.leads.parts))
+    (c.make_chunk.ensures.keeps _ (c.in_ok-bring_pages.ensures.brings.far_entry (far_goes _ _ _ _ (ap (λ (m : Missing). m.far) (sym c.find_missing-missing.ensures) ∙ on)) on))

@@ -1,4 +1,5 @@
 use Rattle.std.proofs.Common.{◌≡◌, ◌+◌, ◌*◌, ◌%◌, ◌<◌, ◌≤◌, arith, rules, true, false, sym, subst, ap, ◌∙◌}
+use Rattle.std.specs.Prelude.{Err}
 use Rattle.vhdx_format.specs.Layers.{HasSizes}
 use Rattle.store_model.specs.Disk.{WhereBothTold, WhereTold}
 use Rattle.table_pages.specs.Held.{shape_of}
@@ -36,6 +37,10 @@ returns-in_err-prepare-clause-moments g c =
 pub returns-in_err-prepare-clause-broken : goal.returns-in_err-prepare-clause-broken
 returns-in_err-prepare-clause-broken g c =
     early_broken c.from_residual.result c.in_err-prepare.field-0.0 c.args.self.now c.prepare.new.self (is_masked c.args.first c.args.count 0 c.args.mask.now) (g.S.Store.disk c.args.store.now) (g.S.Store.disk c.prepare.new.store) (search rules) c.in_err-prepare.ensures.broken
+
+pub returns-in_err-prepare-clause-full : goal.returns-in_err-prepare-clause-full
+returns-in_err-prepare-clause-full g c next e =
+    let told : c.from_residual.result ≡ Err c.in_err-prepare.field-0.0 = search rules in c.in_err-prepare.ensures.full next (sym told ∙ e)
 
 pub returns-in_err-prepare-clause-nothing : goal.returns-in_err-prepare-clause-nothing
 returns-in_err-prepare-clause-nothing g c none =

@@ -1,4 +1,4 @@
-use Rattle.std.proofs.Common.{◌≤◌, ◌+◌, arith, sym, subst, ap, ℕ}
+use Rattle.std.proofs.Common.{◌≤◌, ◌+◌, arith, false, sym, subst, ap, ℕ}
 use Rattle.std.specs.Prelude.{Option, OnOk, IfErr}
 use Rattle.store_model.specs.Disk.{WhereBothTold, WhereTold}
 use Rattle.log_write.specs.Sessions.{LogState}
@@ -64,3 +64,6 @@ returns-in-None-clause-done g c = record {
   number = ap (λ (x : LogState). x.number) c.in_ok-place.ensures.leaves.log;
   header = ap (λ (x : LogState). x.header) c.in_ok-place.ensures.leaves.log;
 }
+
+pub make_ready-requires-clause-todo : goal.make_ready-requires-clause-todo
+make_ready-requires-clause-todo g c t told = (false, c.requires.todo t told)

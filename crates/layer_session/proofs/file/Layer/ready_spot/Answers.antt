@@ -1,4 +1,5 @@
-use Rattle.layer_session.proofs.Readying.{quiet_now}
+use Rattle.std.proofs.Common.{false}
+use Rattle.layer_session.proofs.Readying.{part_absent, quiet_now}
 use Rattle.layer_session.proofs.Spotting.{here_spot, make_may_be, mark_spot}
 use Rattle.layer_session.proofs.file.Layer.ready_spot.Goals as goal
 
@@ -21,3 +22,7 @@ returns-in-Write-clause-moments g c =
 pub returns-in-Write-clause-spot : goal.returns-in-Write-clause-spot
 returns-in-Write-clause-spot g c =
     here_spot c.args.self.now (g.S.Store.disk c.args.store.now) c.requires.ready c.args.plan c.args.first c.args.count c.requires.some c.requires.on_disk c.requires.run c.requires.todo c.offset_in_block.result c.place_in-place.result c.offset_in_block.ensures.is c.offset_in_block.ensures.inside c.place_in-place.ensures c.in-Write.is
+
+pub make_empty-requires-clause-absent : goal.make_empty-requires-clause-absent
+make_empty-requires-clause-absent g c =
+    part_absent c.args.self.now (g.S.Store.disk c.args.store.now) c.requires.ready c.args.plan c.args.first c.args.count c.requires.some c.requires.on_disk c.requires.run (λ t told. (false, c.requires.todo t told)) c.in-MakePart.is
