@@ -12,6 +12,7 @@ ghost use Rattle.merge_plan.specs.Attached.{AreAsOpened, CanStart, shown_from};
 ghost use Rattle.merge_plan.specs.Drawing.{CollectFails, drawn_ids, inner_ids, log_ids, merge_ids};
 
 use link_rules::LinkedFile;
+use make_file::{draw, is_among};
 use shown_ids::{CollectFault, collect};
 use std::alloc::Global;
 use store_model::{Ids, Store};
@@ -40,25 +41,6 @@ pub struct MergeIds {
     pub source: LogIds,
     pub target: NewIds,
     pub child: Option<LogIds>,
-}
-
-// The identifier that stands in a file as these bytes.
-#[tactic(auto, using(vx_base::proofs::ReadBack::swap_twice))]
-fn id_of(bytes: [u8; 16]) -> Guid
-    ensures id { IsGuid result }
-    ensures stands { guid_bytes result ≡ bytes }
-{
-    let id = Guid::from_file(&bytes);
-    id.as_bytes();
-    id
-}
-
-// Draws one.
-pub(crate) fn draw<I: Ids>(ids: &mut I) -> Guid
-    ensures id { IsGuid result }
-    ensures told { I.drawn ids.new ≡ option_map (λ drawn. drawn ++ guid_bytes result ∷ []) (I.drawn ids.old) }
-{
-    id_of(ids.draw())
 }
 
 impl NewIds {
@@ -146,13 +128,6 @@ impl MergeIds {
             None => first_unfit(known, &[a, b, c, d, e, f, g, h]),
         }
     }
-}
-
-// Whether an identifier is one of these.
-fn is_among(id: Guid, known: &[Guid]) -> bool
-    ensures { result ≡ list_any (same_id id) known.now }
-{
-    known.iter().any(|other| id == *other)
 }
 
 // Whether an identifier is zero, or one of those drawn before, or one that is taken.

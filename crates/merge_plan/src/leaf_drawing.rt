@@ -5,7 +5,8 @@ ghost use Rattle.make_file.specs.Identifiers as identifiers;
 ghost use Rattle.make_file.specs.Identifiers.{Draws};
 ghost use Rattle.merge_plan.specs.LeafPlanning.{leaf_merge_ids};
 
-use crate::drawing::{NewIds, draw, first_unfit};
+use crate::drawing::{NewIds, first_unfit};
+use make_file::draw;
 use store_model::Ids;
 use vx_base::Guid;
 
