@@ -1,5 +1,5 @@
 -- What a call that reached the layers leaves of the history, and of a session, by the answer of its layers.
-use Rattle.std.proofs.Common.{◌≡◌, ℕ, ◌+◌, ◌-◌, ◌≤◌, ◌^◌, List, [], ◌∷◌, ◌++◌, length, take, refl, sym, ap, subst, ◌∙◌, arith, length-append}
+use Rattle.std.proofs.Common.{◌≡◌, ℕ, ◌+◌, ◌-◌, ◌≤◌, ◌^◌, List, [], ◌∷◌, ◌++◌, length, take, refl, sym, ap, subst, ◌∙◌, arith, length-append, Bool, true, is_some, ◌||◌}
 use Rattle.std.proofs.lemmas.List.{take_at}
 use Rattle.std.specs.Prelude.{Option, Some, None, option_map, Result, Ok, Err, IfSome, IsErrAnd, OnOk, OnErr}
 use Rattle.std.specs.List.{AllByRecursion}
@@ -15,7 +15,7 @@ use Rattle.chain_core.specs.Answering.{HasCause, IsCausedBy, IsNoted, answer_of,
 use Rattle.chain_core.specs.Events.{answer_by, placed}
 use Rattle.chain_core.specs.Reading.{HasOnlyRead}
 use Rattle.chain_core.specs.Refusing.{IfRefused, refused}
-use Rattle.chain_core.specs.Sessions.{IsLow, IsSound, Session, has_merge}
+use Rattle.chain_core.specs.Sessions.{AreReady, IsLow, IsSound, Session, has_merge, slack}
 use Rattle.chain_core.proofs.Copied.{always, has_merge_same, low_on, sound_behind}
 
 -- an entry that was noted last is taken back
@@ -71,3 +71,15 @@ caused_so call old new done r answer is cause fit = subst (IsCausedBy old new) (
     by_answer : (done : Result ℕ ChainRefusal) → placed (answer_by done r) ≡ done
     by_answer (Ok place) = refl
     by_answer (Err refusal) = refl
+
+-- with a merge of the leaf, and no event yet
+pub sound_leaf_started : (s : Session) → s.events ≡ 0 → s.noted ≡ 0 → AreReady s.layers s.disk → s.layers.merge ≡ None → is_some s.layers.retiring ≡ true → IsLow 2 s.layers → IsSound s
+sound_leaf_started s none empty ready only leaf low = record {
+  sector = ready.sector;
+  noted = omega (arith, none, empty);
+  few = omega (arith, none);
+  ready = λ _. ready;
+  low = λ _.
+      let merge : has_merge s.layers ≡ true = ap (λ m. is_some m || is_some s.layers.retiring) only ∙ leaf in
+      subst (λ (b : Bool). IsLow (s.events + slack b) s.layers) (sym merge) (low_on 2 (s.events + 2) s.layers (omega arith) low);
+}
