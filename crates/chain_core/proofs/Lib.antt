@@ -48,3 +48,4 @@ pub mod Succeeding
 pub mod Retires
 pub mod RetireStays
 pub mod RetireLeaf
+pub mod Noting

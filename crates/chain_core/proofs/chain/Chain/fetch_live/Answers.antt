@@ -1,9 +1,9 @@
 use Rattle.std.proofs.Common.{refl, ap, sym, subst, ◌∙◌}
 use Rattle.chain_core.specs.Copying.{source_number, stamp_of}
-use Rattle.chain_core.specs.Sessions.{IsSound, seen}
+use Rattle.chain_core.specs.Sessions.{IsSound, seen, Session}
 use Rattle.layer_session.specs.ReadOnly.{SomeReadFailed}
 use Rattle.guest_model.specs.declared.refusal.ChainRefusal.TheVariants.{ReadFault}
-use Rattle.chain_core.proofs.Copied.{fetch_stopped, fetched, room_counted, sound_counted, sound_read, unfetched}
+use Rattle.chain_core.proofs.Copied.{fetch_stopped, fetched, room_counted, sound_counted, sound_read, unfetched, sound_refused}
 use Rattle.chain_core.proofs.chain.Chain.fetch_live.Goals as goal
 
 pub returns-in_err-admit-clause-told : goal.returns-in_err-admit-clause-told
@@ -58,3 +58,9 @@ returns-in-Err-clause-cause g c fit =
 pub returns-in-Err-clause-told : goal.returns-in-Err-clause-told
 returns-in-Err-clause-told g c =
     unfetched c.args.self.now.layers c.admit.new.self.layers c.take.new.self (g.S.Store.disk c.args.self.now.store) (g.S.Store.disk c.admit.new.self.store) (g.S.Store.disk c.take.new.store) (ap (λ k. k.layers) c.admit.ensures.only) (ap (λ k. g.S.Store.disk k.store) c.admit.ensures.only) c.take.new.piece (ReadFault c.in-Err.fault.file c.in-Err.fault.count) c.take.ensures.reads
+
+pub returns-in_err-admit-clause-sound : goal.returns-in_err-admit-clause-sound
+returns-in_err-admit-clause-sound g c =
+    let before : Session = seen g.S.Store.disk g.R.Recorder.noted g.R.Recorder.told c.args.self.now in
+    let after : Session = seen g.S.Store.disk g.R.Recorder.noted g.R.Recorder.told c.admit.new.self in
+    sound_refused before after c.requires.sound c.admit.ensures.events (ap (λ k. g.R.Recorder.noted k.recorder) c.admit.ensures.only) (ap (λ k. k.layers) c.admit.ensures.only) (ap (λ k. g.S.Store.disk k.store) c.admit.ensures.only) (ap (λ k. k.broken) c.admit.ensures.only)

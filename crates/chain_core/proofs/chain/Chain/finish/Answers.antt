@@ -8,7 +8,7 @@ use Rattle.chain_core.specs.Finished.{Finishes}
 use Rattle.chain_core.specs.declared.layers.Layers.{Layers}
 use Rattle.chain_core.specs.Finished.{FinishTold}
 use Rattle.chain_core.specs.Sessions.{IsSound, Session, has_merge, seen}
-use Rattle.chain_core.proofs.Copied.{finish_rested, finish_told, judged_has, merging_low, room_counted, sound_counted, sound_finished}
+use Rattle.chain_core.proofs.Copied.{finish_rested, finish_told, judged_has, merging_low, room_counted, sound_counted, sound_finished, sound_refused}
 use Rattle.chain_core.proofs.chain.Chain.finish.Goals as goal
 
 pub returns-in_err-admit-clause-told : goal.returns-in_err-admit-clause-told
@@ -62,3 +62,9 @@ returns-clause-sound g c =
     sound_finished before after c.admit.new.self.layers (g.S.Store.disk c.admit.new.self.store) done c.requires.sound c.in_ok-admit.ensures.whole merge layers_is events (room_counted before.events after.events before.broken c.in_ok-admit.ensures.ok events) noted
     (subst (λ (k : Session). Finishes c.admit.new.self.layers k.layers (g.S.Store.disk c.admit.new.self.store) k.disk done) (sym (ap (λ k. seen g.S.Store.disk g.R.Recorder.noted g.R.Recorder.told k) c.settle.ensures.only)) c.finish.ensures)
     (subst (λ r. IfSome (breaks r) (λ fault. after.broken ≡ Some fault)) c.changed-done.ensures c.settle.ensures.broken)
+
+pub returns-in_err-admit-clause-sound : goal.returns-in_err-admit-clause-sound
+returns-in_err-admit-clause-sound g c =
+    let before : Session = seen g.S.Store.disk g.R.Recorder.noted g.R.Recorder.told c.args.self.now in
+    let after : Session = seen g.S.Store.disk g.R.Recorder.noted g.R.Recorder.told c.admit.new.self in
+    sound_refused before after c.requires.sound c.admit.ensures.events (ap (λ k. g.R.Recorder.noted k.recorder) c.admit.ensures.only) (ap (λ k. k.layers) c.admit.ensures.only) (ap (λ k. g.S.Store.disk k.store) c.admit.ensures.only) (ap (λ k. k.broken) c.admit.ensures.only)

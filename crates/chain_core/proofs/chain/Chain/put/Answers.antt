@@ -3,7 +3,7 @@ use Rattle.chain_core.specs.Answering.{UnlessBroken}
 use Rattle.chain_core.specs.Sessions.{AreReady, IsLow, IsSound, Session, has_merge, seen}
 use Rattle.chain_core.specs.declared.layers.Layers.{Layers}
 use Rattle.chain_core.specs.Copying.{PieceTold, TargetRoomIs}
-use Rattle.chain_core.proofs.Copied.{always, marked_slack, merging_low, piece_merge, piece_told, put_stopped, room_counted, room_told, sound_behind, sound_counted}
+use Rattle.chain_core.proofs.Copied.{always, marked_slack, merging_low, piece_merge, piece_told, put_stopped, room_counted, room_told, sound_behind, sound_counted, sound_refused}
 use Rattle.chain_core.proofs.chain.Chain.put.Goals as goal
 
 pub returns-in_err-admit-clause-told : goal.returns-in_err-admit-clause-told
@@ -62,3 +62,9 @@ returns-clause-sound g c =
     (subst (λ (k : Session). UnlessBroken done (AreReady k.layers k.disk)) (sym (ap (λ k. seen g.S.Store.disk g.R.Recorder.noted g.R.Recorder.told k) c.settle.ensures.only)) c.put_piece-done.ensures.ready)
     (subst (λ (l : Layers). UnlessBroken done ((most : ℕ) → IsLow most l → IsLow (most + 1) after.layers)) layers_is
     (subst (λ (l : Layers). UnlessBroken done ((most : ℕ) → IsLow most c.admit.new.self.layers → IsLow (most + 1) l)) (sym layers_then) (always done ((most : ℕ) → IsLow most c.admit.new.self.layers → IsLow (most + 1) c.put_piece-done.new.self) c.put_piece-done.ensures.low))) c.settle.ensures.broken
+
+pub returns-in_err-admit-clause-sound : goal.returns-in_err-admit-clause-sound
+returns-in_err-admit-clause-sound g c =
+    let before : Session = seen g.S.Store.disk g.R.Recorder.noted g.R.Recorder.told c.args.self.now in
+    let after : Session = seen g.S.Store.disk g.R.Recorder.noted g.R.Recorder.told c.admit.new.self in
+    sound_refused before after c.requires.sound c.admit.ensures.events (ap (λ k. g.R.Recorder.noted k.recorder) c.admit.ensures.only) (ap (λ k. k.layers) c.admit.ensures.only) (ap (λ k. g.S.Store.disk k.store) c.admit.ensures.only) (ap (λ k. k.broken) c.admit.ensures.only)

@@ -1,9 +1,14 @@
-use Rattle.std.proofs.Common.{◌+◌, ◌/◌, ap, ◌∙◌, length, ℕ}
+use Rattle.std.specs.Prelude.{OnOk}
+use Rattle.chain_core.specs.Reading.{Finds}
+use Rattle.chain_core.proofs.Copied.{ok_map, noted_most, room_accepted, sound_refused}
+use Rattle.chain_core.specs.Sessions.{seen, Session}
+use Rattle.chain_core.proofs.Noting.{notes_so, sound_looked}
+use Rattle.std.proofs.Common.{◌+◌, ◌/◌, ap, ◌∙◌, length, ℕ, refl, subst, ◌≡◌}
 use Rattle.guest_model.specs.declared.call.Call.TheVariants as calls
-use Rattle.chain_core.specs.Answering.{answer_of, as_read}
+use Rattle.chain_core.specs.Answering.{answer_of, as_read, IsNoted}
 use Rattle.chain_core.specs.States.{entry}
 use Rattle.chain_core.proofs.Concluding.{answered, refused_told}
-use Rattle.chain_core.proofs.Looking.{looked}
+use Rattle.chain_core.proofs.Looking.{looked, found_before}
 use Rattle.chain_core.proofs.chain.Chain.read.Goals as goal
 
 pub returns-in_err-accept-clause-told : goal.returns-in_err-accept-clause-told
@@ -20,3 +25,33 @@ returns-clause-told g c =
     (ap (λ k. k.layers) c.conclude.ensures.only) (ap (λ k. g.S.Store.disk k.store) c.conclude.ensures.only)
     (c.conclude.ensures.answer ∙ ap (answer_of (g.R.Recorder.noted c.accept.new.self.recorder)) c.unread-done.ensures)
     (looked c.args.first count c.accept.new.self.layers c.find.new.self (g.S.Store.disk c.accept.new.self.store) (g.S.Store.disk c.find.new.store) c.find.result c.find.ensures.reads (g.R.Recorder.noted c.args.self.now.recorder + 1))
+
+pub returns-in_err-accept-clause-sound : goal.returns-in_err-accept-clause-sound
+returns-in_err-accept-clause-sound g c =
+    let before : Session = seen g.S.Store.disk g.R.Recorder.noted g.R.Recorder.told c.args.self.now in
+    let after : Session = seen g.S.Store.disk g.R.Recorder.noted g.R.Recorder.told c.accept.new.self in
+    sound_refused before after c.requires.sound c.accept.ensures.events c.in_err-accept.ensures.err_noted (ap (λ k. k.layers) c.accept.ensures.only) (ap (λ k. g.S.Store.disk k.store) c.accept.ensures.only) (ap (λ k. k.broken) c.accept.ensures.only)
+
+pub returns-clause-sound : goal.returns-clause-sound
+returns-clause-sound g c =
+    let before : Session = seen g.S.Store.disk g.R.Recorder.noted g.R.Recorder.told c.args.self.now in
+    let after : Session = seen g.S.Store.disk g.R.Recorder.noted g.R.Recorder.told c.conclude.new.self in
+    let done = c.unread-done.result in
+    let events : after.events ≡ before.events + 1 = ap (λ k. k.events) c.conclude.ensures.only ∙ c.in_ok-accept.ensures.fits in
+    let noted = noted_most done before.noted (g.R.Recorder.noted c.accept.new.self.recorder) after.noted c.in_ok-accept.ensures.noted (ok_map done (λ e. ap (λ k. g.R.Recorder.noted k) e) c.conclude.ensures.kept) c.conclude.ensures.noted in
+    sound_looked before after c.accept.new.self.layers c.find.new.self (g.S.Store.disk c.accept.new.self.store) (g.S.Store.disk c.find.new.store) done c.requires.sound c.in_ok-accept.ensures.whole events
+    (room_accepted (calls.Read c.args.first (length c.args.out.now / c.from.result)) before after.events c.in_ok-accept.ensures.fit events) noted (ap (λ k. k.layers) c.in_ok-accept.ensures.only) (ap (λ k. k.layers) c.conclude.ensures.only) (ap (λ k. g.S.Store.disk k.store) c.conclude.ensures.only) c.find.ensures.reads c.conclude.ensures.broken
+
+pub returns-clause-notes : goal.returns-clause-notes
+returns-clause-notes g c fit =
+    let before : Session = seen g.S.Store.disk g.R.Recorder.noted g.R.Recorder.told c.args.self.now in
+    let after : Session = seen g.S.Store.disk g.R.Recorder.noted g.R.Recorder.told c.conclude.new.self in
+    let done = c.unread-done.result in
+    subst (λ (n : ℕ). IsNoted (entry c.args.who (calls.Read c.args.first (length c.args.out.now / n))) before after c.conclude.result) c.from.ensures (notes_so (entry c.args.who (calls.Read c.args.first (length c.args.out.now / c.from.result))) before after (g.R.Recorder.noted c.accept.new.self.recorder) (g.R.Recorder.told c.accept.new.self.recorder) done c.conclude.result c.conclude.ensures.answer c.in_ok-accept.ensures.told c.in_ok-accept.ensures.noted
+    (ok_map done (λ e. ap (λ k. g.R.Recorder.told k) e) c.conclude.ensures.kept) (ok_map done (λ e. ap (λ k. g.R.Recorder.noted k) e) c.conclude.ensures.kept) c.conclude.ensures.told c.conclude.ensures.noted)
+
+pub returns-clause-finds : goal.returns-clause-finds
+returns-clause-finds g c =
+    subst (λ (n : ℕ). OnOk c.conclude.result (Finds c.args.first (length c.args.out.now / n) c.find.new.out c.args.self.now.layers (g.S.Store.disk c.args.self.now.store))) c.from.ensures (found_before c.args.first (length c.args.out.now / c.from.result) (g.R.Recorder.noted c.accept.new.self.recorder) c.find.new.out c.find.new.out c.args.self.now.layers c.accept.new.self.layers
+    (g.S.Store.disk c.args.self.now.store) (g.S.Store.disk c.accept.new.self.store) c.find.result c.conclude.result refl (ap (λ k. k.layers) c.in_ok-accept.ensures.only) (ap (λ k. g.S.Store.disk k.store) c.in_ok-accept.ensures.only)
+    (c.conclude.ensures.answer ∙ ap (answer_of (g.R.Recorder.noted c.accept.new.self.recorder)) c.unread-done.ensures) c.find.ensures.finds)

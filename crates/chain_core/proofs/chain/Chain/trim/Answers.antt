@@ -1,3 +1,4 @@
+use Rattle.chain_core.proofs.Noting.{notes_so, refused_first}
 use Rattle.std.proofs.Common.{ap, not, refl, subst, sym, ℕ, ◌+◌, ◌^◌, ◌∙◌, ◌≡◌}
 use Rattle.guest_model.specs.declared.call.Call.TheVariants as calls
 use Rattle.layer_session.specs.declared.file.Layer.{Layer}
@@ -7,7 +8,7 @@ use Rattle.chain_core.proofs.Concluding.{answered, refused_told, room_told}
 use Rattle.chain_core.proofs.chain.Chain.trim.Goals as goal
 use Rattle.guest_model.specs.declared.call.Call.{Call}
 use Rattle.chain_core.specs.declared.layers.Layers.{Layers}
-use Rattle.chain_core.specs.Sessions.{AreReady, IsLow, Session, has_merge, seen}
+use Rattle.chain_core.specs.Sessions.{AreReady, IsLow, Session, has_merge, seen, IsCounted}
 use Rattle.chain_core.proofs.Copied.{always, follows_has, has_merge_same, noted_most, ok_map, room_accepted, sound_behind, sound_low, sound_refused}
 
 pub returns-in_err-accept-clause-told : goal.returns-in_err-accept-clause-told
@@ -56,3 +57,15 @@ returns-in_err-accept-clause-sound g c =
     let after : Session = seen g.S.Store.disk g.R.Recorder.noted g.R.Recorder.told c.accept.new.self in
     let layers_is = ap (λ k. k.layers) c.accept.ensures.only in
     sound_refused before after c.requires.sound c.accept.ensures.events c.in_err-accept.ensures.err_noted layers_is (ap (λ k. g.S.Store.disk k.store) c.accept.ensures.only) (ap (λ k. k.broken) c.accept.ensures.only)
+
+pub returns-in_err-accept-clause-early : goal.returns-in_err-accept-clause-early
+returns-in_err-accept-clause-early g c =
+    refused_first (calls.Trim c.args.first c.args.count) (seen g.S.Store.disk g.R.Recorder.noted g.R.Recorder.told c.args.self.now) c.in_err-accept.field-0.0 c.from_residual.result (IsCounted c.args.self.now c.accept.new.self) c.from_residual.ensures.1 c.in_err-accept.ensures.early
+
+pub returns-clause-notes : goal.returns-clause-notes
+returns-clause-notes g c fit =
+    let before : Session = seen g.S.Store.disk g.R.Recorder.noted g.R.Recorder.told c.args.self.now in
+    let after : Session = seen g.S.Store.disk g.R.Recorder.noted g.R.Recorder.told c.conclude.new.self in
+    let done = c.zero-done.result in
+    notes_so (entry c.args.who (calls.Trim c.args.first c.args.count)) before after (g.R.Recorder.noted c.accept.new.self.recorder) (g.R.Recorder.told c.accept.new.self.recorder) done c.conclude.result c.conclude.ensures.answer c.in_ok-accept.ensures.told c.in_ok-accept.ensures.noted
+    (ok_map done (λ e. ap (λ k. g.R.Recorder.told k) e) c.conclude.ensures.kept) (ok_map done (λ e. ap (λ k. g.R.Recorder.noted k) e) c.conclude.ensures.kept) c.conclude.ensures.told c.conclude.ensures.noted

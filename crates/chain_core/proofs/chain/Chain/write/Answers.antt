@@ -1,3 +1,4 @@
+use Rattle.chain_core.proofs.Noting.{notes_so, refused_first}
 use Rattle.std.proofs.Common.{ap, false, length, subst, sym, ℕ, ◌+◌, ◌/◌, ◌^◌, ◌∙◌, ◌≡◌}
 use Rattle.guest_model.specs.declared.call.Call.TheVariants as calls
 use Rattle.chain_core.specs.States.{entry}
@@ -6,7 +7,7 @@ use Rattle.chain_core.proofs.Concluding.{answered, refused_told, room_told}
 use Rattle.chain_core.proofs.chain.Chain.write.Goals as goal
 use Rattle.guest_model.specs.declared.call.Call.{Call}
 use Rattle.chain_core.specs.declared.layers.Layers.{Layers}
-use Rattle.chain_core.specs.Sessions.{AreReady, IsLow, Session, has_merge, seen}
+use Rattle.chain_core.specs.Sessions.{AreReady, IsLow, Session, has_merge, seen, IsCounted}
 use Rattle.chain_core.proofs.Copied.{always, follows_has, has_merge_same, noted_most, ok_map, room_accepted, sound_behind, sound_low, sound_refused}
 
 pub returns-in_err-accept-clause-told : goal.returns-in_err-accept-clause-told
@@ -43,3 +44,21 @@ returns-clause-sound g c =
     (subst (λ (k : Session). UnlessBroken done (AreReady k.layers k.disk)) (sym (ap (λ k. seen g.S.Store.disk g.R.Recorder.noted g.R.Recorder.told k) c.conclude.ensures.only)) c.put-done.ensures.ready)
     (subst (λ (l : Layers). UnlessBroken done ((most : ℕ) → IsLow most l → IsLow (most + 1) after.layers)) layers_is
     (subst (λ (l : Layers). UnlessBroken done ((most : ℕ) → IsLow most c.accept.new.self.layers → IsLow (most + 1) l)) (sym layers_then) (always done ((most : ℕ) → IsLow most c.accept.new.self.layers → IsLow (most + 1) c.put-done.new.self) c.put-done.ensures.low))) c.conclude.ensures.broken
+
+pub returns-in_err-accept-clause-sound : goal.returns-in_err-accept-clause-sound
+returns-in_err-accept-clause-sound g c =
+    let before : Session = seen g.S.Store.disk g.R.Recorder.noted g.R.Recorder.told c.args.self.now in
+    let after : Session = seen g.S.Store.disk g.R.Recorder.noted g.R.Recorder.told c.accept.new.self in
+    sound_refused before after c.requires.sound c.accept.ensures.events c.in_err-accept.ensures.err_noted (ap (λ k. k.layers) c.accept.ensures.only) (ap (λ k. g.S.Store.disk k.store) c.accept.ensures.only) (ap (λ k. k.broken) c.accept.ensures.only)
+
+pub returns-in_err-accept-clause-early : goal.returns-in_err-accept-clause-early
+returns-in_err-accept-clause-early g c =
+    refused_first (calls.Write c.args.first c.args.bytes.now) (seen g.S.Store.disk g.R.Recorder.noted g.R.Recorder.told c.args.self.now) c.in_err-accept.field-0.0 c.from_residual.result (IsCounted c.args.self.now c.accept.new.self) c.from_residual.ensures.1 c.in_err-accept.ensures.early
+
+pub returns-clause-notes : goal.returns-clause-notes
+returns-clause-notes g c fit =
+    let before : Session = seen g.S.Store.disk g.R.Recorder.noted g.R.Recorder.told c.args.self.now in
+    let after : Session = seen g.S.Store.disk g.R.Recorder.noted g.R.Recorder.told c.conclude.new.self in
+    let done = c.put-done.result in
+    notes_so (entry c.args.who (calls.Write c.args.first c.args.bytes.now)) before after (g.R.Recorder.noted c.accept.new.self.recorder) (g.R.Recorder.told c.accept.new.self.recorder) done c.conclude.result c.conclude.ensures.answer c.in_ok-accept.ensures.told c.in_ok-accept.ensures.noted
+    (ok_map done (λ e. ap (λ k. g.R.Recorder.told k) e) c.conclude.ensures.kept) (ok_map done (λ e. ap (λ k. g.R.Recorder.noted k) e) c.conclude.ensures.kept) c.conclude.ensures.told c.conclude.ensures.noted
