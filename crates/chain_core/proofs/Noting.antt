@@ -13,7 +13,7 @@ use Rattle.layer_session.specs.FileLayers.{log_number}
 use Rattle.chain_core.specs.declared.layers.Layers.{Layers}
 use Rattle.chain_core.specs.declared.answer.Answer.{Answer}
 use Rattle.guest_model.specs.declared.call.Reply.{Reply}
-use Rattle.chain_core.specs.Answering.{HasCause, IsCausedBy, IsNoted, answer_of, breaks, refusal_of}
+use Rattle.chain_core.specs.Answering.{HasCause, IsCausedBy, IsNoted, answer_of, breaks}
 use Rattle.chain_core.specs.Events.{answer_by, placed}
 use Rattle.chain_core.specs.Reading.{HasOnlyRead}
 use Rattle.chain_core.specs.Refusing.{IfRefused, refused}
