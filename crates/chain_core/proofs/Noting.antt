@@ -1,5 +1,5 @@
 -- What a call that reached the layers leaves of the history, and of a session, by the answer of its layers.
-use Rattle.std.proofs.Common.{◌≡◌, ℕ, ◌+◌, ◌-◌, ◌≤◌, ◌^◌, List, [], ◌∷◌, ◌++◌, length, take, refl, sym, ap, subst, ◌∙◌, arith, length-append, Bool, true, is_some, ◌||◌}
+use Rattle.std.proofs.Common.{◌≡◌, ℕ, ◌+◌, ◌-◌, ◌≤◌, ◌^◌, List, [], ◌∷◌, ◌++◌, length, take, refl, sym, ap, subst, ◌∙◌, arith, length-append, Bool, true, is_some, ◌||◌, map}
 use Rattle.std.proofs.lemmas.List.{take_at}
 use Rattle.std.specs.Prelude.{Option, Some, None, option_map, Result, Ok, Err, IfSome, IsErrAnd, OnOk, OnErr}
 use Rattle.std.specs.List.{AllByRecursion}
@@ -8,10 +8,12 @@ use Rattle.guest_model.specs.declared.call.Call.{Call}
 use Rattle.guest_model.specs.declared.call.Entry.{Entry}
 use Rattle.guest_model.specs.declared.refusal.ChainRefusal.{ChainRefusal}
 use Rattle.layer_session.specs.declared.file.LayerFault.{LayerFault}
+use Rattle.layer_session.specs.declared.file.Layer.{Layer}
+use Rattle.layer_session.specs.FileLayers.{log_number}
 use Rattle.chain_core.specs.declared.layers.Layers.{Layers}
 use Rattle.chain_core.specs.declared.answer.Answer.{Answer}
 use Rattle.guest_model.specs.declared.call.Reply.{Reply}
-use Rattle.chain_core.specs.Answering.{HasCause, IsCausedBy, IsNoted, answer_of, breaks, refusal_of}
+use Rattle.chain_core.specs.Answering.{HasCause, IsCausedBy, IsNoted, answer_of, breaks}
 use Rattle.chain_core.specs.Events.{answer_by, placed}
 use Rattle.chain_core.specs.Reading.{HasOnlyRead}
 use Rattle.chain_core.specs.Refusing.{IfRefused, refused}
@@ -83,3 +85,11 @@ sound_leaf_started s none empty ready only leaf low = record {
       let merge : has_merge s.layers ≡ true = ap (λ m. is_some m || is_some s.layers.retiring) only ∙ leaf in
       subst (λ (b : Bool). IsLow (s.events + slack b) s.layers) (sym merge) (low_on 2 (s.events + 2) s.layers (omega arith) low);
 }
+
+-- the numbers of logs, once the leaf's wrote one entry at the most
+pub low_stepped : (old new : Layers) (leaf next : Layer) → old.leaf ≡ Some leaf → new.leaf ≡ Some next → new.below ≡ old.below → next.log.number ≤ leaf.log.number + 1 → (most : ℕ) → IsLow most old → IsLow (most + 1) new
+low_stepped old new leaf next was now below step most low =
+    let first : leaf.log.number ≤ most = subst (λ o. IfSome (option_map (λ (l : Layer). l.log.number) o) (λ n. n ≤ most)) was low.0 in (
+      subst (λ o. IfSome (option_map (λ (l : Layer). l.log.number) o) (λ n. n ≤ most + 1)) (sym now) (omega (arith, first, step)),
+      subst (λ b. AllByRecursion (λ number. IfSome number (λ n. n ≤ most + 1)) (map log_number b.items)) (sym below) (low_on most (most + 1) old (omega arith) low).1,
+    )

@@ -1,7 +1,7 @@
 use Rattle.chain_core.proofs.Copied.{ok_map, noted_most, room_accepted, sound_refused}
 use Rattle.chain_core.specs.Sessions.{seen, Session}
 use Rattle.chain_core.proofs.Noting.{back, count_back, notes_so, sound_looked}
-use Rattle.std.proofs.Common.{◌+◌, ap, ◌∙◌, rules, ◌≡◌, ℕ}
+use Rattle.std.proofs.Common.{◌+◌, ap, ◌∙◌, rules, ◌≡◌}
 use Rattle.std.proofs.lemmas.List.{places, with_items_is}
 use Rattle.std.specs.Vec.{with_items}
 use Rattle.guest_model.specs.declared.call.Call.TheVariants as calls

@@ -8,6 +8,7 @@ use Rattle.chain_core.specs.declared.layers.Layers.{Layers}
 use Rattle.chain_core.proofs.Leafs.{follows_alike, follows_by, write_told, write_touches, zero_told}
 use Rattle.chain_core.proofs.Standing.{leaf_of, ready_still, room_is}
 use Rattle.chain_core.proofs.Turning.{put_ties}
+use Rattle.chain_core.proofs.Noting.{low_stepped}
 use Rattle.chain_core.proofs.layers.Layers.put.Goals as goal
 
 pub returns-clause-told : goal.returns-clause-told
@@ -39,3 +40,9 @@ returns-clause-room g c =
     let leaf = leaf_of c.args.self.now c.in-Some.leaf (g.S.Store.disk c.args.store.now) c.in-Some.is c.requires.ready in
     room_is (λ l. false) c.args.first (length c.args.bytes.now / c.args.self.now.geometry.sector) (length c.args.bytes.now / c.in-Some.leaf.tables.parts.sector) c.args.self.now c.in-Some.leaf (g.S.Store.disk c.args.store.now) c.put-done.result
     c.in-Some.is (ap (λ (n : ℕ). length c.args.bytes.now / n) leaf.sector) c.put-done.ensures.full c.put-done.ensures.room
+
+pub returns-clause-low : goal.returns-clause-low
+returns-clause-low g c =
+    let old : Layers = c.args.self.now in
+    let new : Layers = record old { leaf = Some c.put-done.new.self; retiring = c.touch.new.retiring } in
+    low_stepped old new c.in-Some.leaf c.put-done.new.self c.in-Some.is refl refl c.put-done.ensures.number

@@ -34,3 +34,10 @@ returns-in-len1-up-clause-geometry g c =
     let others : List LinkedFile = take (length c.args.files.now - 1) (drop 1 c.args.files.now) in
     let is : c.args.files.now ≡ c.leaf-item.result ∷ others = parted c.args.files.now c.leaf-item.result c.in-len1-up.len_at_least ∙ ap (λ (f : LinkedFile). f ∷ others) (sym c.leaf-item.is) in
     of_disk c.args.files.now c.leaf-item.result others c.begin.result is c.begin.ensures.geometry
+
+pub returns-in-len1-up-clause-moments : goal.returns-in-len1-up-clause-moments
+returns-in-len1-up-clause-moments g c =
+    let others : List LinkedFile = take (length c.args.files.now - 1) (drop 1 c.args.files.now) in
+    let is : c.args.files.now ≡ c.leaf-item.result ∷ others = parted c.args.files.now c.leaf-item.result c.in-len1-up.len_at_least ∙ ap (λ (f : LinkedFile). f ∷ others) (sym c.leaf-item.is) in
+    subst (λ (o : Option Trace). EachOpensAlike c.args.files.now o (g.S.Store.disk c.begin.new.store).told) c.choose_ids.ensures.told
+    (subst (λ (files : List LinkedFile). EachOpensAlike files (g.S.Store.disk c.choose_ids.new.store).told (g.S.Store.disk c.begin.new.store).told) (sym is) c.begin.ensures.moments)
