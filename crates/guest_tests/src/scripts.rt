@@ -16,9 +16,9 @@ fn are_lines(
     wanted: &[(u32, Form)],
 ) -> Result<bool, Fail> {
     let script = read_script(alloc, text, kind)?;
-    let mut read = script.lines().iter().zip(wanted.iter());
+    let mut read = script.as_slice().iter().zip(wanted.iter());
     Ok(
-        script.lines().len() == wanted.len()
+        script.as_slice().len() == wanted.len()
             && read.all(|(line, (guest, form))| line.guest == *guest && line.form == *form),
     )
 }

@@ -361,6 +361,6 @@ pub fn steps<H: Host, I: Ids, S: Source, K: Sink>(
         Err(refusal) => return refuse_script(out, refusal),
     };
     let mode = mode_of(read_only);
-    let run = run_leaf(alloc, host, ids, &leaf, &source, mode, script.lines());
+    let run = run_leaf(alloc, host, ids, &leaf, &source, mode, script.as_slice());
     show_run(alloc, out, run)
 }

@@ -21,7 +21,7 @@ loop-entry-preserved c =
     let e = c.entry-item.result in
     let is : IsTold guests e = subst (IsTold guests) (sym c.entry-item.is) (c.requires i e c.loop-entry-test.true) in
     let told : told_of guests e.guest e.no ≡ c.as_str.result.now =
-    told_at guests e c.calls.result.now _ c.index-calls-entry.result is (c.calls.ensures ∙ c.index-guests-entry.is) c.index-calls-entry.is ∙ sym c.as_str.ensures in
+    told_at guests e c.as_slice.result.now _ c.index-as_slice-entry.result is (c.as_slice.ensures ∙ c.index-guests-entry.is) c.index-as_slice-entry.is ∙ sym c.as_str.ensures in
     record {
       placed = ap (λ n. n + 1) c.loop-entry.invariant.placed;
       text = next_line (λ hs. entry_lines guests (i + 1) hs) history i e _ _ _ _ _ c.loop-entry-test.true c.in_ok-push_served_line.ensures

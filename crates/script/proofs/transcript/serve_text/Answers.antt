@@ -12,8 +12,8 @@ loop-told-preserved c =
       numbered = ap (λ n. n + 1) c.loop-told.invariant.numbered;
       text = next_line (λ gs. unplaced_lines (i + 1) gs) guests i c.told-item.result _ _ _ _ _ c.loop-told-test.true c.in_ok-push_unplaced.ensures
           (ap (λ l. l ++ unplaced_lines (i + 1 + 1) (drop (i + 1) guests))
-          (ap (λ (t : List ToldCall). unplaced_from (i + 1) 1 t) (sym (c.calls.ensures ∙ c.told-item.is))
-          ∙ ap (λ n. unplaced_from (n + 1) 1 c.calls.result.now) (sym c.loop-told.invariant.numbered)))
+          (ap (λ (t : List ToldCall). unplaced_from (i + 1) 1 t) (sym (c.as_slice.ensures ∙ c.told-item.is))
+          ∙ ap (λ n. unplaced_from (n + 1) 1 c.as_slice.result.now) (sym c.loop-told.invariant.numbered)))
           c.loop-told.invariant.text;
     }
 

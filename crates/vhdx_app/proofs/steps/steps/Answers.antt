@@ -25,11 +25,11 @@ returns-in-Err-script_from-clause-ends g c =
 pub returns-clause-runs : goal.returns-clause-runs
 returns-clause-runs g c =
     let e = c.in-Ok-script_from.ensures in
-    let ran = leaf_told c.in-Ok.names.0 c.args.leaf.now c.in-Ok.names.1 (option_map (λ s. s.now) c.args.merge) c.mode_of-mode.result (mode_of c.args.read_only) c.lines.result.now c.in-Ok-script_from.script _ _ _ _ c.run_leaf-run.result c.in-Ok.ensures.leaf c.in-Ok.ensures.merge c.mode_of-mode.ensures c.lines.ensures c.run_leaf-run.ensures in
+    let ran = leaf_told c.in-Ok.names.0 c.args.leaf.now c.in-Ok.names.1 (option_map (λ s. s.now) c.args.merge) c.mode_of-mode.result (mode_of c.args.read_only) c.as_slice.result.now c.in-Ok-script_from.script _ _ _ _ c.run_leaf-run.result c.in-Ok.ensures.leaf c.in-Ok.ensures.merge c.mode_of-mode.ensures c.as_slice.ensures c.run_leaf-run.ensures in
     leaf_runs c.args.leaf.now (option_map (λ s. s.now) c.args.merge) c.args.read_only _ _ _ c.requires.idle e.count (where_some _ _ e.left) c.in-Ok-script_from.script (where_some _ _ e.read) (where_some _ _ e.only) c.run_leaf-run.result ran c.show_run.ensures
 
 pub returns-clause-ends : goal.returns-clause-ends
 returns-clause-ends g c =
     let e = c.in-Ok-script_from.ensures in
-    let ran = leaf_told c.in-Ok.names.0 c.args.leaf.now c.in-Ok.names.1 (option_map (λ s. s.now) c.args.merge) c.mode_of-mode.result (mode_of c.args.read_only) c.lines.result.now c.in-Ok-script_from.script _ _ _ _ c.run_leaf-run.result c.in-Ok.ensures.leaf c.in-Ok.ensures.merge c.mode_of-mode.ensures c.lines.ensures c.run_leaf-run.ensures in
+    let ran = leaf_told c.in-Ok.names.0 c.args.leaf.now c.in-Ok.names.1 (option_map (λ s. s.now) c.args.merge) c.mode_of-mode.result (mode_of c.args.read_only) c.as_slice.result.now c.in-Ok-script_from.script _ _ _ _ c.run_leaf-run.result c.in-Ok.ensures.leaf c.in-Ok.ensures.merge c.mode_of-mode.ensures c.as_slice.ensures c.run_leaf-run.ensures in
     leaf_ends c.args.leaf.now (option_map (λ s. s.now) c.args.merge) c.args.read_only _ _ _ c.requires.idle e.count (where_some _ _ e.left) c.in-Ok-script_from.script (where_some _ _ e.read) (where_some _ _ e.only) c.run_leaf-run.result ran c.show_run.ensures
