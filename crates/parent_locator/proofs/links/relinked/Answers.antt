@@ -1,4 +1,4 @@
-use Rattle.std.proofs.Common.{◌≡◌, List, false, true, not, [], ◌∷◌, ◌++◌, ap, sym, ◌∙◌}
+use Rattle.std.proofs.Common.{◌≡◌, List, not, [], ◌∷◌, ◌++◌, ap, sym, ◌∙◌}
 use Rattle.std.specs.Prelude.{is_some, codes}
 use Rattle.vhdx_format.specs.declared.locator.Pair.{Pair}
 use Rattle.vhdx_format.specs.Locators.{value_at}
