@@ -11,6 +11,7 @@ ghost use Rattle.layer_session.specs.TablesRead.{AreBitsThere, AreReadable, HasR
 ghost use Rattle.layer_session.specs.ByTables.{AddsOwnedBy, HasOwnedBy, HasOwnedMarked, HasOwnedRun, HasStored, LieIn, WhereHeld};
 
 use crate::geometry::{entry_index, offset_in_block, place_in, run_in_block};
+use bat_entry::{FULLY_PRESENT, NOT_PRESENT, PARTLY_PRESENT};
 use sector_bits::{first_run, set_range};
 use store_model::{Store, StoreFault};
 use table_pages::{TableParts, Tables};
@@ -101,8 +102,7 @@ fn own_marked<S: Store>(
         rest,
         mask,
         at + run.count,
-    )?;
-    Ok(())
+    )
 }
 
 /// Adds what the file has of so many sectors from `first` on to what was found of them: their bytes, and their bits in the
@@ -142,8 +142,7 @@ pub fn own_missing<S: Store>(
         rest,
         mask,
         at + run.count,
-    )?;
-    Ok(())
+    )
 }
 
 // The same of sectors of which all were found, or none.
@@ -172,8 +171,7 @@ fn add_run<S: Store>(
     if found {
         return Ok(());
     }
-    own_all(tables, store, first, count, out, mask, at)?;
-    Ok(())
+    own_all(tables, store, first, count, out, mask, at)
 }
 
 // Which of the sectors from `first` on the file has, as bits of the mask from `at` on, and the bytes of those. The bytes of the
@@ -212,8 +210,7 @@ fn own_all<S: Store>(
         rest,
         mask,
         at + len as usize,
-    )?;
-    Ok(())
+    )
 }
 
 // The same of sectors that lie in one block.
@@ -242,14 +239,14 @@ fn own_run<S: Store>(
     let parts = tables.parts;
     let word = tables.entry(store, entry_index(&parts, first))?;
     let place = place_in(word >> 20, offset_in_block(&parts, first));
-    let state = word % 8;
-    if state == 6 {
+    let state = (word % 8) as u32;
+    if state == FULLY_PRESENT {
         return take_run(store, &parts, place, true, count as usize, out, mask, at);
     }
-    if state == 7 && parts.parent {
+    if state == PARTLY_PRESENT && parts.parent {
         return own_part(tables, store, place, first, count, out, mask, at);
     }
-    if state == 0 && parts.parent {
+    if state == NOT_PRESENT && parts.parent {
         return take_run(store, &parts, place, false, count as usize, out, mask, at);
     }
     clear(out);
@@ -299,8 +296,7 @@ fn own_part<S: Store>(
         rest,
         mask,
         at + len as usize,
-    )?;
-    Ok(())
+    )
 }
 
 // The same of so many that their bits are read at once.
@@ -347,6 +343,5 @@ fn own_few<S: Store>(
         out,
         mask,
         at,
-    )?;
-    Ok(())
+    )
 }
