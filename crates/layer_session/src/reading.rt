@@ -11,7 +11,7 @@ ghost use Rattle.layer_session.specs.TablesRead.{AreBitsThere, AreReadable, HasR
 ghost use Rattle.layer_session.specs.ByTables.{AddsOwnedBy, HasOwnedBy, HasOwnedMarked, HasOwnedRun, HasStored, LieIn, WhereHeld};
 
 use crate::geometry::{entry_index, offset_in_block, place_in, run_in_block};
-use bat_entry::{FULLY_PRESENT, NOT_PRESENT, PARTLY_PRESENT};
+use bat_entry::{BlockSectors, sectors_of};
 use sector_bits::{first_run, set_range};
 use store_model::{Store, StoreFault};
 use table_pages::{TableParts, Tables};
@@ -239,19 +239,25 @@ fn own_run<S: Store>(
     let parts = tables.parts;
     let word = tables.entry(store, entry_index(&parts, first))?;
     let place = place_in(word >> 20, offset_in_block(&parts, first));
-    let state = (word % 8) as u32;
-    if state == FULLY_PRESENT {
-        return take_run(store, &parts, place, true, count as usize, out, mask, at);
+    match sectors_of(word, parts.parent) {
+        BlockSectors::Here => take_run(store, &parts, place, true, count as usize, out, mask, at),
+        BlockSectors::Marked => own_part(tables, store, place, first, count, out, mask, at),
+        BlockSectors::Absent => take_run(
+            store,
+            &parts,
+            place,
+            false,
+            count as usize,
+            out,
+            mask,
+            at,
+        ),
+        BlockSectors::Zeros => {
+            clear(out);
+            set_range(mask, at, count as usize, true);
+            Ok(())
+        }
     }
-    if state == PARTLY_PRESENT && parts.parent {
-        return own_part(tables, store, place, first, count, out, mask, at);
-    }
-    if state == NOT_PRESENT && parts.parent {
-        return take_run(store, &parts, place, false, count as usize, out, mask, at);
-    }
-    clear(out);
-    set_range(mask, at, count as usize, true);
-    Ok(())
 }
 
 // The same of sectors of a partially present block, which stand from byte `place` of the file on.

@@ -1,26 +1,28 @@
-use Rattle.std.proofs.Common.{◌≡◌, ◌+◌, ◌*◌, ◌%◌, ◌/◌, ◌^◌, ap, sym, subst, ◌∙◌, inl}
+use Rattle.std.proofs.Common.{◌≡◌, true, ◌+◌, ◌*◌, ◌%◌, ◌/◌, ◌^◌, ap, sym, subst, ◌∙◌, inl}
 use Rattle.std.specs.Prelude.{min, ◌-◌}
 use Rattle.vx_base.specs.Fields.{zeros}
 use Rattle.vhdx_format.specs.Fields.{megabyte}
 use Rattle.store_model.specs.File.{seen}
 use Rattle.store_model.specs.Trace.{file_of}
 use Rattle.vhdx_format.specs.Layers.{entry_of, state_at, table_entry}
+use Rattle.table_pages.specs.declared.tables.TableParts.{TableParts}
 use Rattle.table_pages.specs.Held.{held_file, shape_of}
 use Rattle.layer_session.specs.TablesRead.{AreReadable, HasRead}
 use Rattle.layer_session.proofs.Parted.{absent_owned, full_owned, ok_then, owned_again, start_is, stored_again, zeros_owned}
 use Rattle.layer_session.proofs.Planned.{entry_reads, read_again, read_then}
-use Rattle.layer_session.proofs.reading.own_run.Goals.{else-state-eq-PARTLY_PRESENT-via-then-state-eq-PARTLY_PRESENT+else-parts, else-state-eq-PARTLY_PRESENT-via-else-state-eq-PARTLY_PRESENT, else-state-eq-NOT_PRESENT-via-then-state-eq-NOT_PRESENT+else-parts-2, else-state-eq-NOT_PRESENT-via-else-state-eq-NOT_PRESENT}
+use Rattle.bat_entry.proofs.Standing.{absent, here, marked}
+use Rattle.bat_entry.proofs.Standing as standing
 use Rattle.layer_session.proofs.reading.own_run.Goals as goal
 
-pub returns-then-state-eq-FULLY_PRESENT-clause-owned : goal.returns-then-state-eq-FULLY_PRESENT-clause-owned
-returns-then-state-eq-FULLY_PRESENT-clause-owned g c =
+pub returns-in-Here-clause-owned : goal.returns-in-Here-clause-owned
+returns-in-Here-clause-owned g c =
     ok_then c.take_run.result
     (λ owned t told.
     let held = held_file c.args.tables.now t in
     let file = seen (file_of t c.args.tables.now.parts.file) in
     let word : table_entry (shape_of c.args.tables.now.parts) held (entry_of (shape_of c.args.tables.now.parts) c.args.first) ≡ c.in_ok-word.word =
     sym (c.in_ok-word.ensures.entry t told ∙ ap (table_entry (shape_of c.args.tables.now.parts) held) c.entry_index.ensures.index) in
-    let six : state_at (shape_of c.args.tables.now.parts) held (entry_of (shape_of c.args.tables.now.parts) c.args.first) ≡ 6 = ap (λ w. w % 8) word ∙ c.if-state-eq-FULLY_PRESENT.true in
+    let six : state_at (shape_of c.args.tables.now.parts) held (entry_of (shape_of c.args.tables.now.parts) c.args.first) ≡ 6 = ap (λ w. w % 8) word ∙ here c.args.tables.now.parts.parent c.in_ok-word.word _ c.in-Here.is c.sectors_of.ensures in
     full_owned c.args.tables.now.parts file held c.requires.readable.sizes (c.requires.stored t told) c.args.first c.args.count c.requires.on_disk c.requires.run c.place_in-place.result c.args.at c.args.mask.now c.take_run.new.mask c.args.out.now c.take_run.new.out six
     (start_is c.args.tables.now.parts file held c.requires.readable.sizes (c.requires.stored t told) c.args.first c.args.count c.requires.on_disk c.requires.run (inl six) c.requires.some c.place_in-place.result
     (c.place_in-place.ensures ∙ ap (λ o. min (c.in_ok-word.word / 2 ^ 20 * megabyte + o) (2 ^ 64 - 1)) c.offset_in_block.ensures.is
@@ -33,42 +35,41 @@ own_part-requires-clause-readable g c =
     subst (AreReadable c.entry.new.self) (sym c.in_ok-word.ensures.stays)
     (read_again c.args.tables.now c.entry.new.self (g.S.Store.disk c.args.store.now) c.requires.readable (entry_reads c.args.tables.now c.entry.new.self (g.S.Store.disk c.args.store.now) c.entry.ensures.as_held c.entry.ensures.places))
 
-pub returns-then-parts-clause-owned : goal.returns-then-parts-clause-owned
-returns-then-parts-clause-owned g c =
+pub returns-in-Marked-clause-owned : goal.returns-in-Marked-clause-owned
+returns-in-Marked-clause-owned g c =
     ok_then c.own_part.result
     (λ owned t told.
     owned_again c.args.tables.now c.entry.new.self (g.S.Store.disk c.args.store.now) (entry_reads c.args.tables.now c.entry.new.self (g.S.Store.disk c.args.store.now) c.entry.ensures.as_held c.entry.ensures.places) t
     c.args.first c.args.count c.args.at c.args.mask.now c.own_part.new.mask c.args.out.now c.own_part.new.out (owned t (ap (λ d. d.told) c.in_ok-word.ensures.stays ∙ told)))
     c.own_part.ensures.owned
 
-pub returns-then-parts-clause-reads : goal.returns-then-parts-clause-reads
-returns-then-parts-clause-reads g c =
+pub returns-in-Marked-clause-reads : goal.returns-in-Marked-clause-reads
+returns-in-Marked-clause-reads g c =
     read_then c.args.tables.now c.entry.new.self c.own_part.new.tables (g.S.Store.disk c.args.store.now)
     (entry_reads c.args.tables.now c.entry.new.self (g.S.Store.disk c.args.store.now) c.entry.ensures.as_held c.entry.ensures.places)
     (subst (HasRead c.entry.new.self c.own_part.new.tables) c.in_ok-word.ensures.stays c.own_part.ensures.reads)
 
-pub returns-then-parts-2-clause-owned : goal.returns-then-parts-2-clause-owned
-returns-then-parts-2-clause-owned g c =
-    ok_then c.take_run-then-parts-2.result
+pub returns-in-Absent-clause-owned : goal.returns-in-Absent-clause-owned
+returns-in-Absent-clause-owned g c =
+    ok_then c.take_run-in-Absent.result
     (λ owned t told.
     let held = held_file c.args.tables.now t in
     let word : table_entry (shape_of c.args.tables.now.parts) held (entry_of (shape_of c.args.tables.now.parts) c.args.first) ≡ c.in_ok-word.word =
     sym (c.in_ok-word.ensures.entry t told ∙ ap (table_entry (shape_of c.args.tables.now.parts) held) c.entry_index.ensures.index) in
     absent_owned c.args.tables.now.parts (seen (file_of t c.args.tables.now.parts.file)) held c.requires.readable.sizes (c.requires.stored t told) c.args.first c.args.count c.requires.on_disk c.requires.run c.place_in-place.result c.args.at c.args.mask.now
-    c.take_run-then-parts-2.new.mask c.args.out.now c.take_run-then-parts-2.new.out (ap (λ w. w % 8) word ∙ c.if-state-eq-NOT_PRESENT.true) c.if-parts-2.true
+    c.take_run-in-Absent.new.mask c.args.out.now c.take_run-in-Absent.new.out (ap (λ w. w % 8) word ∙ (absent c.args.tables.now.parts.parent c.in_ok-word.word _ c.in-Absent.is c.sectors_of.ensures).0) (absent c.args.tables.now.parts.parent c.in_ok-word.word _ c.in-Absent.is c.sectors_of.ensures).1
     (owned t (ap (λ d. d.told) c.in_ok-word.ensures.stays ∙ told)))
-    c.take_run-then-parts-2.ensures.owned
+    c.take_run-in-Absent.ensures.owned
 
-pub returns-clause-owned : goal.returns-clause-owned
-returns-clause-owned g c t told =
+pub returns-in-Zeros-clause-owned : goal.returns-in-Zeros-clause-owned
+returns-in-Zeros-clause-owned g c t told =
     let held = held_file c.args.tables.now t in
     let word : table_entry (shape_of c.args.tables.now.parts) held (entry_of (shape_of c.args.tables.now.parts) c.args.first) ≡ c.in_ok-word.word =
     sym (c.in_ok-word.ensures.entry t told ∙ ap (table_entry (shape_of c.args.tables.now.parts) held) c.entry_index.ensures.index) in
     let state : state_at (shape_of c.args.tables.now.parts) held (entry_of (shape_of c.args.tables.now.parts) c.args.first) ≡ c.in_ok-word.word % 8 = ap (λ w. w % 8) word in
+    let nothing = standing.zeros c.args.tables.now.parts.parent c.in_ok-word.word _ c.in-Zeros.is c.sectors_of.ensures in
     zeros_owned c.args.tables.now.parts (seen (file_of t c.args.tables.now.parts.file)) held c.requires.readable.sizes (c.requires.stored t told) c.args.first c.args.count c.requires.on_disk c.requires.run c.args.at c.args.mask.now
-    c.set_range.new.bits c.args.out.now c.clear.new.out (c.requires.readable.states t told) c.requires.some (λ e. c.if-state-eq-FULLY_PRESENT.false (sym state ∙ e))
-    (λ e. elim c.else-state-eq-PARTLY_PRESENT.branch [ else-state-eq-PARTLY_PRESENT-via-then-state-eq-PARTLY_PRESENT+else-parts w ↦ w.if-parts.false | else-state-eq-PARTLY_PRESENT-via-else-state-eq-PARTLY_PRESENT w ↦ absurd (w.if-state-eq-PARTLY_PRESENT.false (sym state ∙ e)) ])
-    (λ e. elim c.else-state-eq-NOT_PRESENT.branch [ else-state-eq-NOT_PRESENT-via-then-state-eq-NOT_PRESENT+else-parts-2 w ↦ w.if-parts-2.false | else-state-eq-NOT_PRESENT-via-else-state-eq-NOT_PRESENT w ↦ absurd (w.if-state-eq-NOT_PRESENT.false (sym state ∙ e)) ])
+    c.set_range.new.bits c.args.out.now c.clear.new.out (c.requires.readable.states t told) c.requires.some (λ e. nothing.0 (sym state ∙ e)) (λ e. nothing.1 (sym state ∙ e)) (λ e. nothing.2 (sym state ∙ e))
     c.set_range.ensures c.requires.mask c.set_range.auto.bits c.clear.auto.out (c.clear.ensures ∙ ap zeros c.requires.out)
 
 pub own_part-requires-clause-stored : goal.own_part-requires-clause-stored
@@ -76,11 +77,16 @@ own_part-requires-clause-stored g c t told =
     stored_again c.args.tables.now c.entry.new.self (g.S.Store.disk c.args.store.now) (entry_reads c.args.tables.now c.entry.new.self (g.S.Store.disk c.args.store.now) c.entry.ensures.as_held c.entry.ensures.places) c.requires.stored
     t (ap (λ d. d.told) (sym c.in_ok-word.ensures.stays) ∙ told)
 
-pub returns-then-state-eq-FULLY_PRESENT-clause-reads : goal.returns-then-state-eq-FULLY_PRESENT-clause-reads
-returns-then-state-eq-FULLY_PRESENT-clause-reads g c = entry_reads _ _ _ c.entry.ensures.as_held c.entry.ensures.places
+pub returns-in-Here-clause-reads : goal.returns-in-Here-clause-reads
+returns-in-Here-clause-reads g c = entry_reads _ _ _ c.entry.ensures.as_held c.entry.ensures.places
 
-pub returns-then-parts-2-clause-reads : goal.returns-then-parts-2-clause-reads
-returns-then-parts-2-clause-reads g c = entry_reads _ _ _ c.entry.ensures.as_held c.entry.ensures.places
+pub returns-in-Absent-clause-reads : goal.returns-in-Absent-clause-reads
+returns-in-Absent-clause-reads g c = entry_reads _ _ _ c.entry.ensures.as_held c.entry.ensures.places
 
-pub returns-clause-reads : goal.returns-clause-reads
-returns-clause-reads g c = entry_reads _ _ _ c.entry.ensures.as_held c.entry.ensures.places
+pub returns-in-Zeros-clause-reads : goal.returns-in-Zeros-clause-reads
+returns-in-Zeros-clause-reads g c = entry_reads _ _ _ c.entry.ensures.as_held c.entry.ensures.places
+
+pub own_part-requires-clause-parent : goal.own_part-requires-clause-parent
+own_part-requires-clause-parent g c =
+    subst (λ (p : TableParts). p.parent ≡ true) (sym c.entry.ensures.as_held.parts_are)
+    (marked c.args.tables.now.parts.parent c.in_ok-word.word _ c.in-Marked.is c.sectors_of.ensures).1
