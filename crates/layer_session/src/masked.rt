@@ -16,7 +16,7 @@ ghost use Rattle.layer_session.specs.ByLayers.{HasPutMasked, HasWritten, HasWrit
 use crate::file::{Layer, LayerFault};
 use crate::geometry::{block_sectors, block_start, offset_in_block, place_in};
 use crate::planning::{Plan, Step};
-use crate::steps::{FULLY_PRESENT, PARTIALLY_PRESENT};
+use bat_entry::{FULLY_PRESENT, PARTLY_PRESENT};
 use sector_bits::first_run;
 use store_model::Store;
 
@@ -66,7 +66,7 @@ impl Layer {
         let start = block_start(&self.tables.parts, first);
         let sectors = block_sectors(&self.tables.parts);
         self.mark(bitmap, start, sectors, false);
-        self.make_block(store, first, PARTIALLY_PRESENT)
+        self.make_block(store, first, PARTLY_PRESENT)
     }
 
     // Gives the block of these sectors a place as planned, if it has none. Answers where they are to be written. No sector changes.

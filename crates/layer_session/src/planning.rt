@@ -11,6 +11,7 @@ ghost use Rattle.layer_session.specs.Blocks as blocks;
 ghost use Rattle.layer_session.specs.ByTables.{IsLookedBy, WantsAtMost, WhereHeld};
 
 use crate::geometry::{CHUNK, bitmap_entry_index, entry_index, is_whole_block, run_in_block};
+use bat_entry::{BITMAP_PRESENT, FULLY_PRESENT, NOT_PRESENT, PARTLY_PRESENT};
 use sector_bits::are_set;
 use store_model::{Store, StoreFault};
 use table_pages::Tables;
@@ -138,11 +139,11 @@ fn plan_of<S: Store>(
             bitmap: 0,
         });
     }
-    let state = word % 8;
-    if parts.parent && state == 7 {
+    let state = (word % 8) as u32;
+    if parts.parent && state == PARTLY_PRESENT {
         return plan_part(tables, store, word, first, count);
     }
-    if parts.parent && state == 0 {
+    if parts.parent && state == NOT_PRESENT {
         let bitmap = tables.entry(store, bitmap_entry_index(&parts, first))?;
         return Ok(Plan {
             step: Step::MakePart,
@@ -150,7 +151,11 @@ fn plan_of<S: Store>(
             bitmap,
         });
     }
-    let step = if state >= 6 { Step::Write } else { Step::Make };
+    let step = if state >= FULLY_PRESENT {
+        Step::Write
+    } else {
+        Step::Make
+    };
     Ok(Plan {
         step,
         word,
@@ -198,7 +203,9 @@ fn with_plan(plan: Plan, chunk: u64, rest: Wanted) -> Wanted
         Some(found) => found == chunk,
         None => false,
     };
-    let bitmap = plan.step == Step::MakePart && plan.bitmap % 8 != 6 && !later;
+    let bitmap = plan.step == Step::MakePart
+        && (plan.bitmap % 8) as u32 != BITMAP_PRESENT
+        && !later;
     Wanted {
         blocks: rest.blocks + u64::from(made),
         bitmaps: rest.bitmaps + u64::from(bitmap),

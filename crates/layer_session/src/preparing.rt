@@ -26,7 +26,7 @@ use crate::geometry::{
     place_in, run_in_block,
 };
 use crate::planning::{Plan, Step, Wanted, look};
-use bat_entry::{BatEntry, pack};
+use bat_entry::{BITMAP_PRESENT, BatEntry, pack};
 use store_model::{Store, StoreFault};
 use table_pages::{TableParts, Tables};
 use vhdx_format::MEGABYTE;
@@ -445,7 +445,10 @@ impl Layer {
         if let Err(fault) = self.log.grow(store, place_in(unit, MEGABYTE)) {
             return Err(LayerFault::Write(fault));
         }
-        let word = pack(BatEntry { state: 6, unit });
+        let word = pack(BatEntry {
+            state: BITMAP_PRESENT,
+            unit,
+        });
         self.set_entry(store, index, word);
         let from = bits.first % CHUNK;
         let pages = pages_of_bits(from, bits.end - bits.first);

@@ -11,6 +11,7 @@ ghost use Rattle.layer_session.specs.TablesRead.{AreBitsThere, AreReadable, HasR
 ghost use Rattle.layer_session.specs.ByTables.{AddsOwnedBy, HasOwnedBy, HasOwnedMarked, HasOwnedRun, HasStored, LieIn, WhereHeld};
 
 use crate::geometry::{entry_index, offset_in_block, place_in, run_in_block};
+use bat_entry::{FULLY_PRESENT, NOT_PRESENT, PARTLY_PRESENT};
 use sector_bits::{first_run, set_range};
 use store_model::{Store, StoreFault};
 use table_pages::{TableParts, Tables};
@@ -242,14 +243,14 @@ fn own_run<S: Store>(
     let parts = tables.parts;
     let word = tables.entry(store, entry_index(&parts, first))?;
     let place = place_in(word >> 20, offset_in_block(&parts, first));
-    let state = word % 8;
-    if state == 6 {
+    let state = (word % 8) as u32;
+    if state == FULLY_PRESENT {
         return take_run(store, &parts, place, true, count as usize, out, mask, at);
     }
-    if state == 7 && parts.parent {
+    if state == PARTLY_PRESENT && parts.parent {
         return own_part(tables, store, place, first, count, out, mask, at);
     }
-    if state == 0 && parts.parent {
+    if state == NOT_PRESENT && parts.parent {
         return take_run(store, &parts, place, false, count as usize, out, mask, at);
     }
     clear(out);

@@ -23,15 +23,9 @@ use crate::geometry::{
     CHUNK, block_sectors, block_start, block_units, entry_index, offset_in_block, pages_of_bits,
     place_in,
 };
-use bat_entry::{BatEntry, pack};
+use bat_entry::{BatEntry, FULLY_PRESENT, PARTLY_PRESENT, pack};
 use store_model::{Store, StoreFault};
 use vhdx_format::MEGABYTE;
-
-/// The state of a block that is in the file.
-pub const FULLY_PRESENT: u32 = 6;
-
-/// That of one of which the file has the marked sectors alone.
-pub const PARTIALLY_PRESENT: u32 = 7;
 
 impl Layer {
     // A block of which these sectors are all becomes zeros without a place, and leaves its place.
@@ -51,7 +45,7 @@ impl Layer {
     {
         let parts = self.tables.parts;
         let (at, units) = (word >> 20, block_units(&parts));
-        let held = word % 8 >= 6;
+        let held = (word % 8) as u32 >= FULLY_PRESENT;
         self.set_entry(store, entry_index(&parts, first), 2);
         if held && self.space.can_free(at, units) {
             self.space.free_after_commit(at, units);
@@ -164,7 +158,7 @@ impl Layer {
         let start = block_start(&self.tables.parts, first);
         let sectors = block_sectors(&self.tables.parts);
         self.mark(bitmap, start, sectors, false);
-        let place = self.make_block(store, first, PARTIALLY_PRESENT)?;
+        let place = self.make_block(store, first, PARTLY_PRESENT)?;
         self.mark(bitmap, first, count, true);
         Ok(place)
     }

@@ -16,7 +16,7 @@ ghost use Rattle.layer_session.specs.ByLayers.{HasPutBytes, HasPutZeros, HasWrit
 use crate::file::{Layer, LayerFault};
 use crate::geometry::{offset_in_block, place_in, run_in_block};
 use crate::planning::{Plan, Step};
-use crate::steps::FULLY_PRESENT;
+use bat_entry::FULLY_PRESENT;
 use store_model::Store;
 use vhdx_format::MEGABYTE;
 
