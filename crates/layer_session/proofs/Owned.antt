@@ -40,6 +40,13 @@ rest_long z n count total back few whole split =
     let both : z * (n + (count - n)) ≡ z * n + z * (count - n) = mul-add z n (count - n) in
     omega (arith, whole, split, all, both)
 
+-- and what is left ends where all did
+pub rest_inside : (next place z n count len : ℕ) → next ≡ place + z * n → n ≤ count → place + z * count ≤ len → next + z * (count - n) ≤ len
+rest_inside next place z n count len is few within =
+    let all : z * count ≡ z * (n + (count - n)) = ap (λ k. z * k) (let e : count ≡ n + (count - n) = omega (arith, few) in e) in
+    let both : z * (n + (count - n)) ≡ z * n + z * (count - n) = mul-add z n (count - n) in
+    omega (arith, is, within, all, both)
+
 -- where the next run begins
 pub next_place : (next place z n count len : ℕ) → next ≡ min (place + z * n) (2 ^ 64 - 1) → n ≤ count → place + z * count ≤ len → len < 2 ^ 64 → next ≡ place + z * n
 next_place next place z n count len is few within most = let r = rows z n count few in omega (arith, is, r, within, most)

@@ -102,8 +102,7 @@ fn own_marked<S: Store>(
         rest,
         mask,
         at + run.count,
-    )?;
-    Ok(())
+    )
 }
 
 /// Adds what the file has of so many sectors from `first` on to what was found of them: their bytes, and their bits in the
@@ -143,8 +142,7 @@ pub fn own_missing<S: Store>(
         rest,
         mask,
         at + run.count,
-    )?;
-    Ok(())
+    )
 }
 
 // The same of sectors of which all were found, or none.
@@ -173,8 +171,7 @@ fn add_run<S: Store>(
     if found {
         return Ok(());
     }
-    own_all(tables, store, first, count, out, mask, at)?;
-    Ok(())
+    own_all(tables, store, first, count, out, mask, at)
 }
 
 // Which of the sectors from `first` on the file has, as bits of the mask from `at` on, and the bytes of those. The bytes of the
@@ -213,8 +210,7 @@ fn own_all<S: Store>(
         rest,
         mask,
         at + len as usize,
-    )?;
-    Ok(())
+    )
 }
 
 // The same of sectors that lie in one block.
@@ -300,8 +296,7 @@ fn own_part<S: Store>(
         rest,
         mask,
         at + len as usize,
-    )?;
-    Ok(())
+    )
 }
 
 // The same of so many that their bits are read at once.
@@ -348,6 +343,5 @@ fn own_few<S: Store>(
         out,
         mask,
         at,
-    )?;
-    Ok(())
+    )
 }

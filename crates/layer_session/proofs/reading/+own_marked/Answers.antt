@@ -1,13 +1,17 @@
-use Rattle.std.proofs.Common.{◌++◌, List, ℕ, ap, sym, subst, ◌∙◌}
+use Rattle.std.proofs.Common.{◌++◌, List, ℕ, ap, sym, subst, ◌∙◌, ◌≡◌, ◌+◌, ◌-◌, ◌*◌, ◌<◌, arith, length, length-append}
 use Rattle.store_model.specs.File.{seen}
 use Rattle.store_model.specs.Trace.{file_of}
 use Rattle.layer_session.specs.Calls.{HasOwned}
 use Rattle.layer_session.specs.Reading.{marked_layer}
-use Rattle.layer_session.proofs.Owned.{marked_joined, next_place}
+use Rattle.layer_session.proofs.Owned.{marked_joined, next_place, rest_inside, rest_long}
+use Rattle.layer_session.proofs.Parted.{ok_then}
+use Rattle.store_model.specs.Disk.{Disk}
 use Rattle.layer_session.proofs.reading.+own_marked.Goals as goal
 
 pub returns-clause-owned : goal.returns-clause-owned
-returns-clause-owned g n c t told =
+returns-clause-owned g n c =
+    ok_then c.own_marked.result
+    (λ owned t told.
     let file = seen (file_of t c.args.parts.now.file) in
     let z = c.args.parts.now.sector in
     let run = c.first_run-run.result in
@@ -16,4 +20,50 @@ returns-clause-owned g n c t told =
     subst (λ (x : List ℕ). HasOwned (marked_layer c.args.bits.now c.args.skip file c.args.place z) z 0 c.args.count c.args.at c.args.mask.now c.own_marked.new.mask x (c.take_run.new.out ++ c.own_marked.new.out)) (sym piece.value)
     (marked_joined c.args.bits.now file c.args.place c.saturating_add.result z c.args.skip run.count c.args.count c.args.at run.set c.args.mask.now c.take_run.new.mask c.own_marked.new.mask
     c.split_at_mut-piece.result.0.now c.take_run.new.out c.split_at_mut-piece.result.1.now c.own_marked.new.out c.first_run-run.ensures.most c.first_run-run.ensures.same next piece.front_len c.requires.mask
-    (c.in_ok-take_run.ensures.owned t told) (c.in_ok-own_marked.ensures.owned t (ap (λ d. d.told) c.in_ok-take_run.ensures.stays ∙ told)))
+    (c.in_ok-take_run.ensures.owned t told) (owned t (ap (λ d. d.told) c.in_ok-take_run.ensures.stays ∙ told))))
+    c.own_marked.ensures.owned
+
+pub own_marked-requires : goal.own_marked-requires
+own_marked-requires g n c κs within =
+    let run = c.first_run-run.result in
+    let few = c.first_run-run.ensures.most in
+    let z = c.args.parts.now.sector in
+    let piece = c.split_at_mut-piece.ensures in
+    let front = c.split_at_mut-piece.result.0.now in
+    let back = c.split_at_mut-piece.result.1.now in
+    let stays = sym c.in_ok-take_run.ensures.stays in
+    let split : z * run.count + length back ≡ length c.args.out.now = (let v = ap length piece.value in let f = piece.front_len in omega (arith, v, f, length-append front back)) in (
+      omega (arith, few, c.first_run-run.ensures.some),
+      (
+        within.0,
+        (
+          within.1,
+          (
+            subst (λ (d : Disk). c.args.parts.now.file < d.files) stays c.requires.there,
+            (
+              omega (arith, few, c.requires.bits),
+              (
+                omega (arith, few, c.requires.fits),
+                (
+                  rest_long z run.count c.args.count (length c.args.out.now) (length back) few c.requires.out split,
+                  (
+                    omega arith,
+                    (
+                      omega (arith, few, c.requires.ends),
+                      (
+                        λ t told.
+                            let before = ap (λ (d : Disk). d.told) stays ∙ told in
+                            let within = c.requires.inside t before in
+                            rest_inside c.saturating_add.result c.args.place z run.count c.args.count _
+                            (next_place c.saturating_add.result c.args.place z run.count c.args.count _ c.saturating_add.ensures few within (c.requires.small t before)) few within,
+                        λ t told. c.requires.small t (ap (λ (d : Disk). d.told) stays ∙ told),
+                      ),
+                    ),
+                  ),
+                ),
+              ),
+            ),
+          ),
+        ),
+      ),
+    )

@@ -1,7 +1,7 @@
 use Rattle.std.proofs.Common.{◌+◌, ◌-◌, ◌*◌, arith, ap, subst, ◌∙◌}
 use Rattle.layer_session.specs.TablesRead.{HasRead}
 use Rattle.layer_session.proofs.Owned.{adds_rest}
-use Rattle.layer_session.proofs.Parted.{adds_again, reads_rest}
+use Rattle.layer_session.proofs.Parted.{adds_again, reads_rest, ok_then}
 use Rattle.layer_session.proofs.Planned.{read_then}
 use Rattle.layer_session.proofs.reading.+own_missing.Goals as goal
 
@@ -14,16 +14,14 @@ own_missing-requires g n c κs within =
       (within.0, (within.1, (asked.readable, (asked.stored, (asked.on_disk, (asked.long, (omega arith, omega arith))))))),
     )
 
-pub returns-in_err-own_missing-clause-reads : goal.returns-in_err-own_missing-clause-reads
-returns-in_err-own_missing-clause-reads g n c =
-    read_then c.args.tables.now c.add_run.new.tables c.own_missing.new.tables (g.S.Store.disk c.args.store.now) c.add_run.ensures.reads (subst (HasRead c.add_run.new.tables c.own_missing.new.tables) c.in_ok-add_run.ensures.stays c.own_missing.ensures.reads)
-
 pub returns-clause-reads : goal.returns-clause-reads
 returns-clause-reads g n c =
     read_then c.args.tables.now c.add_run.new.tables c.own_missing.new.tables (g.S.Store.disk c.args.store.now) c.add_run.ensures.reads (subst (HasRead c.add_run.new.tables c.own_missing.new.tables) c.in_ok-add_run.ensures.stays c.own_missing.ensures.reads)
 
 pub returns-clause-added : goal.returns-clause-added
-returns-clause-added g n c t told =
+returns-clause-added g n c =
+    ok_then c.own_missing.result
+    (λ added t told.
     let old = c.args.tables.now in
     let new = c.add_run.new.tables in
     let len = c.first_run-run.result.count in
@@ -31,4 +29,5 @@ returns-clause-added g n c t told =
     c.split_at_mut-piece.result.1.now c.own_missing.new.out c.first_run-run.ensures.most c.split_at_mut-piece.ensures.value (c.split_at_mut-piece.ensures.front_len ∙ ap (λ s. s * len) c.from.ensures) c.requires.mask
     (c.in_ok-add_run.ensures.added t told)
     (adds_again old new (g.S.Store.disk c.args.store.now) c.add_run.ensures.reads t (c.args.first + len) (c.args.count - len) (c.args.at + len) c.add_run.new.mask c.own_missing.new.mask c.split_at_mut-piece.result.1.now c.own_missing.new.out
-    (c.in_ok-own_missing.ensures.added t (ap (λ d. d.told) c.in_ok-add_run.ensures.stays ∙ told)))
+    (added t (ap (λ d. d.told) c.in_ok-add_run.ensures.stays ∙ told))))
+    c.own_missing.ensures.added

@@ -9,7 +9,7 @@ use Rattle.layer_session.specs.TablesRead.{AreBitsThere, AreReadable, HasRead}
 use Rattle.layer_session.specs.Keeping.{IsPartAt}
 use Rattle.store_model.specs.Disk.{Disk, WhereTold}
 use Rattle.layer_session.proofs.Owned.{owned_rest, rest_long}
-use Rattle.layer_session.proofs.Parted.{owned_again, part_again, part_front, part_rest, stored_again}
+use Rattle.layer_session.proofs.Parted.{owned_again, part_again, part_front, part_rest, stored_again, ok_then}
 use Rattle.layer_session.proofs.Planned.{bits_there_again, read_again, read_then, same_bitmap}
 use Rattle.layer_session.proofs.reading.+own_part.Goals as goal
 
@@ -79,18 +79,15 @@ own_part-requires g n c κs within =
       ),
     )
 
-pub returns-in_err-own_part-clause-reads : goal.returns-in_err-own_part-clause-reads
-returns-in_err-own_part-clause-reads g n c =
-    read_then c.args.tables.now c.own_few.new.tables c.own_part.new.tables (g.S.Store.disk c.args.store.now) c.own_few.ensures.reads
-    (subst (HasRead c.own_few.new.tables c.own_part.new.tables) c.in_ok-own_few.ensures.stays c.own_part.ensures.reads)
-
 pub returns-clause-reads : goal.returns-clause-reads
 returns-clause-reads g n c =
     read_then c.args.tables.now c.own_few.new.tables c.own_part.new.tables (g.S.Store.disk c.args.store.now) c.own_few.ensures.reads
     (subst (HasRead c.own_few.new.tables c.own_part.new.tables) c.in_ok-own_few.ensures.stays c.own_part.ensures.reads)
 
 pub returns-clause-owned : goal.returns-clause-owned
-returns-clause-owned g n c t told =
+returns-clause-owned g n c =
+    ok_then c.own_part.result
+    (λ owned t told.
     let old = c.args.tables.now in
     let new = c.own_few.new.tables in
     let disk = g.S.Store.disk c.args.store.now in
@@ -99,4 +96,5 @@ returns-clause-owned g n c t told =
     owned_rest _ old.parts.sector c.args.first len c.args.count c.args.at c.args.mask.now c.own_few.new.mask c.own_part.new.mask c.args.out.now c.split_at_mut-piece.result.0.now c.own_few.new.out
     c.split_at_mut-piece.result.1.now c.own_part.new.out few c.split_at_mut-piece.ensures.value (c.split_at_mut-piece.ensures.front_len ∙ ap (λ s. s * len) c.from.ensures) c.requires.mask (c.in_ok-own_few.ensures.owned t told)
     (owned_again old new disk c.own_few.ensures.reads t (c.args.first + len) (c.args.count - len) (c.args.at + len) c.own_few.new.mask c.own_part.new.mask c.split_at_mut-piece.result.1.now c.own_part.new.out
-    (c.in_ok-own_part.ensures.owned t (ap (λ d. d.told) c.in_ok-own_few.ensures.stays ∙ told)))
+    (owned t (ap (λ d. d.told) c.in_ok-own_few.ensures.stays ∙ told))))
+    c.own_part.ensures.owned
