@@ -47,6 +47,7 @@ use Rattle.layer_session.specs.Keeping.{AreBeside, Covers, IsLayerOf, IsNobodys,
 use Rattle.layer_session.proofs.Alike.{AreSizes, block_kept, layer_alike, metadata_alike, numbers_alike, off_range, places_alike, sector_kept, sound_alike}
 use Rattle.layer_session.proofs.Crashes.{IsSafe, in_layer, off_layer, shown}
 use Rattle.layer_session.proofs.Ending.{back_place, safe_under, same_kept, same_place}
+use Rattle.layer_session.proofs.Equal.{false_true, none_some, some_same}
 use Rattle.layer_session.proofs.Numbers.{are_numbers}
 use Rattle.layer_session.proofs.Tests.{is_place, place_from, place_to}
 use Rattle.layer_session.proofs.Under.{numbers_under, under}
@@ -80,7 +81,7 @@ module _ (parts : Parts) (ids : SessionIds) (file : ℕ) (t : Trace) (numbers : 
     long = long;
     committed = record { long = omega arith; numbers = are_read; sound = can.reads.blocks; same = λ i below kept. inr refl };
     covered = record { covers = λ i p. refl; beside = is_kept_place };
-    apart = λ i e. cc;
+    apart = λ i e. absurd (false_true e);
     clean = λ s below e. record { same = sym (in_layer parts F s below); unwritten = λ i st. refl };
     off_disk = λ s above. off_layer parts F s above;
   }
@@ -298,10 +299,10 @@ module _ (parts : Parts) (ids : SessionIds) (file : ℕ) (tables_of : TableParts
       by_told (Some t) (Some u) c r x o = begun_serves parts ids file t u tables_of l numbers (c t refl) made (attached_same file t u o) r (λ any. x any u refl)
 
   one_served : (a b : Option Trace) → WhereBothTold (HasBegun parts ids file l) a b → WhereTold b (λ trace. (placed : Placed) × Serves l trace placed)
-  one_served None None h u e = cc
+  one_served None None h u e = absurd (none_some e)
   one_served None (Some v) h u e = absurd h
-  one_served (Some t) None h u e = cc
-  one_served (Some t) (Some v) h u e = (as_found t file (in_session parts ids), subst (λ (x : Trace). Serves l x (as_found t file (in_session parts ids))) (let same : v ≡ u = cc in same) h)
+  one_served (Some t) None h u e = absurd (none_some e)
+  one_served (Some t) (Some v) h u e = (as_found t file (in_session parts ids), subst (λ (x : Trace). Serves l x (as_found t file (in_session parts ids))) (some_same e) h)
 
   pub begin_ready : file < old.files → new ≡ record old { told = new.told } → l.zeros.items ≡ zeros megabyte → length l.plans.items ≡ 257 → IsReady l new
   begin_ready there counts clear plans =

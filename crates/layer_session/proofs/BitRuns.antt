@@ -155,6 +155,11 @@ plan_here p h plans k first count d some few = slice_get-get_or plans k d (let r
 pub few_here : (p : Shape) → HasSizes p → (k first count n : ℕ) → 0 < count → k + blocks_of p first count ≤ n → k < n
 few_here p h k first count n some few = let r = runs p h first count some in let e = r.few in omega (arith, e, few)
 
+-- and the plans of the rest
+pub few_rest : (p : Shape) → HasSizes p → (k first count len n : ℕ) → 0 < count → len ≡ run_in_block p first count → k + blocks_of p first count ≤ n → k + 1 + blocks_of p (first + len) (count - len) ≤ n
+few_rest p h k first count len n some is few =
+    subst (λ m. k + 1 + blocks_of p (first + m) (count - m) ≤ n) (sym is) (let r = runs p h first count some in let e = r.few in omega (arith, e, few))
+
 set_above : (xs : List Plan) (k i : ℕ) (v : Plan) → k < i → slice_get (set xs k v) i ≡ slice_get xs i
 set_above [] k i v l = refl
 set_above (x ∷ xs) zero zero v l = absurd (omega arith)

@@ -29,6 +29,7 @@ use Rattle.layer_session.proofs.Alike.{layer_alike, numbers_alike, sector_kept, 
 use Rattle.layer_session.proofs.Committed.{IsWhole, held_none, whole_of}
 use Rattle.layer_session.proofs.Committing.{attached_same}
 use Rattle.layer_session.proofs.Ending.{end_kept, end_synced}
+use Rattle.layer_session.proofs.Equal.{none_some, some_same}
 
 -- nothing but headers and log has changed since nothing waited for a commit
 module _ (l : Layer) (t u : Trace) (file : Placed) (serves : Serves l t file) (empty : l.tables.pending ≡ []) (attached : u.attached ≡ t.attached)
@@ -150,10 +151,10 @@ can_read l m old mid new ready ready' parts files closed = record {
   where
     by_told : (a b : Option Trace) → WhereTold a (λ trace. (file : Placed) × Serves l trace file) → WhereBothTold (HasClosed l (record { tables = m.tables })) a b
         → WhereTold b (λ trace. (file : Placed) × IsRead (record { tables = m.tables }) trace file)
-    by_told None None was has t e = let never : ◌≡◌ {A = Option Trace} None (Some t) = e in cc
+    by_told None None was has t e = absurd (none_some e)
     by_told None (Some v) was has t e = absurd has
     by_told (Some u) None was has t e = absurd has
     by_told (Some u) (Some v) was has t e =
-        let same : v ≡ t = cc in
+        let same : v ≡ t = some_same e in
         let here = was u refl in
         (settled here.0, subst (λ (x : Trace). IsRead (record { tables = m.tables }) x (settled here.0)) same (has.reads here.0 here.1))

@@ -1,5 +1,5 @@
 -- A commit.
-use Rattle.std.proofs.Common.{◌≡◌, ℕ, ◌-◌, ◌^◌, ◌≤◌, ◌⊎◌, Bool, false, All, Option, Some, None, [], ◌∷◌, ◌*◌, ◌<◌, List, length, refl, sym, ap, subst, ◌∙◌, arith, inl, inr}
+use Rattle.std.proofs.Common.{◌≡◌, ℕ, ◌-◌, ◌^◌, ◌≤◌, ◌⊎◌, Bool, false, le_of_eq, le_refl, le_trans, All, Option, Some, None, [], ◌∷◌, ◌*◌, ◌<◌, List, length, refl, sym, ap, subst, ◌∙◌, arith, inl, inr}
 use Rattle.vx_base.specs.declared.parts.Header.{Header}
 use Rattle.vx_base.specs.Fields.{zeros}
 use Rattle.vx_base.specs.declared.parts.Parts.{Parts}
@@ -26,6 +26,7 @@ use Rattle.layer_session.proofs.Committed.{committed_then, layer_behind, whole_o
 use Rattle.store_model.specs.Disk.{Disk, WhereBothTold, WhereTold}
 use Rattle.layer_session.specs.Keeping.{IsHeld, IsReady, Serves}
 use Rattle.layer_session.proofs.Crashes.{IsSafe, safe_of, shown}
+use Rattle.layer_session.proofs.Equal.{false_true, none_some, some_same}
 
 module _ (l : Layer) (trace : Trace) (file : Placed) (serves : Serves l trace file) where
   abbrev F : List ℕ
@@ -43,10 +44,10 @@ module _ (l : Layer) (trace : Trace) (file : Placed) (serves : Serves l trace fi
       let safe = safe_of l trace file serves in
       record {
         sizes = safe.sizes;
-        long = let a = safe.long in let b = serves.committed.long in omega (arith, a, b, long_held);
-        committed = record { long = omega arith; numbers = serves.as_held.numbers; sound = serves.as_held.sound; same = λ i below kept. inr refl };
+        long = le_trans (le_trans safe.long serves.committed.long) (le_of_eq (sym long_held));
+        committed = record { long = le_refl _; numbers = serves.as_held.numbers; sound = serves.as_held.sound; same = λ i below kept. inr refl };
         covered = serves.covered_held;
-        apart = λ i h. cc;
+        apart = λ i h. absurd (false_true h);
         clean = λ s below h. record { same = sym (serves.as_held.has.on_disk s below); unwritten = λ i st. refl };
         off_disk = safe.off_disk;
       }
@@ -171,10 +172,10 @@ served_on : (l behind : Layer) (old new : Disk) → WhereTold old.told (λ trace
 served_on l behind old new before has u e = by_told old.told new.told before has e
   where
     by_told : (a b : Option Trace) → WhereTold a (λ trace. (file : Placed) × Serves l trace file) → WhereBothTold (HasCommitted l behind) a b → b ≡ Some u → (file : Placed) × Serves behind u file
-    by_told None None k h e = cc
+    by_told None None k h e = absurd (none_some e)
     by_told None (Some v) k h e = absurd h
-    by_told (Some t) None k h e = cc
-    by_told (Some t) (Some v) k h e = moved (k t refl) h (let m : v ≡ u = cc in m)
+    by_told (Some t) None k h e = absurd (none_some e)
+    by_told (Some t) (Some v) k h e = moved (k t refl) h (some_same e)
       where
         moved : ((file : Placed) × Serves l t file) → HasCommitted l behind t v → v ≡ u → (file : Placed) × Serves behind u file
         moved (file, s) h m = (settled file, subst (λ (x : Trace). Serves behind x (settled file)) m (h.serves file s))

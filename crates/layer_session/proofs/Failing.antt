@@ -29,6 +29,7 @@ use Rattle.layer_session.specs.Calls.{HoldsRest}
 use Rattle.layer_session.specs.Keeping.{IsHeld, IsReadable, IsReady, IsTablePlace, Serves, StandsAt}
 use Rattle.layer_session.proofs.Alike.{layer_alike, numbers_alike, places_stay, sector_kept, sound_alike}
 use Rattle.layer_session.proofs.Committed.{IsWhole, whole_of}
+use Rattle.layer_session.proofs.Equal.{none_some, some_same}
 
 -- a place is in one of the pages or outside all of them
 in_or_out : (n : ℕ) (pages : List Page) (i : ℕ) → All (IsPageIn n) pages → AnyNames (map page_update pages) i ⊎ All (λ (page : Page). IsOutside page.at 4096 i) pages
@@ -152,10 +153,10 @@ module _ (l : Layer) (log : LogState) (old new : Disk) (ready : IsReady l old) (
     by_told : (a b : Option Trace) → WhereTold a (λ trace. (file : Placed) × Serves l trace file)
         → WhereBothTold (λ before after. KeepsBeside l.log l.tables.pending (seen (file_of before l.log.file)) (seen (file_of after l.log.file))) a b
         → WhereTold b (λ trace. (parts : Parts) × ((layer : chain.Layer) × IsHeld (with_log l log) parts layer (seen (file_of trace l.tables.parts.file))))
-    by_told None None r k u e = cc
+    by_told None None r k u e = absurd (none_some e)
     by_told None (Some v) r k u e = absurd k
-    by_told (Some t) None r k u e = cc
+    by_told (Some t) None r k u e = absurd (none_some e)
     by_told (Some t) (Some v) r k u e =
         let s = r t refl in
         let h = one_held t v s.0 s.1 k in
-        subst (λ (x : Trace). (parts : Parts) × ((layer : chain.Layer) × IsHeld (with_log l log) parts layer (seen (file_of x l.tables.parts.file)))) (let same : v ≡ u = cc in same) (h.0, (s.0.member.layer, h.1))
+        subst (λ (x : Trace). (parts : Parts) × ((layer : chain.Layer) × IsHeld (with_log l log) parts layer (seen (file_of x l.tables.parts.file)))) (some_same e) (h.0, (s.0.member.layer, h.1))

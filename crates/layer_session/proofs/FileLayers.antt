@@ -1,5 +1,5 @@
 -- Files of a chain, each in a session or only read.
-use Rattle.std.proofs.Common.{◌≡◌, ◌≢◌, ◌⊎◌, ℕ, List, [], ◌∷◌, map, suc, Some, refl, sym, ap, subst, ◌∙◌, arith}
+use Rattle.std.proofs.Common.{◌≡◌, ◌≢◌, ◌⊎◌, ℕ, List, [], ◌∷◌, map, suc, Some, refl, sym, ap, subst, ◌∙◌, arith, length}
 use Rattle.std.specs.Prelude.{Contains}
 use Rattle.vx_base.specs.declared.parts.Geometry.{Geometry}
 use Rattle.store_model.specs.Disk.{Disk, WhereBothTold}
@@ -22,7 +22,7 @@ use Rattle.layer_session.specs.declared.read_layer.ReadLayer.{ReadLayer}
 use Rattle.layer_session.specs.declared.file_layer.FileLayer.{FileLayer}
 use Rattle.layer_session.specs.declared.file_layer.FileLayer.TheVariants.{Session, Read}
 use Rattle.layer_session.proofs.Owned.{adds_over}
-use Rattle.layer_session.proofs.ReadOnly.{read_layers_stand}
+use Rattle.layer_session.proofs.ReadOnly.{read_layers_stand, adds_nothing}
 use Rattle.layer_session.proofs.Standing.{layers_stand}
 use Rattle.layer_session.proofs.Told.{both_map}
 
@@ -91,6 +91,12 @@ pub held_through : (upper : FileLayer) (below : List FileLayer) (t : Trace) (eac
     → AddsOwned (chain.through each) z first count at m0 m2 a c
 held_through upper below t [] z first count at m0 m1 m2 a b c one two h = absurd h
 held_through upper below t (layer ∷ each) z first count at m0 m1 m2 a b c one two h = adds_over layer (chain.through each) z first count at m0 m1 m2 a b c (one layer h.0) (two each h.1)
+
+-- no file adds anything
+pub none_held : (layers : List FileLayer) (t : Trace) (each : List chain.Layer) (z first count at : ℕ) (mask bytes : List ℕ) → length layers ≡ 0 → Hold layers t each → AddsOwned (chain.through each) z first count at mask mask bytes bytes
+none_held [] t [] z first count at mask bytes none h = adds_nothing z first count at mask bytes
+none_held [] t (one ∷ each) z first count at mask bytes none h = absurd h
+none_held (layer ∷ layers) t each z first count at mask bytes none h = absurd (omega (arith, none))
 
 -- files that are served are held
 pub have_hold : (layers : List FileLayer) (trace : Trace) (files : List Placed) → HaveFiles layers trace files → Hold layers trace (layers_of (members_of files))

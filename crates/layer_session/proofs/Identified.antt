@@ -38,6 +38,7 @@ use Rattle.layer_session.proofs.Committed.{IsWhole, whole_of}
 use Rattle.layer_session.proofs.Committing.{attached_same, ready_from}
 use Rattle.layer_session.proofs.Crashes.{IsSafe, safe_of, shown}
 use Rattle.layer_session.proofs.Ending.{back_place, safe_under, same_kept, same_place, same_taken}
+use Rattle.layer_session.proofs.Equal.{none_some, some_same}
 use Rattle.layer_session.proofs.Failing.{with_log}
 use Rattle.layer_session.proofs.Under.{numbers_under, under}
 
@@ -303,12 +304,12 @@ module _ (l : Layer) (id : List ℕ) (old new : Disk) (one_file : l.log.file ≡
   served_on before has u e = by_told old.told new.told before has e
     where
       by_told : (a b : Option Trace) → WhereTold a (λ trace. (file : Placed) × Serves l trace file) → WhereBothTold (HasIdentified l behind id) a b → b ≡ Some u → (file : Placed) × Serves behind u file
-      by_told None None k h e = cc
+      by_told None None k h e = absurd (none_some e)
       by_told None (Some v) k h e = absurd h
-      by_told (Some t) None k h e = cc
+      by_told (Some t) None k h e = absurd (none_some e)
       by_told (Some t) (Some v) k h e =
           let x = k t refl in
-          let m : v ≡ u = cc in
+          let m : v ≡ u = some_same e in
           (identified id x.0, subst (λ (y : Trace). Serves behind y (identified id x.0)) m (h.serves x.0 x.1))
 
   identify_ready : IsReady l old → new ≡ record old { told = new.told } → WhereBothTold (HasIdentified l behind id) old.told new.told → IsReady behind new
@@ -354,13 +355,13 @@ module _ (l : Layer) (old new : Disk) (ready : IsReady l old) (rest : OfReads l.
   } where
     by_told : (a b : Option Trace) → WhereTold a (λ trace. (file : Placed) × Serves l trace file) → OfReads l.log.file (KeepsRest l.log.header) a b
         → WhereTold b (λ trace. (parts : Parts) × ((layer : chain.Layer) × IsHeld l parts layer (seen (file_of trace l.tables.parts.file))))
-    by_told None None r k u e = cc
+    by_told None None r k u e = absurd (none_some e)
     by_told None (Some v) r k u e = absurd k
-    by_told (Some t) None r k u e = cc
+    by_told (Some t) None r k u e = absurd (none_some e)
     by_told (Some t) (Some v) r k u e =
         let s = r t refl in
         let h = one_held t v s.0 s.1 k in
-        subst (λ (x : Trace). (parts : Parts) × ((layer : chain.Layer) × IsHeld l parts layer (seen (file_of x l.tables.parts.file)))) (let same : v ≡ u = cc in same) (h.0, (s.0.member.layer, h.1))
+        subst (λ (x : Trace). (parts : Parts) × ((layer : chain.Layer) × IsHeld l parts layer (seen (file_of x l.tables.parts.file)))) (some_same e) (h.0, (s.0.member.layer, h.1))
 
   pub broken_by : (log : LogState) (result : Result (Unit {0}) StoreFault) → IfErr result (λ fault. log ≡ l.log) → IfErr result (FailsToChange l.log.file old new)
       → OnErr result (IsReadable (with_log l log) new × WhereBothTold (HoldsRest l (with_log l log) 0 0) old.told new.told)

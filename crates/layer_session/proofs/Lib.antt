@@ -1,3 +1,4 @@
+pub mod Equal
 pub mod Sectors
 pub mod Numbers
 pub mod Alike

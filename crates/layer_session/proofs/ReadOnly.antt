@@ -1,5 +1,5 @@
 -- Files of a chain that are only read.
-use Rattle.std.proofs.Common.{◌≡◌, ℕ, ◌+◌, ◌^◌, ◌<◌, ◌≤◌, List, [], ◌∷◌, length, suc, Some, refl, sym, ap, subst, ◌∙◌, arith}
+use Rattle.std.proofs.Common.{◌≡◌, ℕ, ◌+◌, ◌^◌, ◌<◌, ◌≤◌, List, [], ◌∷◌, length, suc, Some, refl, sym, ap, subst, ◌∙◌, arith, None}
 use Rattle.std.specs.Prelude.{Contains, Err, IfErr, Ok, Result, slice_index_or}
 use Rattle.vx_base.specs.declared.parts.Geometry.{Geometry}
 use Rattle.vx_base.specs.declared.parts.Header.{Header}
@@ -33,6 +33,7 @@ use Rattle.layer_session.proofs.Numbers.{are_numbers}
 use Rattle.layer_session.proofs.Owned.{adds_over}
 use Rattle.layer_session.proofs.Readable.{HoldsOne, holds_again}
 use Rattle.layer_session.proofs.Standing.{same_length, told_beside}
+use Rattle.layer_session.proofs.Equal.{none_some}
 
 -- ---- a new layer
 
@@ -154,6 +155,23 @@ pub adds_through : (upper : ReadLayer) (below : List ReadLayer) (t : Trace) (fil
     → AddsOwned (chain.through (layers_of (members_of files))) z first count at m0 m2 a c
 adds_through upper below t [] z first count at m0 m1 m2 a b c one two h = absurd h
 adds_through upper below t (file ∷ files) z first count at m0 m1 m2 a b c one two h = adds_over file.member.layer (chain.through (layers_of (members_of files))) z first count at m0 m1 m2 a b c (one file h.0) (two files h.1)
+
+-- no file adds anything
+pub adds_nothing : (z first count at : ℕ) (mask bytes : List ℕ) → AddsOwned (λ s. None) z first count at mask mask bytes bytes
+adds_nothing z first count at mask bytes = record {
+  found = λ i below on. (on, refl);
+  owned = λ i owned below off is. absurd (none_some is);
+  others = λ i below off is. (off, refl);
+  rest = λ k below out. refl;
+  mask_len = refl;
+  len = refl;
+}
+
+pub none_read : (layers : List ReadLayer) (t : Trace) (files : List Placed) (z first count at : ℕ) (mask bytes : List ℕ) → length layers ≡ 0 → AreRead layers t files
+    → AddsOwned (chain.through (layers_of (members_of files))) z first count at mask mask bytes bytes
+none_read [] t [] z first count at mask bytes none h = adds_nothing z first count at mask bytes
+none_read [] t (file ∷ files) z first count at mask bytes none h = absurd h
+none_read (layer ∷ layers) t files z first count at mask bytes none h = absurd (omega (arith, none))
 
 -- a fault names the file whose read failed
 pub some_failed : (file : ℕ) (old new : Disk) (result : Result (Unit {0}) StoreFault) → file < old.files → IfErr result (ReadFailed file old new) → IfErr result (SomeReadFailed old new)

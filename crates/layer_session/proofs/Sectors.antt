@@ -47,3 +47,7 @@ in_block s sector block sized of_block = by_sector (sector_cases sector sized)
     by_sector (inr e) =
         let b = block_power block of_block in
         rw e (large (2 ^ (8 + b.power)) (b.is ∙ ap (λ n. 2 ^ n) (let same : 20 + b.power ≡ 8 + b.power + 12 = omega arith in same) ∙ pow-add 2 (8 + b.power) 12))
+
+-- the first of some sectors on a disk is on it
+pub first_below : (first count sectors : ℕ) → 0 < count → first + count ≤ sectors → first < sectors
+first_below first count sectors some on_disk = omega (arith, some, on_disk)

@@ -1,6 +1,6 @@
 -- Where sectors of one block are to be written, once the block has a place.
 use Rattle.std.proofs.Common.{◌≡◌, ℕ, ◌+◌, ◌-◌, ◌*◌, ◌/◌, ◌%◌, ◌^◌, ◌<◌, ◌≤◌, ◌⊎◌, Bool, true, false, List, length, Option, Some, refl, sym, ap, subst, ◌∙◌, arith, inl, inr, mul_comm}
-use Rattle.std.proofs.Math.Nat.{add-mul}
+use Rattle.std.proofs.Math.Nat.{add-mul, mul-le-mul_right}
 use Rattle.std.proofs.lemmas.Bool.{cases_lt}
 use Rattle.std.proofs.lemmas.Nat.{le-div, mod_below}
 use Rattle.vx_base.specs.Fields.{zeros}
@@ -269,3 +269,19 @@ spots_then l mid new marks a b c parts one two = both_then (KeepsSpots l mid mar
   spots = λ first n spot m any high is. subst (λ (p : TableParts). IsSpot (table_words.shape_of p) (held_by new v) first n spot) parts
       (r.spots first n spot m any (subst (λ (p : TableParts). first + n ≤ p.sectors) (sym parts) high) (subst (λ (p : TableParts). IsSpot (table_words.shape_of p) (held_by mid u) first n spot) (sym parts) (k.spots first n spot m any high is)));
 })
+
+-- fewer sectors of a spot stand there too
+pub spot_less : (p : Shape) (file : List ℕ) (first count n : ℕ) (spot : Spot) → 0 < n → n ≤ count → IsSpot p file first count spot → IsSpot p file first n spot
+spot_less p file first count n spot some fits is = record {
+  whole = λ off.
+      let run = is.whole off in
+      let less : n * p.sector ≤ count * p.sector = mul-le-mul_right p.sector fits in
+      record {
+        some = some;
+        run = omega (arith, less, run.run);
+        there = run.there;
+        place_is = run.place_is;
+        marked = λ s from to. run.marked s from (omega (arith, to, fits));
+      };
+  part = is.part;
+}

@@ -28,6 +28,7 @@ use Rattle.layer_session.specs.Keeping.{IsHeld, IsReadable, IsReady, Serves}
 use Rattle.layer_session.specs.Updating.{HasUpdated, Turns, TurnsInto, UpdatesOver, turned}
 use Rattle.layer_session.proofs.Committed.{committed_then, layer_behind}
 use Rattle.layer_session.proofs.Committing.{attached_same, ready_from, same_file, same_len}
+use Rattle.layer_session.proofs.Equal.{none_some, some_same}
 use Rattle.layer_session.proofs.Numbers.{named_as}
 use Rattle.layer_session.proofs.Failing.{held_still, same_log, with_log}
 use Rattle.layer_session.proofs.Updated.{can_update, lie_in_file, pages_of_tables, turns_each, updates_over, whole_now, with_changed}
@@ -101,12 +102,12 @@ module _ (l : Layer) (pages : List Page) (old new : Disk) (one_file : l.log.file
     served_on turns has u e = by_told old.told new.told turns has e
       where
         by_told : (a b : Option Trace) → WhereTold a (Turns l pages) → WhereBothTold (HasUpdated l behind pages) a b → b ≡ Some u → (file : Placed) × Serves behind u file
-        by_told None None k h e = cc
+        by_told None None k h e = absurd (none_some e)
         by_told None (Some v) k h e = absurd h
-        by_told (Some t) None k h e = cc
+        by_told (Some t) None k h e = absurd (none_some e)
         by_told (Some t) (Some v) k h e =
             let x = k t refl in
-            let m : v ≡ u = cc in
+            let m : v ≡ u = some_same e in
             (turned x.ties x.region x.file, subst (λ (y : Trace). Serves behind y (turned x.ties x.region x.file)) m (h.serves x.file x.ties x.region x.serves x.into))
 
     pub update_ready : IsReady l old → WhereTold old.told (Turns l pages) → new ≡ record old { told = new.told } → WhereBothTold (HasUpdated l behind pages) old.told new.told → IsReady behind new
@@ -153,13 +154,13 @@ module _ (l : Layer) (pages : List Page) (old new : Disk) (one_file : l.log.file
       } where
         by_told : (a b : Option Trace) → WhereTold a (Turns l pages) → WhereBothTold (λ before after. KeepsBeside l.log pages (seen (file_of before l.log.file)) (seen (file_of after l.log.file))) a b
             → WhereTold b (λ trace. (parts : Parts) × ((layer : chain.Layer) × IsHeld then parts layer (seen (file_of trace l.tables.parts.file))))
-        by_told None None r k u e = cc
+        by_told None None r k u e = absurd (none_some e)
         by_told None (Some v) r k u e = absurd k
-        by_told (Some t) None r k u e = cc
+        by_told (Some t) None r k u e = absurd (none_some e)
         by_told (Some t) (Some v) r k u e =
             let x = r t refl in
             let h = one_held t v x.file x x.serves k in
-            subst (λ (y : Trace). (parts : Parts) × ((layer : chain.Layer) × IsHeld then parts layer (seen (file_of y l.tables.parts.file)))) (let same : v ≡ u = cc in same) (h.0, (x.file.member.layer, h.1))
+            subst (λ (y : Trace). (parts : Parts) × ((layer : chain.Layer) × IsHeld then parts layer (seen (file_of y l.tables.parts.file)))) (some_same e) (h.0, (x.file.member.layer, h.1))
 
 -- ---- tables with the pages among the changed ones, and what a commit of them leaves
 

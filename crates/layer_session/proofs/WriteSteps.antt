@@ -21,6 +21,7 @@ use Rattle.layer_session.specs.Keeping.{IsHeld, IsReadable, IsReady, Serves}
 use Rattle.layer_session.specs.Steps.{StandFrom}
 use Rattle.layer_session.proofs.Allocating.{grown_shows}
 use Rattle.layer_session.proofs.Crashes.{layers_are_kept}
+use Rattle.layer_session.proofs.Equal.{none_some, some_same, true_false}
 use Rattle.layer_session.proofs.Payload.{inside}
 use Rattle.layer_session.proofs.Written.{whole_of, writes_are_served}
 use Rattle.store_model.specs.Plans.{FailsToChange}
@@ -40,7 +41,7 @@ module _ (l : Layer) (first count place : ℕ) (bytes : List ℕ) (whole : lengt
   more file s h = by_test (file.is_loose s) h
     where
       by_test : (b : Bool) → (b || is_among first count s) ≡ false → b ≡ false
-      by_test true e = cc
+      by_test true e = absurd (true_false e)
       by_test false e = refl
 
   abbrev wide : Placed → Placed
@@ -199,13 +200,13 @@ module _ (l : Layer) (first count place : ℕ) (bytes : List ℕ) (whole : lengt
         subst (λ k. HoldsRest l l first count t (with_change k (Tear place bytes left) t)) (sym one_file) (record { holds = λ file s. torn_held t file s (from t refl) left long })
 
     on_told : (a b : Option Trace) → WhereTold a (λ t. (file : Placed) × Serves l t file) → WhereBothTold (HoldsRest l l first count) a b → WhereTold b (λ t. (parts : Parts) × ((layer : chain.Layer) × IsHeld l parts layer (seen (file_of t l.tables.parts.file))))
-    on_told None None r h u e = cc
+    on_told None None r h u e = absurd (none_some e)
     on_told None (Some v) r h u e = absurd h
-    on_told (Some t) None r h u e = cc
+    on_told (Some t) None r h u e = absurd (none_some e)
     on_told (Some t) (Some v) r h u e =
         let s = r t refl in
         let k = h.holds s.0 s.1 in
-        subst (λ (x : Trace). (parts : Parts) × ((layer : chain.Layer) × IsHeld l parts layer (seen (file_of x l.tables.parts.file)))) (let same : v ≡ u = cc in same) (k.0, (k.1.0, k.1.1))
+        subst (λ (x : Trace). (parts : Parts) × ((layer : chain.Layer) × IsHeld l parts layer (seen (file_of x l.tables.parts.file)))) (some_same e) (k.0, (k.1.0, k.1.1))
 
     pub write_broken : IsReadable l new × WhereBothTold (HoldsRest l l first count) old.told new.told
     write_broken =

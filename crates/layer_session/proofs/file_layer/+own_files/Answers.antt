@@ -4,7 +4,7 @@ use Rattle.layer_session.specs.FileLayers.{AreReadableFiles, AreSameFiles, Hold,
 use Rattle.layer_session.specs.declared.file_layer.FileLayer.{FileLayer}
 use Rattle.chain_model.specs.Images.{members_of}
 use Rattle.chain_model.specs.Members.{layers_of}
-use Rattle.layer_session.proofs.FileLayers.{each_same, first_file, have_hold, held_through, later_file, none_same}
+use Rattle.layer_session.proofs.FileLayers.{each_same, first_file, have_hold, held_through, later_file, none_same, none_held}
 use Rattle.layer_session.proofs.Parted.{ok_then}
 use Rattle.layer_session.proofs.ReadOnly.{err_then}
 use Rattle.layer_session.proofs.Told.{if_err}
@@ -58,3 +58,9 @@ returns-in_err-own-clause-whose g t c =
 
 pub returns-clause-owned : goal.returns-clause-owned
 returns-clause-owned g t c = ok_then c.own_files.result (λ held files trace told h. held (layers_of (members_of files)) trace told (have_hold c.args.layers.now trace files h)) (returns-clause-held g t c)
+
+pub returns-in_default-clause-held : goal.returns-in_default-clause-held
+returns-in_default-clause-held g t c each trace told held = none_held c.args.layers.now trace each c.args.geometry.sector c.args.first c.args.count c.args.at c.args.mask.now c.args.out.now c.in_default.ensures.cases held
+
+pub returns-in_default-clause-owned : goal.returns-in_default-clause-owned
+returns-in_default-clause-owned g t c files trace told held = returns-in_default-clause-held g t c (layers_of (members_of files)) trace told (have_hold c.args.layers.now trace files held)

@@ -2,7 +2,8 @@ use Rattle.std.proofs.Common.{get_or, arith}
 use Rattle.table_pages.specs.Held.{shape_of}
 use Rattle.layer_session.specs.Bringing.{SetsEntry}
 use Rattle.layer_session.specs.Planning.{none}
-use Rattle.layer_session.proofs.BitRuns.{none_yet, plan_here, run_more}
+use Rattle.layer_session.proofs.BitRuns.{none_yet, plan_here, run_more, few_rest}
+use Rattle.vhdx_format.specs.Layers.{HasSizes}
 use Rattle.layer_session.proofs.preparing.+set_entries.Goals as goal
 
 pub returns-then-count-eq0-clause-none : goal.returns-then-count-eq0-clause-none
@@ -28,3 +29,8 @@ returns-else-sets_entry-clause-none t c e =
     run_more (shape_of c.args.parts.now) c.args.plans.now (λ s n plan. SetsEntry plan → ⊥) c.args.k c.args.first c.args.count c.run_in_block-len.result (get_or c.args.plans.now c.args.k none_yet) (omega arith) c.run_in_block-len.ensures.is
     (plan_here (shape_of c.args.parts.now) (record { sector = c.requires.sizes.sector; block = c.requires.sizes.block }) c.args.plans.now c.args.k c.args.first c.args.count none_yet (omega arith) c.requires.few)
     (c.sets_entry.ensures c.if-sets_entry.false) (c.set_entries-rest.ensures.none e)
+
+pub set_entries-rest-requires : goal.set_entries-rest-requires
+set_entries-rest-requires t c =
+    let h : HasSizes (shape_of c.args.parts.now) = record { sector = c.requires.sizes.sector; block = c.requires.sizes.block } in
+    (omega arith, (c.requires.sizes, (omega (arith, c.run_in_block-len.ensures.most, c.requires.on_disk), few_rest (shape_of c.args.parts.now) h c.args.k c.args.first c.args.count c.run_in_block-len.result _ (omega arith) c.run_in_block-len.ensures.is c.requires.few)))

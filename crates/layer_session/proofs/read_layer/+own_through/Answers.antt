@@ -3,7 +3,7 @@ use Rattle.layer_session.specs.Calls.{AddsOwned}
 use Rattle.layer_session.specs.ReadOnly.{AreRead, AreReadable, AreSameRead, numbers_of}
 use Rattle.layer_session.specs.declared.read_layer.ReadLayer.{ReadLayer}
 use Rattle.layer_session.proofs.Parted.{ok_then}
-use Rattle.layer_session.proofs.ReadOnly.{adds_through, err_then, later_number, same_each, same_none}
+use Rattle.layer_session.proofs.ReadOnly.{adds_through, err_then, later_number, same_each, same_none, none_read}
 use Rattle.layer_session.proofs.read_layer.+own_through.Goals as goal
 
 pub returns-clause-owned : goal.returns-clause-owned
@@ -44,3 +44,6 @@ returns-clause-whose g t c =
     let below = c.in-Some.below.now in
     subst (λ (layers : List ReadLayer). IfErr c.own_through.result (λ fault. Contains (numbers_of layers) fault.file)) (sym c.in-Some.ensures.cases.0)
     (err_then (λ fault. Contains (numbers_of below) fault.file) (λ fault. Contains (numbers_of (upper ∷ below)) fault.file) c.own_through.result (λ fault h. later_number upper below fault.file h) c.own_through.ensures.whose)
+
+pub returns-in_default-clause-owned : goal.returns-in_default-clause-owned
+returns-in_default-clause-owned g t c files trace told read = none_read c.args.layers.now trace files c.args.geometry.sector c.args.first c.args.count c.args.at c.args.mask.now c.args.out.now c.in_default.ensures.cases read

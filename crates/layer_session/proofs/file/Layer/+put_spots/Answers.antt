@@ -1,4 +1,4 @@
-use Rattle.std.proofs.Common.{◌≡◌, ◌+◌, ◌-◌, ◌*◌, ◌%◌, ◌<◌, ◌≤◌, ℕ, Bool, true, false, arith, rules, refl, sym, subst, ap, ◌∙◌, length, take, drop}
+use Rattle.std.proofs.Common.{◌≡◌, ◌+◌, ◌-◌, ◌*◌, ◌%◌, ◌<◌, ◌≤◌, ℕ, Bool, true, false, arith, rules, refl, sym, subst, ap, ◌∙◌, length, take, drop, lt_of_lt_of_le}
 use Rattle.std.specs.Prelude.{OnOk, IfErr}
 use Rattle.vhdx_format.specs.SectorBitmaps.{bit_of, bit_value}
 use Rattle.vhdx_format.specs.Layers.{HasSizes}
@@ -10,9 +10,11 @@ use Rattle.layer_session.specs.declared.masked.Spot.{Spot}
 use Rattle.layer_session.specs.Masked.{HasMarkPages, IsBrokenNamed, IsDoneNamed, PutsNamed, is_masked, with_masked}
 use Rattle.layer_session.proofs.Masking.{keeps_named, masked_kept, masked_nobody, nothing_named, range_broken, range_named, skip_layer, skip_test, spots_broken, spots_done, spots_moments}
 use Rattle.layer_session.proofs.Readying.{quiet_now}
-use Rattle.layer_session.proofs.Spots.{in_chunk, next_kept, next_spot, pages_of, pages_stay, rest_fits, spot_low_part}
+use Rattle.layer_session.proofs.Spots.{in_chunk, next_kept, next_spot, pages_of, pages_stay, rest_fits, spot_low_part, spot_less}
 use Rattle.layer_session.proofs.Told.{if_err, if_err_map, ok_map}
 use Rattle.layer_session.proofs.Zeroing.{back_whole}
+use Rattle.layer_session.specs.Steps.{held_by}
+use Rattle.layer_session.proofs.Equal.{not_is_false, not_is_true}
 use Rattle.layer_session.proofs.file.Layer.+put_spots.Goals as goal
 
 pub returns-then-count-eq0-clause-moments : goal.returns-then-count-eq0-clause-moments
@@ -82,7 +84,7 @@ returns-then-not-run-clause-moments g t c =
     let back_is : c.split_at.result.1.now ≡ drop (c.args.self.now.tables.parts.sector * n) c.args.bytes.now = c.split_at.ensures.back ∙ ap (λ k. drop k c.args.bytes.now) (ap (λ x. x * n) c.from.ensures) in
     let front_is : c.split_at.result.0.now ≡ take (c.args.self.now.tables.parts.sector * n) c.args.bytes.now = c.split_at.ensures.front ∙ ap (λ k. take k c.args.bytes.now) (ap (λ x. x * n) c.from.ensures) in
     let fits : n ≤ c.args.count = c.first_run-run.ensures.most in
-    let off : c.first_run-run.result.set ≡ false = search rules in
+    let off : c.first_run-run.result.set ≡ false = not_is_true c.if-not-run.true in
     let clear : (i : ℕ) → c.args.at ≤ i → i < c.args.at + n → bit_of c.args.mask.now i ≡ 0 = λ i a b. c.first_run-run.ensures.same i a b ∙ ap bit_value off in
     subst (λ (m : ℕ → Bool). WhereBothTold (PutsNamed c.args.self.now m) (g.S.Store.disk c.args.store.now).told (g.S.Store.disk c.put_spots.new.store).told) (skip_test c.args.first n c.args.count c.args.at c.args.mask.now fits clear) c.put_spots.ensures.moments
 
@@ -93,7 +95,7 @@ returns-then-not-run-clause-done g t c =
     let back_is : c.split_at.result.1.now ≡ drop (c.args.self.now.tables.parts.sector * n) c.args.bytes.now = c.split_at.ensures.back ∙ ap (λ k. drop k c.args.bytes.now) (ap (λ x. x * n) c.from.ensures) in
     let front_is : c.split_at.result.0.now ≡ take (c.args.self.now.tables.parts.sector * n) c.args.bytes.now = c.split_at.ensures.front ∙ ap (λ k. take k c.args.bytes.now) (ap (λ x. x * n) c.from.ensures) in
     let fits : n ≤ c.args.count = c.first_run-run.ensures.most in
-    let off : c.first_run-run.result.set ≡ false = search rules in
+    let off : c.first_run-run.result.set ≡ false = not_is_true c.if-not-run.true in
     let clear : (i : ℕ) → c.args.at ≤ i → i < c.args.at + n → bit_of c.args.mask.now i ≡ 0 = λ i a b. c.first_run-run.ensures.same i a b ∙ ap bit_value off in
     subst (λ (f : chain.Layer → chain.Layer). OnOk c.put_spots.result (IsDoneNamed c.args.self.now c.put_spots.new.self (is_masked c.args.first c.args.count c.args.at c.args.mask.now) f (g.S.Store.disk c.args.store.now) (g.S.Store.disk c.put_spots.new.store)))
     (skip_layer c.args.self.now.tables.parts.sector c.args.first n c.args.count c.args.at c.args.mask.now c.args.bytes.now c.split_at.result.1.now fits c.requires.whole back_is clear)
@@ -107,7 +109,7 @@ returns-then-not-run-clause-broken g t c =
     let back_is : c.split_at.result.1.now ≡ drop (c.args.self.now.tables.parts.sector * n) c.args.bytes.now = c.split_at.ensures.back ∙ ap (λ k. drop k c.args.bytes.now) (ap (λ x. x * n) c.from.ensures) in
     let front_is : c.split_at.result.0.now ≡ take (c.args.self.now.tables.parts.sector * n) c.args.bytes.now = c.split_at.ensures.front ∙ ap (λ k. take k c.args.bytes.now) (ap (λ x. x * n) c.from.ensures) in
     let fits : n ≤ c.args.count = c.first_run-run.ensures.most in
-    let off : c.first_run-run.result.set ≡ false = search rules in
+    let off : c.first_run-run.result.set ≡ false = not_is_true c.if-not-run.true in
     let clear : (i : ℕ) → c.args.at ≤ i → i < c.args.at + n → bit_of c.args.mask.now i ≡ 0 = λ i a b. c.first_run-run.ensures.same i a b ∙ ap bit_value off in
     subst (λ (m : ℕ → Bool). IfErr c.put_spots.result (IsBrokenNamed c.args.self.now c.put_spots.new.self m (g.S.Store.disk c.args.store.now) (g.S.Store.disk c.put_spots.new.store))) (skip_test c.args.first n c.args.count c.args.at c.args.mask.now fits clear) c.put_spots.ensures.broken
 
@@ -118,7 +120,7 @@ returns-in_err-put_spot-clause-moments g t c =
     let back_is : c.split_at.result.1.now ≡ drop (c.args.self.now.tables.parts.sector * n) c.args.bytes.now = c.split_at.ensures.back ∙ ap (λ k. drop k c.args.bytes.now) (ap (λ x. x * n) c.from.ensures) in
     let front_is : c.split_at.result.0.now ≡ take (c.args.self.now.tables.parts.sector * n) c.args.bytes.now = c.split_at.ensures.front ∙ ap (λ k. take k c.args.bytes.now) (ap (λ x. x * n) c.from.ensures) in
     let fits : n ≤ c.args.count = c.first_run-run.ensures.most in
-    let on : c.first_run-run.result.set ≡ true = search rules in
+    let on : c.first_run-run.result.set ≡ true = not_is_false c.if-not-run.false in
     let set : (i : ℕ) → c.args.at ≤ i → i < c.args.at + n → bit_of c.args.mask.now i ≡ 1 = λ i a b. c.first_run-run.ensures.same i a b ∙ ap bit_value on in
     range_named c.args.self.now c.args.first n c.args.count c.args.at c.args.mask.now fits set (g.S.Store.disk c.args.store.now).told (g.S.Store.disk c.put_spot.new.store).told c.put_spot.ensures.moments
 
@@ -129,7 +131,7 @@ returns-in_err-put_spot-clause-broken g t c =
     let back_is : c.split_at.result.1.now ≡ drop (c.args.self.now.tables.parts.sector * n) c.args.bytes.now = c.split_at.ensures.back ∙ ap (λ k. drop k c.args.bytes.now) (ap (λ x. x * n) c.from.ensures) in
     let front_is : c.split_at.result.0.now ≡ take (c.args.self.now.tables.parts.sector * n) c.args.bytes.now = c.split_at.ensures.front ∙ ap (λ k. take k c.args.bytes.now) (ap (λ x. x * n) c.from.ensures) in
     let fits : n ≤ c.args.count = c.first_run-run.ensures.most in
-    let on : c.first_run-run.result.set ≡ true = search rules in
+    let on : c.first_run-run.result.set ≡ true = not_is_false c.if-not-run.false in
     let set : (i : ℕ) → c.args.at ≤ i → i < c.args.at + n → bit_of c.args.mask.now i ≡ 1 = λ i a b. c.first_run-run.ensures.same i a b ∙ ap bit_value on in
     if_err c.from_residual.result c.in_err-put_spot.field-0.0 _ (search rules)
     (range_broken c.args.self.now c.put_spot.new.self c.args.first n c.args.count c.args.at c.args.mask.now fits set (g.S.Store.disk c.args.store.now) (g.S.Store.disk c.put_spot.new.store) c.in_err-put_spot.field-0.0 c.in_err-put_spot.ensures.broken)
@@ -191,7 +193,7 @@ returns-clause-moments g t c =
     let back_is : c.split_at.result.1.now ≡ drop (c.args.self.now.tables.parts.sector * n) c.args.bytes.now = c.split_at.ensures.back ∙ ap (λ k. drop k c.args.bytes.now) (ap (λ x. x * n) c.from.ensures) in
     let front_is : c.split_at.result.0.now ≡ take (c.args.self.now.tables.parts.sector * n) c.args.bytes.now = c.split_at.ensures.front ∙ ap (λ k. take k c.args.bytes.now) (ap (λ x. x * n) c.from.ensures) in
     let fits : n ≤ c.args.count = c.first_run-run.ensures.most in
-    let on : c.first_run-run.result.set ≡ true = search rules in
+    let on : c.first_run-run.result.set ≡ true = not_is_false c.if-not-run.false in
     let set : (i : ℕ) → c.args.at ≤ i → i < c.args.at + n → bit_of c.args.mask.now i ≡ 1 = λ i a b. c.first_run-run.ensures.same i a b ∙ ap bit_value on in
     spots_moments c.args.self.now c.put_spot.new.self c.args.first n c.args.count c.args.at fits c.args.mask.now c.args.bytes.now c.split_at.result.0.now c.split_at.result.1.now set c.requires.whole front_is back_is (g.S.Store.disk c.args.store.now) (g.S.Store.disk c.put_spot.new.store) c.in_ok-put_spot.ensures.done (g.S.Store.disk c.put_spots-2.new.store) c.put_spot.ensures.moments c.put_spots-2.ensures.moments
 
@@ -202,7 +204,7 @@ returns-clause-done g t c =
     let back_is : c.split_at.result.1.now ≡ drop (c.args.self.now.tables.parts.sector * n) c.args.bytes.now = c.split_at.ensures.back ∙ ap (λ k. drop k c.args.bytes.now) (ap (λ x. x * n) c.from.ensures) in
     let front_is : c.split_at.result.0.now ≡ take (c.args.self.now.tables.parts.sector * n) c.args.bytes.now = c.split_at.ensures.front ∙ ap (λ k. take k c.args.bytes.now) (ap (λ x. x * n) c.from.ensures) in
     let fits : n ≤ c.args.count = c.first_run-run.ensures.most in
-    let on : c.first_run-run.result.set ≡ true = search rules in
+    let on : c.first_run-run.result.set ≡ true = not_is_false c.if-not-run.false in
     let set : (i : ℕ) → c.args.at ≤ i → i < c.args.at + n → bit_of c.args.mask.now i ≡ 1 = λ i a b. c.first_run-run.ensures.same i a b ∙ ap bit_value on in
     ok_map c.put_spots-2.result _ _ c.put_spots-2.ensures.done (λ d. spots_done c.args.self.now c.put_spot.new.self c.args.first n c.args.count c.args.at fits c.args.mask.now c.args.bytes.now c.split_at.result.0.now c.split_at.result.1.now set c.requires.whole front_is back_is (g.S.Store.disk c.args.store.now) (g.S.Store.disk c.put_spot.new.store) c.in_ok-put_spot.ensures.done c.put_spots-2.new.self (g.S.Store.disk c.put_spots-2.new.store) d)
 
@@ -213,6 +215,11 @@ returns-clause-broken g t c =
     let back_is : c.split_at.result.1.now ≡ drop (c.args.self.now.tables.parts.sector * n) c.args.bytes.now = c.split_at.ensures.back ∙ ap (λ k. drop k c.args.bytes.now) (ap (λ x. x * n) c.from.ensures) in
     let front_is : c.split_at.result.0.now ≡ take (c.args.self.now.tables.parts.sector * n) c.args.bytes.now = c.split_at.ensures.front ∙ ap (λ k. take k c.args.bytes.now) (ap (λ x. x * n) c.from.ensures) in
     let fits : n ≤ c.args.count = c.first_run-run.ensures.most in
-    let on : c.first_run-run.result.set ≡ true = search rules in
+    let on : c.first_run-run.result.set ≡ true = not_is_false c.if-not-run.false in
     let set : (i : ℕ) → c.args.at ≤ i → i < c.args.at + n → bit_of c.args.mask.now i ≡ 1 = λ i a b. c.first_run-run.ensures.same i a b ∙ ap bit_value on in
     if_err_map c.put_spots-2.result _ _ c.put_spots-2.ensures.broken (spots_broken c.args.self.now c.put_spot.new.self c.args.first n c.args.count c.args.at fits c.args.mask.now c.args.bytes.now c.split_at.result.0.now c.split_at.result.1.now set c.requires.whole front_is back_is (g.S.Store.disk c.args.store.now) (g.S.Store.disk c.put_spot.new.store) c.in_ok-put_spot.ensures.done c.put_spots-2.new.self (g.S.Store.disk c.put_spots-2.new.store))
+
+pub put_spot-requires-clause-spot : goal.put_spot-requires-clause-spot
+put_spot-requires-clause-spot g t c trace told =
+    spot_less (shape_of c.args.self.now.tables.parts) (held_by c.args.self.now trace) c.args.first c.args.count c.first_run-run.result.count c.args.spot c.first_run-run.ensures.some c.first_run-run.ensures.most
+    (c.requires.spot (lt_of_lt_of_le c.first_run-run.ensures.some c.first_run-run.ensures.most) trace told)

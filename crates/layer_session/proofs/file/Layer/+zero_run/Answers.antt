@@ -1,10 +1,10 @@
-use Rattle.std.proofs.Common.{◌≡◌, ◌+◌, ◌-◌, ◌*◌, arith, rules, sym, subst, ap, ◌∙◌, take}
+use Rattle.std.proofs.Common.{◌≡◌, ◌+◌, ◌-◌, ◌*◌, arith, rules, sym, subst, ap, ◌∙◌, take, refl}
 use Rattle.store_model.specs.Disk.{WhereBothTold, WhereTold}
 use Rattle.layer_session.specs.Calls.{PutsInto, sectors_in, with_zeros}
 use Rattle.layer_session.specs.Steps.{StandFrom}
 use Rattle.layer_session.specs.Taking.{IsBroken, IsDone}
-use Rattle.layer_session.proofs.Joining.{keeps_puts, part_outside, puts_more}
-use Rattle.layer_session.proofs.Zeroing.{broken_more, done_zeros, entries_join, first_stands, join_broken, join_done, join_moments, piece_at, piece_clear, piece_count, piece_long, piece_some, piece_whole, place_small, rest_stands, zeros_join, zeros_off}
+use Rattle.layer_session.proofs.Joining.{keeps_puts, part_outside, put_none, puts_more}
+use Rattle.layer_session.proofs.Zeroing.{broken_more, done_zeros, entries_join, first_stands, join_broken, join_done, join_moments, piece_at, piece_clear, piece_count, piece_long, piece_some, piece_whole, place_small, rest_stands, zeros_join, zeros_nobody, zeros_off}
 use Rattle.layer_session.proofs.Readying.{quiet_now}
 use Rattle.layer_session.proofs.Told.{if_err, if_err_map, ok_map}
 use Rattle.layer_session.proofs.file.Layer.+zero_run.Goals as goal
@@ -86,3 +86,21 @@ returns-clause-broken g t c =
     let n : sectors_in c.args.self.now (take (c.from-sector.result * c.min-len.result) c.deref.result.now) ≡ c.min-len.result = piece_count c.args.self.now c.from-sector.result c.min-len.result c.from-sector.ensures c.requires.ready.readable.sizes.sector (omega (arith, c.min-len.ensures)) c.deref.result.now (c.deref.ensures.value ∙ c.requires.ready.clear) in
     let one : IsDone c.args.self.now c.args.self.now c.args.first c.min-len.result (with_zeros c.args.self.now.tables.parts.sector c.args.first c.min-len.result) (g.S.Store.disk c.args.store.now) (g.S.Store.disk c.write.new.store) = done_zeros c.args.self.now (g.S.Store.disk c.args.store.now) (g.S.Store.disk c.write.new.store) c.args.first c.min-len.result (sectors_in c.args.self.now (take (c.from-sector.result * c.min-len.result) c.deref.result.now)) (take (c.from-sector.result * c.min-len.result) c.deref.result.now) n (piece_whole c.args.self.now c.from-sector.result c.min-len.result c.from-sector.ensures c.requires.ready.readable.sizes.sector (omega (arith, c.min-len.ensures)) c.deref.result.now (c.deref.ensures.value ∙ c.requires.ready.clear)) (piece_clear c.args.self.now c.from-sector.result c.min-len.result c.from-sector.ensures c.requires.ready.readable.sizes.sector (omega (arith, c.min-len.ensures)) c.deref.result.now (c.deref.ensures.value ∙ c.requires.ready.clear)) c.in_ok-write.ensures.done in
     if_err_map c.zero_run.result _ _ c.zero_run.ensures.broken (join_broken c.args.self.now c.args.self.now c.args.first c.min-len.result c.args.count (omega (arith, c.min-len.ensures)) (with_zeros c.args.self.now.tables.parts.sector c.args.first c.min-len.result) (zeros_off c.args.self.now.tables.parts.sector c.args.first c.min-len.result) (g.S.Store.disk c.args.store.now) (g.S.Store.disk c.write.new.store) one c.args.self.now (g.S.Store.disk c.zero_run.new.store))
+
+pub returns-then-count-eq0-clause-done : goal.returns-then-count-eq0-clause-done
+returns-then-count-eq0-clause-done g t c =
+    record {
+      put = put_none c.args.self.now c.args.first c.args.count (with_zeros c.args.self.now.tables.parts.sector c.args.first c.args.count) c.if-count-eq0.true
+          (zeros_nobody c.args.self.now.tables.parts.sector c.args.first c.args.count c.if-count-eq0.true) (g.S.Store.disk c.args.store.now).told;
+      ready = c.requires.ready;
+      counts = refl;
+      parts = refl;
+      number = refl;
+      header = refl;
+    }
+
+pub write-requires-clause-on_disk : goal.write-requires-clause-on_disk
+write-requires-clause-on_disk g t c =
+    let n : sectors_in c.args.self.now (take (c.from-sector.result * c.min-len.result) c.deref.result.now) ≡ c.min-len.result =
+    piece_count c.args.self.now c.from-sector.result c.min-len.result c.from-sector.ensures c.requires.ready.readable.sizes.sector (omega (arith, c.min-len.ensures)) c.deref.result.now (c.deref.ensures.value ∙ c.requires.ready.clear) in
+    omega (arith, n, c.min-len.ensures, c.requires.on_disk)

@@ -1,4 +1,4 @@
-use Rattle.std.proofs.Common.{◌≡◌, sym, subst, List, [], map}
+use Rattle.std.proofs.Common.{◌≡◌, sym, subst, List, [], map, ◌∙◌}
 use Rattle.store_model.specs.Disk.{WhereBothTold}
 use Rattle.block_alloc.specs.Spaces as spaces
 use Rattle.vhdx_format.specs.declared.log_entry.Page.{Page}
@@ -16,6 +16,7 @@ use Rattle.store_model.specs.Trace.{file_of}
 use Rattle.table_pages.specs.Held.{held, shape_of}
 use Rattle.layer_session.specs.Bringing.{SaysAllSame}
 use Rattle.layer_session.proofs.Says.{commit_says_told}
+use Rattle.layer_session.proofs.Equal.{true_false}
 use Rattle.layer_session.proofs.file.Layer.commit.Goals as goal
 
 pub returns-clause-moments : goal.returns-clause-moments
@@ -79,4 +80,4 @@ pub returns-then-not-can_commit-clause-ready : goal.returns-then-not-can_commit-
 returns-then-not-can_commit-clause-ready g c =
     let l : Layer = c.args.self.now in
     subst (λ (pages : List Page). (let n : Layer = record l { tables = record (l.tables) { pending = pages } } in IsReady n (g.S.Store.disk c.args.store.now))) (sym c.clear.ensures)
-    (left_out l (g.S.Store.disk c.args.store.now) c.requires.ready (λ all. let can = c.can_commit.ensures.1 all in let cannot = c.if-not-can_commit.true in let none : ⊥ = cc in none))
+    (left_out l (g.S.Store.disk c.args.store.now) c.requires.ready (λ all. true_false (sym (c.can_commit.ensures.1 all) ∙ c.if-not-can_commit.true)))

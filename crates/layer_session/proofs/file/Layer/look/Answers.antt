@@ -7,7 +7,7 @@ use Rattle.layer_session.specs.declared.planning.Plan.{Plan}
 use Rattle.layer_session.specs.declared.planning.Wanted.{Wanted}
 use Rattle.layer_session.specs.Calls.{IsSame}
 use Rattle.layer_session.specs.Bringing.{LeadsTo}
-use Rattle.layer_session.specs.Planning.{IsLooked}
+use Rattle.layer_session.specs.Planning.{IsLooked, AreCounted}
 use Rattle.table_pages.specs.Held.{shape_of}
 use Rattle.layer_session.specs.Steps.{held_by}
 use Rattle.layer_session.proofs.Leading.{leads_read, leads_same, planned_long, plans_same}
@@ -44,3 +44,8 @@ returns-in-Err-clause-leads g c =
     let one : IsSame l mid disk = read_is_same l c.look.new.tables disk c.look.ensures.reads c.requires.ready.readable in
     let two : IsSame mid new disk = plans_same mid new disk refl one.readable (planned_long l c.look.new.plans long c.requires.ready.plans) in
     leads_read Wanted l new disk (g.S.Store.disk c.look.new.store) c.in-Err.fault (leads_same l new disk c.requires.ready (same_then l mid new disk one two) refl) c.in-Err.ensures.err
+
+pub returns-in-Ok-clause-counted : goal.returns-in-Ok-clause-counted
+returns-in-Ok-clause-counted g c =
+    let long : length c.look.new.plans ≡ c.args.self.now.plans.len = search rules in
+    subst (λ (plans : List Plan). AreCounted (shape_of c.args.self.now.tables.parts) plans 0 c.args.first c.args.count c.in-Ok.wanted) (sym (with_items_is c.args.self.now.plans c.look.new.plans long)) c.in-Ok.ensures.counted

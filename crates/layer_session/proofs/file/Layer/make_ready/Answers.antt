@@ -2,10 +2,10 @@ use Rattle.std.proofs.Common.{rules, sym, subst, true}
 use Rattle.store_model.specs.Disk.{Disk, WhereBothTold}
 use Rattle.std.specs.Prelude.{None}
 use Rattle.layer_session.specs.Calls.{KeepsOver}
-use Rattle.layer_session.specs.Taking.{IsReadied}
+use Rattle.layer_session.specs.Taking.{IsReadied, KeepsOthers}
 use Rattle.layer_session.proofs.Marks.{Marks}
 use Rattle.layer_session.proofs.Readying.{drop_put, drop_whole, left_put, make_broken, make_made, make_may, mark_kept, mark_made, mark_ready, part_absent, quiet, write_made}
-use Rattle.layer_session.proofs.Told.{if_err}
+use Rattle.layer_session.proofs.Told.{if_err, both_self}
 use Rattle.layer_session.proofs.file.Layer.make_ready.Goals as goal
 
 pub drop_block-requires-clause-whole : goal.drop_block-requires-clause-whole
@@ -75,3 +75,8 @@ returns-in-Mark-clause-ready g c =
 pub returns-in_ok-place-in-Make-clause-made : goal.returns-in_ok-place-in-Make-clause-made
 returns-in_ok-place-in-Make-clause-made g c =
     make_made c.args.self.now (g.S.Store.disk c.args.store.now) c.requires.ready c.args.plan c.args.first c.args.count c.requires.some c.requires.on_disk c.requires.run c.requires.todo c.make_block.new.self (g.S.Store.disk c.make_block.new.store) c.in_ok-place-in-Make.place c.in_ok-place-in-Make.ensures.leaves.parts c.in_ok-place-in-Make.ensures.made
+
+pub returns-in-Drop-clause-others : goal.returns-in-Drop-clause-others
+returns-in-Drop-clause-others g c =
+    subst (λ (d : Disk). WhereBothTold (KeepsOthers c.args.self.now c.drop_block.new.self c.args.first) (g.S.Store.disk c.args.store.now).told d.told) (sym c.drop_block.ensures.stays)
+    (both_self (KeepsOthers c.args.self.now c.drop_block.new.self c.args.first) (g.S.Store.disk c.args.store.now).told c.drop_block.ensures.others)

@@ -10,6 +10,7 @@ use Rattle.block_alloc.specs.Spaces.{fits_in}
 use Rattle.table_pages.specs.declared.tables.TableParts.{TableParts}
 use Rattle.layer_session.proofs.CallPrepared.{done_begins, idle_begins, idle_prepared, no_room, planned_here, some_here}
 use Rattle.layer_session.proofs.Leading.{leads_on, tells_broken, tells_moments, tells_refused}
+use Rattle.layer_session.proofs.Equal.{err_same}
 use Rattle.layer_session.proofs.file.Layer.prepare.Goals as goal
 
 pub returns-in_err-wanted-clause-room : goal.returns-in_err-wanted-clause-room
@@ -60,7 +61,7 @@ returns-clause-full g c next e =
 pub returns-in_err-wanted-clause-full : goal.returns-in_err-wanted-clause-full
 returns-in_err-wanted-clause-full g c next e =
     let same : c.from_residual.result ≡ Err c.in_err-wanted.field-0.0 = search rules in
-    let full : c.in_err-wanted.field-0.0 ≡ FileFull next = let both = sym same ∙ e in cc in
+    let full : c.in_err-wanted.field-0.0 ≡ FileFull next = err_same (sym same ∙ e) in
     c.in_err-wanted.ensures.full next (ap (λ (fault : LayerFault). (let r : Result Wanted LayerFault = Err fault in r)) full)
 
 pub put_at_hand-requires-clause-fits : goal.put_at_hand-requires-clause-fits

@@ -12,6 +12,7 @@ use Rattle.layer_session.proofs.Masking.{all_broken, all_moments, all_put, early
 use Rattle.layer_session.proofs.Readying.{quiet_now}
 use Rattle.layer_session.proofs.Spots.{all_in_block}
 use Rattle.layer_session.proofs.Told.{both_end, ok_map}
+use Rattle.layer_session.proofs.Equal.{true_false}
 use Rattle.layer_session.proofs.file.Layer.put_masked.Goals as goal
 
 pub returns-then-not-names_some-clause-moments : goal.returns-then-not-names_some-clause-moments
@@ -20,15 +21,15 @@ returns-then-not-names_some-clause-moments g c =
 
 pub returns-then-not-names_some-clause-put : goal.returns-then-not-names_some-clause-put
 returns-then-not-names_some-clause-put g c =
-    let off : c.names_some.result ≡ false = search rules in
+    let off : c.names_some.result ≡ false = c.if-not-names_some.true in
     nothing_named c.args.self.now (is_masked c.args.first c.args.count 0 c.args.mask.now) (with_masked c.args.self.now.tables.parts.sector c.args.first c.args.count 0 c.args.mask.now c.args.bytes.now) (none_masked c.args.first c.args.count c.args.mask.now (c.names_some.ensures.none off))
     (masked_off c.args.self.now.tables.parts.sector c.args.first c.args.count c.args.mask.now c.args.bytes.now (c.names_some.ensures.none off)) (g.S.Store.disk c.args.store.now).told
 
 pub returns-then-not-names_some-clause-room : goal.returns-then-not-names_some-clause-room
 returns-then-not-names_some-clause-room g c s here t told =
-    let off : c.names_some.result ≡ false = search rules in
+    let off : c.names_some.result ≡ false = c.if-not-names_some.true in
     let none = none_masked c.args.first c.args.count c.args.mask.now (c.names_some.ensures.none off) s in
-    let wrong : true ≡ false = sym here ∙ none in cc
+    absurd (true_false (sym here ∙ none))
 
 pub returns-in_err-prepare-clause-moments : goal.returns-in_err-prepare-clause-moments
 returns-in_err-prepare-clause-moments g c =
@@ -44,14 +45,14 @@ returns-in_err-prepare-clause-full g c next e =
 
 pub returns-in_err-prepare-clause-nothing : goal.returns-in_err-prepare-clause-nothing
 returns-in_err-prepare-clause-nothing g c none =
-    let on : c.names_some.result ≡ true = search rules in
+    let on : c.names_some.result ≡ true = c.if-not-names_some.false in
     let one = c.names_some.ensures.some on in
     let named = some_masked c.args.first c.args.count c.args.mask.now one.0 one.1.0 one.1.1 in
-    let wrong : true ≡ false = sym named ∙ none (c.args.first + one.0) in cc
+    absurd (true_false (sym named ∙ none (c.args.first + one.0)))
 
 pub ready_spot-requires-clause-pages : goal.ready_spot-requires-clause-pages
 ready_spot-requires-clause-pages g c =
-    let on : c.names_some.result ≡ true = search rules in
+    let on : c.names_some.result ≡ true = c.if-not-names_some.false in
     let one = c.names_some.ensures.some on in
     let mid = c.prepare.new.self in
     let ready = c.in_ok-prepare.ensures.ready in
@@ -64,7 +65,7 @@ ready_spot-requires-clause-pages g c =
 
 pub ready_spot-requires-clause-room : goal.ready_spot-requires-clause-room
 ready_spot-requires-clause-room g c =
-    let on : c.names_some.result ≡ true = search rules in
+    let on : c.names_some.result ≡ true = c.if-not-names_some.false in
     let one = c.names_some.ensures.some on in
     let mid = c.prepare.new.self in
     let ready = c.in_ok-prepare.ensures.ready in
@@ -77,7 +78,7 @@ ready_spot-requires-clause-room g c =
 
 pub ready_spot-requires-clause-todo : goal.ready_spot-requires-clause-todo
 ready_spot-requires-clause-todo g c t told =
-    let on : c.names_some.result ≡ true = search rules in
+    let on : c.names_some.result ≡ true = c.if-not-names_some.false in
     let one = c.names_some.ensures.some on in
     let mid = c.prepare.new.self in
     let ready = c.in_ok-prepare.ensures.ready in
@@ -99,10 +100,10 @@ returns-in_err-spot-clause-broken g c =
 
 pub returns-in_err-spot-clause-nothing : goal.returns-in_err-spot-clause-nothing
 returns-in_err-spot-clause-nothing g c none =
-    let on : c.names_some.result ≡ true = search rules in
+    let on : c.names_some.result ≡ true = c.if-not-names_some.false in
     let one = c.names_some.ensures.some on in
     let named = some_masked c.args.first c.args.count c.args.mask.now one.0 one.1.0 one.1.1 in
-    let wrong : true ≡ false = sym named ∙ none (c.args.first + one.0) in cc
+    absurd (true_false (sym named ∙ none (c.args.first + one.0)))
 
 pub put_spots-requires-clause-spot : goal.put_spots-requires-clause-spot
 put_spots-requires-clause-spot g c some t told =
@@ -125,7 +126,7 @@ returns-clause-broken g c =
 
 pub returns-clause-nothing : goal.returns-clause-nothing
 returns-clause-nothing g c none =
-    let on : c.names_some.result ≡ true = search rules in
+    let on : c.names_some.result ≡ true = c.if-not-names_some.false in
     let one = c.names_some.ensures.some on in
     let named = some_masked c.args.first c.args.count c.args.mask.now one.0 one.1.0 one.1.1 in
-    let wrong : true ≡ false = sym named ∙ none (c.args.first + one.0) in cc
+    absurd (true_false (sym named ∙ none (c.args.first + one.0)))

@@ -67,3 +67,7 @@ returns-in-None-clause-done g c = record {
 
 pub make_ready-requires-clause-todo : goal.make_ready-requires-clause-todo
 make_ready-requires-clause-todo g c t told = (false, c.requires.todo t told)
+
+pub returns-in-None-clause-moments : goal.returns-in-None-clause-moments
+returns-in-None-clause-moments g c =
+    keeps_puts c.args.self.now c.args.first c.args.count (g.S.Store.disk c.args.store.now).told (g.S.Store.disk c.make_ready.new.store).told c.make_ready.ensures.moments

@@ -11,6 +11,7 @@ use Rattle.layer_session.proofs.Readying.{quiet_now}
 use Rattle.layer_session.proofs.Running.{bytes_all, run_broken, run_done, run_moments, sectors_of, stands_in}
 use Rattle.layer_session.proofs.Spots.{entries_spots, spot_kept, spot_made, spot_ready, spots_then}
 use Rattle.layer_session.proofs.Told.{if_err_map, ok_map}
+use Rattle.layer_session.proofs.Equal.{not_is_false}
 use Rattle.layer_session.proofs.file.Layer.put_spot.Goals as goal
 
 pub returns-then-not-spot-clause-spots : goal.returns-then-not-spot-clause-spots
@@ -21,14 +22,14 @@ pub write-requires-2-clause-ready : goal.write-requires-2-clause-ready
 write-requires-2-clause-ready g c =
     let m : Marks c.args.self.now c.mark.new.self c.args.spot.bitmap c.args.first c.args.count true =
     record { only = c.mark.ensures.only; parts = c.mark.ensures.parts; within = c.mark.ensures.within; set = c.mark.ensures.set; places = c.mark.ensures.places } in
-    let marks : c.args.spot.marks ≡ true = search rules in
+    let marks : c.args.spot.marks ≡ true = not_is_false c.if-not-spot.false in
     spot_ready c.args.self.now (g.S.Store.disk c.args.store.now) c.requires.ready c.args.spot c.args.first c.args.count c.requires.some c.requires.on_disk c.requires.run c.requires.spot marks c.mark.new.self m (search rules)
 
 pub write-requires-2-clause-stand : goal.write-requires-2-clause-stand
 write-requires-2-clause-stand g c =
     let m : Marks c.args.self.now c.mark.new.self c.args.spot.bitmap c.args.first c.args.count true =
     record { only = c.mark.ensures.only; parts = c.mark.ensures.parts; within = c.mark.ensures.within; set = c.mark.ensures.set; places = c.mark.ensures.places } in
-    let marks : c.args.spot.marks ≡ true = search rules in
+    let marks : c.args.spot.marks ≡ true = not_is_false c.if-not-spot.false in
     let made = spot_made c.args.self.now (g.S.Store.disk c.args.store.now) c.requires.ready c.args.spot c.args.first c.args.count c.requires.some c.requires.on_disk c.requires.run c.requires.spot marks c.mark.new.self m (search rules) in
     let n = sectors_of c.args.self.now c.mark.new.self c.args.count c.args.bytes.now c.mark.ensures.parts c.requires.ready.readable.sizes.sector c.requires.whole in
     subst (λ k. WhereTold (g.S.Store.disk c.args.store.now).told (λ t. StandFrom c.mark.new.self c.args.first k c.args.spot.place t)) (sym n) (stands_in c.args.self.now c.mark.new.self c.args.first c.args.count c.args.spot.place (g.S.Store.disk c.args.store.now).told (g.S.Store.disk c.args.store.now).told made)
@@ -37,7 +38,7 @@ pub returns-clause-moments : goal.returns-clause-moments
 returns-clause-moments g c =
     let m : Marks c.args.self.now c.mark.new.self c.args.spot.bitmap c.args.first c.args.count true =
     record { only = c.mark.ensures.only; parts = c.mark.ensures.parts; within = c.mark.ensures.within; set = c.mark.ensures.set; places = c.mark.ensures.places } in
-    let marks : c.args.spot.marks ≡ true = search rules in
+    let marks : c.args.spot.marks ≡ true = not_is_false c.if-not-spot.false in
     let made = spot_made c.args.self.now (g.S.Store.disk c.args.store.now) c.requires.ready c.args.spot c.args.first c.args.count c.requires.some c.requires.on_disk c.requires.run c.requires.spot marks c.mark.new.self m (search rules) in
     let n = sectors_of c.args.self.now c.mark.new.self c.args.count c.args.bytes.now c.mark.ensures.parts c.requires.ready.readable.sizes.sector c.requires.whole in
     run_moments c.args.self.now c.mark.new.self (g.S.Store.disk c.args.store.now) (g.S.Store.disk c.args.store.now) (g.S.Store.disk c.write-2.new.store) c.args.first c.args.count c.args.spot.place made c.mark.ensures.parts (ap (λ (x : Layer). x.log.number) c.mark.ensures.only, ap (λ (x : Layer). x.log.header) c.mark.ensures.only) refl
@@ -47,7 +48,7 @@ pub returns-clause-done : goal.returns-clause-done
 returns-clause-done g c =
     let m : Marks c.args.self.now c.mark.new.self c.args.spot.bitmap c.args.first c.args.count true =
     record { only = c.mark.ensures.only; parts = c.mark.ensures.parts; within = c.mark.ensures.within; set = c.mark.ensures.set; places = c.mark.ensures.places } in
-    let marks : c.args.spot.marks ≡ true = search rules in
+    let marks : c.args.spot.marks ≡ true = not_is_false c.if-not-spot.false in
     let made = spot_made c.args.self.now (g.S.Store.disk c.args.store.now) c.requires.ready c.args.spot c.args.first c.args.count c.requires.some c.requires.on_disk c.requires.run c.requires.spot marks c.mark.new.self m (search rules) in
     let n = sectors_of c.args.self.now c.mark.new.self c.args.count c.args.bytes.now c.mark.ensures.parts c.requires.ready.readable.sizes.sector c.requires.whole in
     ok_map c.write-2.result _ _ (subst (λ k. OnOk c.write-2.result (IsDone c.mark.new.self c.mark.new.self c.args.first k (with_bytes c.mark.new.self.tables.parts.sector c.args.first k c.args.bytes.now) (g.S.Store.disk c.args.store.now) (g.S.Store.disk c.write-2.new.store))) n c.write-2.ensures.done)
@@ -58,7 +59,7 @@ pub returns-clause-spots : goal.returns-clause-spots
 returns-clause-spots g c =
     let m : Marks c.args.self.now c.mark.new.self c.args.spot.bitmap c.args.first c.args.count true =
     record { only = c.mark.ensures.only; parts = c.mark.ensures.parts; within = c.mark.ensures.within; set = c.mark.ensures.set; places = c.mark.ensures.places } in
-    let marks : c.args.spot.marks ≡ true = search rules in
+    let marks : c.args.spot.marks ≡ true = not_is_false c.if-not-spot.false in
     let mid_ready = spot_ready c.args.self.now (g.S.Store.disk c.args.store.now) c.requires.ready c.args.spot c.args.first c.args.count c.requires.some c.requires.on_disk c.requires.run c.requires.spot marks c.mark.new.self m (search rules) in
     let kept = spot_kept c.args.self.now (g.S.Store.disk c.args.store.now) c.requires.ready c.args.spot c.args.first c.args.count c.requires.some c.requires.on_disk c.requires.run c.requires.spot marks c.mark.new.self m (search rules) in
     ok_map c.write-2.result _ _ c.write-2.ensures.same
@@ -70,7 +71,7 @@ pub returns-clause-broken : goal.returns-clause-broken
 returns-clause-broken g c =
     let m : Marks c.args.self.now c.mark.new.self c.args.spot.bitmap c.args.first c.args.count true =
     record { only = c.mark.ensures.only; parts = c.mark.ensures.parts; within = c.mark.ensures.within; set = c.mark.ensures.set; places = c.mark.ensures.places } in
-    let marks : c.args.spot.marks ≡ true = search rules in
+    let marks : c.args.spot.marks ≡ true = not_is_false c.if-not-spot.false in
     let made = spot_made c.args.self.now (g.S.Store.disk c.args.store.now) c.requires.ready c.args.spot c.args.first c.args.count c.requires.some c.requires.on_disk c.requires.run c.requires.spot marks c.mark.new.self m (search rules) in
     let n = sectors_of c.args.self.now c.mark.new.self c.args.count c.args.bytes.now c.mark.ensures.parts c.requires.ready.readable.sizes.sector c.requires.whole in
     if_err_map c.write-2.result _ _ (subst (λ k. IfErr c.write-2.result (IsBroken c.mark.new.self c.mark.new.self c.args.first k (g.S.Store.disk c.args.store.now) (g.S.Store.disk c.write-2.new.store))) n c.write-2.ensures.broken)

@@ -1,4 +1,4 @@
-use Rattle.std.proofs.Common.{List, subst}
+use Rattle.std.proofs.Common.{List, subst, sym, ◌∙◌}
 use Rattle.store_model.specs.Disk.{WhereBothTold}
 use Rattle.store_model.specs.File.{seen}
 use Rattle.store_model.specs.Trace.{file_of}
@@ -12,20 +12,21 @@ use Rattle.layer_session.specs.Calls.{HoldsRest}
 use Rattle.layer_session.specs.Keeping.{IsReadable, IsReady}
 use Rattle.layer_session.specs.Updating.{HasUpdated, UpdatesOver}
 use Rattle.layer_session.proofs.Updates.{behind_is, keeps_same, never_left_out, puts_all, runs_behind, torn_is, untold, update_moments, update_readable, update_ready, update_rest, update_served}
+use Rattle.layer_session.proofs.Equal.{true_false}
 use Rattle.layer_session.proofs.file.Layer.update.Goals as goal
 
 pub returns-then-not-can_take-clause-moments : goal.returns-then-not-can_take-clause-moments
 returns-then-not-can_take-clause-moments g c =
     let l : Layer = c.args.self.now in
     untold (g.S.Store.disk c.args.store.now).told
-    (never_left_out l c.args.pages.now (g.S.Store.disk c.args.store.now) c.requires.empty c.requires.turns (λ all. let can = c.can_take.ensures.1 all in let cannot = c.if-not-can_take.true in let none : ⊥ = cc in none))
+    (never_left_out l c.args.pages.now (g.S.Store.disk c.args.store.now) c.requires.empty c.requires.turns (λ all. true_false (sym (c.can_take.ensures.1 all) ∙ c.if-not-can_take.true)))
     (UpdatesOver l c.args.pages.now)
 
 pub returns-then-not-can_take-clause-updated : goal.returns-then-not-can_take-clause-updated
 returns-then-not-can_take-clause-updated g c =
     let l : Layer = c.args.self.now in
     untold (g.S.Store.disk c.args.store.now).told
-    (never_left_out l c.args.pages.now (g.S.Store.disk c.args.store.now) c.requires.empty c.requires.turns (λ all. let can = c.can_take.ensures.1 all in let cannot = c.if-not-can_take.true in let none : ⊥ = cc in none))
+    (never_left_out l c.args.pages.now (g.S.Store.disk c.args.store.now) c.requires.empty c.requires.turns (λ all. true_false (sym (c.can_take.ensures.1 all) ∙ c.if-not-can_take.true)))
     (HasUpdated l l c.args.pages.now)
 
 pub returns-in_err-commit-clause-moments : goal.returns-in_err-commit-clause-moments

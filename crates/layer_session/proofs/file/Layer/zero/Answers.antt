@@ -1,10 +1,11 @@
-use Rattle.std.proofs.Common.{rules, not, subst, ap}
+use Rattle.std.proofs.Common.{rules, not, subst, ap, ◌≡◌, ◌∙◌, sym}
 use Rattle.store_model.specs.Disk.{WhereBothTold}
 use Rattle.table_pages.specs.declared.tables.TableParts.{TableParts}
 use Rattle.layer_session.specs.Calls.{HasPut, with_zeros}
 use Rattle.layer_session.proofs.Calling.{broken_call, broken_err, call_moments, call_put}
 use Rattle.layer_session.proofs.Joining.{keeps_puts}
 use Rattle.layer_session.proofs.Told.{ok_map}
+use Rattle.std.specs.Prelude.{Err}
 use Rattle.layer_session.proofs.file.Layer.zero.Goals as goal
 
 pub returns-in_err-prepare-clause-moments : goal.returns-in_err-prepare-clause-moments
@@ -28,3 +29,7 @@ returns-clause-put g c =
 pub returns-clause-broken : goal.returns-clause-broken
 returns-clause-broken g c =
     broken_call c.zero_blocks.result c.args.self.now c.prepare.new.self c.zero_blocks.new.self c.args.first c.args.count (not c.args.self.now.leave) (g.S.Store.disk c.args.store.now) (g.S.Store.disk c.prepare.new.store) (g.S.Store.disk c.zero_blocks.new.store) c.in_ok-prepare.ensures.done c.zero_blocks.ensures.broken
+
+pub returns-in_err-prepare-clause-full : goal.returns-in_err-prepare-clause-full
+returns-in_err-prepare-clause-full g c next e =
+    let told : c.from_residual.result ≡ Err c.in_err-prepare.field-0.0 = search rules in c.in_err-prepare.ensures.full next (sym told ∙ e)
