@@ -1,4 +1,4 @@
-use Rattle.std.proofs.Common.{◌+◌, ◌<◌, ◌≤◌, ◌-◌, arith, refl, sym, subst, ap, ◌∙◌}
+use Rattle.std.proofs.Common.{◌+◌, ◌<◌, ◌≤◌, ◌-◌, arith, refl, sym, subst, ap, ◌∙◌, length}
 use Rattle.table_pages.specs.Held.{shape_of}
 use Rattle.layer_session.specs.Blocks as blocks
 use Rattle.layer_session.specs.Planning.{nothing}
@@ -9,10 +9,23 @@ use Rattle.std.specs.Prelude.{None, false}
 use Rattle.layer_session.proofs.Counting.{set_beside, set_here}
 use Rattle.layer_session.proofs.Looked.{counted_then, few_then, looked_none, looked_then, rest_few}
 use Rattle.layer_session.proofs.Planned.{read_again, read_then}
+use Rattle.layer_session.proofs.BitRuns.{few_rest}
+use Rattle.layer_session.specs.ByTables.{WantsAtMost}
+use Rattle.table_pages.specs.declared.tables.TableParts.{TableParts}
+use Rattle.vhdx_format.specs.Layers.{HasSizes}
 use Rattle.layer_session.proofs.planning.+look.Goals as goal
 
 pub returns-then-count-eq0-clause-looked : goal.returns-then-count-eq0-clause-looked
 returns-then-count-eq0-clause-looked g t c trace told = looked_none _ _ c.args.trims c.args.plans.now c.args.k c.args.first c.args.count c.if-count-eq0.true
+
+pub with_plan-requires : goal.with_plan-requires
+with_plan-requires g t c =
+    let parts : TableParts = c.args.tables.now.parts in
+    let h : HasSizes (shape_of parts) = record { sector = c.requires.readable.sizes.sector; block = c.requires.readable.sizes.block } in
+    let len = c.run_in_block-len.result in
+    let wants = subst (λ (p : TableParts). WantsAtMost (blocks.blocks_of (shape_of p) (c.args.first + len) (c.args.count - len)) c.in_ok-rest.rest) c.plan_of.ensures.reads.as_held.parts_are c.in_ok-rest.ensures.few in
+    let few = few_rest (shape_of parts) h c.args.k c.args.first c.args.count len (length c.args.plans.now) (omega arith) c.run_in_block-len.ensures.is c.requires.few in
+    record { few = omega (arith, wants.0, wants.1, few, c.requires.room) }
 
 pub look-requires : goal.look-requires
 look-requires g t c κs within =
