@@ -1,5 +1,6 @@
 //! The two copies of the header, and the two of the region table.
 
+use crate::asking::ask_same;
 use header_pair::{HeaderRefusal, read_headers};
 use region_table::{RegionRefusal, Regions};
 use std::test::Fail;
@@ -27,12 +28,17 @@ fn the_valid_copy_with_the_greater_number_is_current(rt: HostRuntime) -> Result<
     header_pair::build(&mut zone[65_536..69_632], &header(7));
     header_pair::build(&mut zone[131_072..135_168], &header(6));
     let current = read_headers(zone.as_slice(), 4_194_304).map_err(|_| "refused")?;
-    assert_eq!(rt; (current.copy, current.number), (1, 7));
-    assert_eq!(rt; current.data_write, Guid::from_bytes([2; 16]));
+    ask_same(&rt, &(current.copy, current.number), &(1, 7), "current 1");
+    ask_same(
+        &rt,
+        &current.data_write,
+        &Guid::from_bytes([2; 16]),
+        "current 2",
+    );
     // a wrong checksum
     zone[65_540] ^= 1;
     let current = read_headers(zone.as_slice(), 4_194_304).map_err(|_| "refused")?;
-    assert_eq!(rt; (current.copy, current.number), (2, 6));
+    ask_same(&rt, &(current.copy, current.number), &(2, 6), "current 3");
     Ok(())
 }
 
@@ -55,9 +61,11 @@ fn the_first_valid_region_table_is_read(rt: HostRuntime) -> Result<(), Fail> {
     assert!(rt;
         region_table::parse(copies.as_slice(), 4_194_304, 1_048_576, 1_048_576) == Ok(REGIONS)
     );
-    assert_eq!(rt;
-        &copies[65_552..65_556],
-        [0x66, 0x77, 0xC2, 0x2D].as_slice()
+    ask_same(
+        &rt,
+        &&copies[65_552..65_556],
+        &[0x66, 0x77, 0xC2, 0x2D].as_slice(),
+        "copies",
     );
     Ok(())
 }

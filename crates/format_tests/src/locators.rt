@@ -1,5 +1,6 @@
 //! The locator of a new child, one with a second linkage, and damaged ones.
 
+use crate::asking::ask_same;
 use parent_locator::{
     Locator, LocatorRefusal, Pair, build, child_locator, fits, linkage, parent_name, parse,
     second_linkage,
@@ -53,13 +54,13 @@ fn cut(bytes: &[u8], at: usize) -> (&[u8], &[u8]) {
 #[test]
 fn a_child_has_one_of_190_bytes(rt: HostRuntime) -> Result<(), Fail> {
     let item = child_of_b(rt.alloc())?;
-    assert_eq!(rt; item.as_slice().len(), 190);
+    ask_same(&rt, &item.as_slice().len(), &190, "item");
     let (head, texts) = cut(item.as_slice(), 44);
     let wanted = b"\xb7\xef\x4a\xb0\x9e\xd1\x81\x4a\xb7\x89\x25\xb8\xe9\x44\x59\x13\0\0\x02\0\
         \x2c\0\0\0\x48\0\0\0\x1c\0\x4c\0\x94\0\0\0\xae\0\0\0\x1a\0\x10\0";
-    assert_eq!(rt; head, wanted.as_slice());
+    ask_same(&rt, &head, &wanted.as_slice(), "head");
     let (_, path) = cut(texts, 130);
-    assert_eq!(rt; path, b".\0\\\0b\0.\0v\0h\0d\0x\0".as_slice());
+    ask_same(&rt, &path, &b".\0\\\0b\0.\0v\0h\0d\0x\0".as_slice(), "path");
     Ok(())
 }
 
@@ -72,7 +73,7 @@ fn two_linkages_are_read(rt: HostRuntime) -> Result<(), Fail> {
         ("relative_path", ".\\b.vhdx"),
     ];
     let item = written(alloc, &pairs)?;
-    assert_eq!(rt; item.as_slice().len(), 308);
+    ask_same(&rt, &item.as_slice().len(), &308, "item");
     let read = parse(alloc, item.as_slice()).map_err(|_| "refused")?;
     assert!(rt; linkage(alloc, read.as_slice())? == Guid::parse(ID));
     let second = second_linkage(alloc, read.as_slice())?;

@@ -1,5 +1,6 @@
 //! The metadata of a file as they are laid, and as they are read again.
 
+use crate::asking::ask_same;
 use crate::stores::Repeated;
 use metadata_table::{Metadata, MetadataRefusal, Regions, build, parse, written_len};
 use std::alloc::Global;
@@ -64,7 +65,7 @@ fn items_lie_one_behind_the_other(rt: HostRuntime) -> Result<(), Fail> {
         (65_583, 12, 1),
     ];
     for (entry, wanted) in wanted.iter().enumerate() {
-        assert_eq!(rt; item(out.as_slice(), entry), *wanted);
+        ask_same(&rt, &item(out.as_slice(), entry), &(*wanted), "item");
     }
     assert!(rt; refusal_of(rt.alloc(), out).is_none());
     assert!(rt;

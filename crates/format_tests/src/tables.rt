@@ -4,9 +4,11 @@ ghost use Rattle.std.specs.Prelude.{◌≡◌, true};
 ghost use Rattle.vhdx_format.specs.FileParts.{HasNumbers};
 ghost use Rattle.table_pages.specs.Held.{HasTables};
 
+use crate::asking::ask_same;
 use crate::stores::Repeated;
 use block_table::{TableRefusal, check};
 use std::alloc::{AllocError, Global};
+use std::process::Abort;
 use std::test::Fail;
 use table_pages::{TableParts, Tables};
 use vx_base::{Bytes, Geometry, Guid, Header, Parts, put_u64};
@@ -123,63 +125,86 @@ fn are_childs(parts: &TableParts) -> bool
     *parts == CHILD
 }
 
-fn entry(store: &mut Repeated, tables: &mut Tables, index: u64) -> Result<u64, Fail> {
-    if !are_childs(&tables.parts) || index >= 131_072 {
-        return Err(Fail::from("no such entry"));
-    }
-    Ok(tables.entry(store, index)?)
+fn entry<R: Abort>(rt: &R, store: &mut Repeated, tables: &mut Tables, index: u64) -> u64 {
+    assert!(rt;
+        are_childs(&tables.parts) && index < 131_072,
+        "no such entry"
+    );
+    tables.entry(store, index).expect(rt, "not read")
 }
 
-fn set_entry(store: &mut Repeated, tables: &mut Tables, index: u64, to: u64) -> Result<(), Fail> {
-    if !are_childs(&tables.parts) || index >= 131_072 || !tables.room_for(1) {
-        return Err(Fail::from("no such entry"));
-    }
-    Ok(tables.set_entry(store, index, to)?)
+fn set_entry<R: Abort>(rt: &R, store: &mut Repeated, tables: &mut Tables, index: u64, to: u64) {
+    assert!(rt;
+        are_childs(&tables.parts) && index < 131_072,
+        "no such entry"
+    );
+    assert!(rt; tables.room_for(1), "no room");
+    tables.set_entry(store, index, to).expect(rt, "not set");
+}
+
+fn tables_of_the_child(alloc: Global) -> Result<Tables, Fail> {
+    Ok(Tables::new(alloc, CHILD, 3)?)
 }
 
 #[test]
 fn entries_are_set_alone(rt: HostRuntime) -> Result<(), Fail> {
     let mut store = same_pages(rt.alloc())?;
-    let mut tables = Tables::new(rt.alloc(), CHILD, 3)?;
-    set_entry(&mut store, &mut tables, 1, 7)?;
+    let mut tables = tables_of_the_child(rt.alloc())?;
+    set_entry(&rt, &mut store, &mut tables, 1, 7);
     for (index, wanted) in [(0, 0x500006), (1, 7), (512, 0x500006), (513, 0)] {
-        assert_eq!(rt; entry(&mut store, &mut tables, index)?, wanted);
+        let found = entry(&rt, &mut store, &mut tables, index);
+        ask_same(&rt, &found, &wanted, "entry");
     }
     assert!(rt; tables.room_for(119) && !tables.room_for(120));
     Ok(())
 }
 
 // The 24 bits from a sector on.
-fn bits(store: &mut Repeated, tables: &mut Tables, sector: u64) -> Result<[u8; 3], Fail> {
-    if !are_childs(&tables.parts) || sector > 100_000 || sector % 8 != 0 {
-        return Err(Fail::from("no such bits"));
-    }
+fn bits<R: Abort>(rt: &R, store: &mut Repeated, tables: &mut Tables, sector: u64) -> [u8; 3] {
+    assert!(rt;
+        are_childs(&tables.parts) && sector <= 100_000 && sector % 8 == 0,
+        "no such bits"
+    );
     let mut bits = [0; 3];
-    tables.bits(store, sector, &mut bits)?;
-    Ok(bits)
+    tables.bits(store, sector, &mut bits).expect(rt, "not read");
+    bits
 }
 
-fn set_bits(
-    store: &mut Repeated,
-    tables: &mut Tables,
-    sector: u64,
-    count: u64,
-) -> Result<(), Fail> {
-    if !are_childs(&tables.parts) || sector > 100_000 || count > 8 || !tables.room_for(2) {
-        return Err(Fail::from("no such bits"));
-    }
-    Ok(tables.set_bits(store, sector, count, true)?)
+fn set_bits<R: Abort>(rt: &R, store: &mut Repeated, tables: &mut Tables, sector: u64, count: u64) {
+    assert!(rt;
+        are_childs(&tables.parts) && sector <= 100_000 && count <= 8,
+        "no such bits"
+    );
+    assert!(rt; tables.room_for(2), "no room");
+    tables
+        .set_bits(store, sector, count, true)
+        .expect(rt, "not set");
 }
 
 #[test]
 fn bits_are_set_alone(rt: HostRuntime) -> Result<(), Fail> {
     let mut store = same_pages(rt.alloc())?;
-    let mut tables = Tables::new(rt.alloc(), CHILD, 3)?;
-    assert_eq!(rt; bits(&mut store, &mut tables, 0)?, [6, 0, 0x50]);
-    set_bits(&mut store, &mut tables, 3, 8)?;
-    assert_eq!(rt; bits(&mut store, &mut tables, 0)?, [0xfe, 7, 0x50]);
-    set_bits(&mut store, &mut tables, 32_766, 4)?;
-    assert_eq!(rt; bits(&mut store, &mut tables, 32_760)?, [0xc0, 7, 0]);
+    let mut tables = tables_of_the_child(rt.alloc())?;
+    ask_same(
+        &rt,
+        &bits(&rt, &mut store, &mut tables, 0),
+        &[6, 0, 0x50],
+        "bits 1",
+    );
+    set_bits(&rt, &mut store, &mut tables, 3, 8);
+    ask_same(
+        &rt,
+        &bits(&rt, &mut store, &mut tables, 0),
+        &[0xfe, 7, 0x50],
+        "bits 2",
+    );
+    set_bits(&rt, &mut store, &mut tables, 32_766, 4);
+    ask_same(
+        &rt,
+        &bits(&rt, &mut store, &mut tables, 32_760),
+        &[0xc0, 7, 0],
+        "bits 3",
+    );
     assert!(rt; tables.room_for(118) && !tables.room_for(119));
     Ok(())
 }

@@ -3,6 +3,7 @@
 ghost use Rattle.std.specs.Prelude.{◌≡◌, true, IfOk};
 ghost use Rattle.meta_edit.specs.Pages.{ArePages, HasMetadata};
 
+use crate::asking::ask_same;
 use crate::locators::child_of_b;
 use crate::metadata::item;
 use crate::stores::Repeated;
@@ -52,6 +53,24 @@ fn relinked_to(alloc: Global, parent: &str) -> Result<Change, Fail> {
 
 fn retired_to(alloc: Global, text: &str) -> Result<Change, Fail> {
     Ok(Change::Retired(Some(name(alloc, text)?)))
+}
+
+/// Which change is made: both linkages, another parent, the name for which a leaf is retired, or that it isn't.
+#[derive(Clone, Copy)]
+enum Asked {
+    Both,
+    Relinked(&'static str),
+    Retired(&'static str),
+    NotRetired,
+}
+
+fn change_of(alloc: Global, asked: Asked) -> Result<Change, Fail> {
+    match asked {
+        Asked::Both => with_both(alloc),
+        Asked::Relinked(parent) => relinked_to(alloc, parent),
+        Asked::Retired(text) => retired_to(alloc, text),
+        Asked::NotRetired => Ok(Change::Retired(None)),
+    }
 }
 
 // A locator of so many bytes, an even number from 34 on.
@@ -149,56 +168,80 @@ fn lay(bytes: &mut [u8], pages: &[Page]) {
 fn changed(
     alloc: Global,
     bytes: &mut Repeated,
-    change: &Change,
+    asked: Asked,
     entry: usize,
 ) -> Result<(u32, u32, u32), Fail> {
     let parts = parts_with(alloc, LONG);
-    let updates = update(alloc, bytes, &parts, &[], change).map_err(|_| "refused")?;
+    let change = change_of(alloc, asked)?;
+    let updates = update(alloc, bytes, &parts, &[], &change).map_err(|_| "refused")?;
     lay(bytes.bytes.as_mut_slice(), updates.as_slice());
     Ok(item(bytes.bytes.as_slice(), entry))
 }
 
+// What is changed, and where an item then is.
+static CHANGES: [(Asked, usize, (u32, u32, u32)); 6] = [
+    // a locator of 190 bytes at 65,576: a longer one goes behind the last item, at a page
+    (Asked::Both, 5, (69_632, 308, 4)),
+    (Asked::Relinked("d.vhdx"), 5, (65_576, 190, 4)),
+    (Asked::Relinked("d.vhd"), 5, (65_576, 188, 4)),
+    (Asked::Relinked("dd.vhdx"), 5, (69_632, 192, 4)),
+    // a first name of a retired leaf, and none
+    (Asked::Retired("c.vhdx"), 6, (69_632, 12, 1)),
+    (Asked::NotRetired, 6, (0, 0, 1)),
+];
+
 #[test]
 fn values_go_where_they_fit(rt: HostRuntime) -> Result<(), Fail> {
-    let alloc = rt.alloc();
-    let rows = [
-        // a locator of 190 bytes at 65,576: a longer one goes behind the last item, at a page
-        (with_both(alloc)?, 5, (69_632, 308, 4)),
-        (relinked_to(alloc, "d.vhdx")?, 5, (65_576, 190, 4)),
-        (relinked_to(alloc, "d.vhd")?, 5, (65_576, 188, 4)),
-        (relinked_to(alloc, "dd.vhdx")?, 5, (69_632, 192, 4)),
-        // a first name of a retired leaf, and none
-        (retired_to(alloc, "c.vhdx")?, 6, (69_632, 12, 1)),
-        (Change::Retired(None), 6, (0, 0, 1)),
-    ];
-    for (change, entry, wanted) in rows {
-        let mut store = written(alloc)?;
-        assert_eq!(rt; changed(alloc, &mut store, &change, entry)?, wanted);
+    for (row, (asked, entry, wanted)) in CHANGES.iter().enumerate() {
+        let mut store = written(rt.alloc())?;
+        let found = changed(rt.alloc(), &mut store, *asked, *entry)?;
+        assert!(rt; found == *wanted, "{row}");
     }
     Ok(())
 }
 
-#[test]
-fn later_updates_lie_over_the_earlier(rt: HostRuntime) -> Result<(), Fail> {
-    let alloc = rt.alloc();
+// The update that is asked for, over earlier pages.
+fn updated(
+    alloc: Global,
+    store: &mut Repeated,
+    parts: &Parts,
+    over: &[Page],
+    asked: Asked,
+) -> Result<Updates, Fail>
+    requires { ArePages parts.now over.now }
+    ensures { IfOk result (ArePages parts.now) }
+{
+    let change = change_of(alloc, asked)?;
+    Ok(update(alloc, store, parts, over, &change).map_err(|_| "refused")?)
+}
+
+// The metadata with a locator of both linkages, and then with a retired leaf's name.
+fn twice_updated(alloc: Global) -> Result<Repeated, Fail> {
     let parts = parts_with(alloc, LONG);
     let mut store = written(alloc)?;
-    let both = with_both(alloc)?;
-    let first = update(alloc, &mut store, &parts, &[], &both).map_err(|_| "refused")?;
-    let retired = retired_to(alloc, "c.vhdx")?;
-    let second = update(alloc, &mut store, &parts, first.as_slice(), &retired);
-    let second = second.map_err(|_| "refused")?;
+    let first = updated(alloc, &mut store, &parts, &[], Asked::Both)?;
+    let asked = Asked::Retired("c.vhdx");
+    let second = updated(alloc, &mut store, &parts, first.as_slice(), asked)?;
     lay(store.bytes.as_mut_slice(), first.as_slice());
     lay(store.bytes.as_mut_slice(), second.as_slice());
-    assert_eq!(rt; item(store.bytes.as_slice(), 5), (69_632, 308, 4));
-    assert_eq!(rt; item(store.bytes.as_slice(), 6), (73_728, 12, 1));
-    let rows = [
-        (retired_to(alloc, "b.vhd")?, (73_728, 10, 1)),
-        (Change::Retired(None), (0, 0, 1)),
-        (retired_to(alloc, "b")?, (73_728, 2, 1)),
-    ];
-    for (change, wanted) in rows {
-        assert_eq!(rt; changed(alloc, &mut store, &change, 6)?, wanted);
+    Ok(store)
+}
+
+static LATER: [(Asked, (u32, u32, u32)); 3] = [
+    (Asked::Retired("b.vhd"), (73_728, 10, 1)),
+    (Asked::NotRetired, (0, 0, 1)),
+    (Asked::Retired("b"), (73_728, 2, 1)),
+];
+
+#[test]
+fn later_updates_lie_over_the_earlier(rt: HostRuntime) -> Result<(), Fail> {
+    let mut store = twice_updated(rt.alloc())?;
+    let bytes = store.bytes.as_slice();
+    ask_same(&rt, &item(bytes, 5), &(69_632, 308, 4), "locator");
+    ask_same(&rt, &item(bytes, 6), &(73_728, 12, 1), "retired");
+    for (row, (asked, wanted)) in LATER.iter().enumerate() {
+        let found = changed(rt.alloc(), &mut store, *asked, 6)?;
+        assert!(rt; found == *wanted, "{row}");
     }
     Ok(())
 }
@@ -211,6 +254,20 @@ fn refusal_of(
     change: &Change,
 ) -> Option<MetaRefusal> {
     update(alloc, &mut store, &parts_with(alloc, meta_len), &[], change).err()
+}
+
+// Why a locator of so many bytes isn't put into a region of so many.
+fn long_refusal(alloc: Global, meta_len: u32, len: usize) -> Result<Option<MetaRefusal>, Fail> {
+    let store = written(alloc)?;
+    let change = locator_of(alloc, len)?;
+    Ok(refusal_of(alloc, store, meta_len, &change))
+}
+
+// Why a locator isn't put into a table of so many entries.
+fn table_refusal(alloc: Global, count: u16, flags: u32) -> Result<Option<MetaRefusal>, Fail> {
+    let store = table_of(alloc, count, flags)?;
+    let change = with_both(alloc)?;
+    Ok(refusal_of(alloc, store, SHORT, &change))
 }
 
 #[test]
@@ -227,8 +284,7 @@ fn what_has_no_room_is_refused(rt: HostRuntime) -> Result<(), Fail> {
         (LONG, 65_538, large),
     ];
     for (meta_len, len, wanted) in rows {
-        let found = refusal_of(alloc, written(alloc)?, meta_len, &locator_of(alloc, len)?);
-        assert!(rt; found == wanted);
+        assert!(rt; long_refusal(alloc, meta_len, len)? == wanted, "{len}");
     }
     // tables of entries that are the user's or none
     let tables = [
@@ -238,8 +294,7 @@ fn what_has_no_room_is_refused(rt: HostRuntime) -> Result<(), Fail> {
         (1_024, 1, full),
     ];
     for (count, flags, wanted) in tables {
-        let store = table_of(alloc, count, flags)?;
-        assert!(rt; refusal_of(alloc, store, SHORT, &with_both(alloc)?) == wanted);
+        assert!(rt; table_refusal(alloc, count, flags)? == wanted, "{count}");
     }
     Ok(())
 }

@@ -1,6 +1,7 @@
 //! Streams in memory, whose listed calls fail and no other, and stores that come back.
 
-use mem_store::{Crash, MemHost, MemIds, MemSink, MemSource, MemStore, Pick, Room};
+use mem_store::{Crash, MemHost, MemIds, MemSink, MemSource, MemStore, Pick, Room, Slot};
+use std::alloc::Global;
 use std::test::Fail;
 use store_model::{Ids, Sink, Source};
 use vx_base::Name;
@@ -11,36 +12,59 @@ const ROOM: Room = Room {
     written: 64,
 };
 
-#[test]
-fn listed_reads_fail(rt: HostRuntime) -> Result<(), Fail> {
-    let mut source = MemSource {
-        bytes: b"abcde".to_vec(rt.alloc())?,
+// A source of five bytes, two of which are read at once. Its second read fails.
+fn source(alloc: Global) -> Result<MemSource, Fail> {
+    Ok(MemSource {
+        bytes: b"abcde".to_vec(alloc)?,
         at: 0,
         piece: 2,
         faults: 0,
         calls: 0,
-        failing: [2].to_vec(rt.alloc())?,
-    };
+        failing: [2].to_vec(alloc)?,
+    })
+}
+
+// How many bytes each of three reads gives, if it doesn't fail, and what they leave.
+fn read_thrice(source: &mut MemSource) -> ([Option<usize>; 3], [u8; 4]) {
     let mut out = [0; 4];
-    assert_eq!(rt; source.read(&mut out)?, 2);
-    assert!(rt; source.read(&mut out).is_err());
-    assert_eq!(rt; source.read(&mut out)?, 2);
-    assert_eq!(rt; out, *b"cd\0\0");
+    let first = source.read(&mut out).ok();
+    let second = source.read(&mut out).ok();
+    let third = source.read(&mut out).ok();
+    ([first, second, third], out)
+}
+
+#[test]
+fn listed_reads_fail(rt: HostRuntime) -> Result<(), Fail> {
+    let mut source = source(rt.alloc())?;
+    let (counts, out) = read_thrice(&mut source);
+    assert_eq!(rt; counts, [Some(2), None, Some(2)]);
+    assert!(rt; out == *b"cd\0\0");
     Ok(())
+}
+
+// A sink that takes three bytes at once. Its first write fails.
+fn sink(alloc: Global) -> Result<MemSink, Fail> {
+    Ok(MemSink {
+        bytes: Vec::new(alloc),
+        most: 3,
+        faults: 0,
+        calls: 0,
+        failing: [1].to_vec(alloc)?,
+    })
+}
+
+// How many bytes each of two writes takes, if it doesn't fail.
+fn write_twice(sink: &mut MemSink) -> [Option<usize>; 2] {
+    let first = sink.write(b"abcd").ok();
+    let second = sink.write(b"abcd").ok();
+    [first, second]
 }
 
 #[test]
 fn listed_writes_fail(rt: HostRuntime) -> Result<(), Fail> {
-    let mut sink = MemSink {
-        bytes: Vec::new(rt.alloc()),
-        most: 3,
-        faults: 0,
-        calls: 0,
-        failing: [1].to_vec(rt.alloc())?,
-    };
-    assert!(rt; sink.write(b"abcd").is_err());
-    assert_eq!(rt; sink.write(b"abcd")?, 3);
-    assert_eq!(rt; sink.bytes.as_slice(), b"abc".as_slice());
+    let mut sink = sink(rt.alloc())?;
+    assert_eq!(rt; write_twice(&mut sink), [None, Some(3)]);
+    assert!(rt; sink.bytes.as_slice() == b"abc".as_slice());
     Ok(())
 }
 
@@ -52,18 +76,23 @@ fn listed_identifiers_come_first(rt: HostRuntime) -> Result<(), Fail> {
     Ok(())
 }
 
-#[test]
-fn a_store_that_comes_back_is_kept(rt: HostRuntime) -> Result<(), Fail> {
-    let alloc = rt.alloc();
+// A host of one file, which keeps the stores that come back, and a crash of the first of them.
+fn keeping_host(alloc: Global) -> Result<MemHost, Fail> {
     let mut host = MemHost::new(alloc, ROOM, 1)?;
-    host.put(&Name::new(alloc, "b")?, &[7])?;
+    let name = Name::new(alloc, "b")?;
+    host.put(&name, &[7])?;
     host.crash = Some(Crash {
         store: 0,
         moment: 0,
         pick: Pick::Everything,
     });
     host.keep_returned();
-    let store = MemStore {
+    Ok(host)
+}
+
+// A store without a file.
+fn empty_store(alloc: Global) -> MemStore {
+    MemStore {
         alloc,
         files: Vec::new(alloc),
         order: Vec::new(alloc),
@@ -71,16 +100,30 @@ fn a_store_that_comes_back_is_kept(rt: HostRuntime) -> Result<(), Fail> {
         failing: Vec::new(alloc),
         tears: false,
         failing_reader: None,
-    };
+    }
+}
+
+// The host that the crash left.
+fn crashed(host: &mut MemHost) -> Result<MemHost, Fail> {
+    Ok(host.take_crashed()?.ok_or("none was kept")?)
+}
+
+fn has_bytes(slot: &Slot, bytes: &[u8]) -> bool {
+    match &slot.file {
+        Some(file) => file.now.as_slice() == bytes,
+        None => false,
+    }
+}
+
+#[test]
+fn a_store_that_comes_back_is_kept(rt: HostRuntime) -> Result<(), Fail> {
+    let alloc = rt.alloc();
+    let mut host = keeping_host(alloc)?;
+    let store = empty_store(alloc);
     host.keep_past(&store);
     host.keep_crash(&store);
-    let past = host.past.as_ref().ok_or("none is kept")?;
-    assert_eq!(rt; past.len(), 1);
-    let crashed = host.take_crashed()?.ok_or("none was kept")?;
-    for slot in &crashed.slots {
-        let file = slot.file.as_ref().ok_or("no file")?;
-        assert_eq!(rt; file.now.as_slice(), [7].as_slice());
-    }
-    assert_eq!(rt; crashed.slots.len(), 1);
+    assert!(rt; host.past.as_ref().is_some_and(|past| past.len() == 1));
+    let left = crashed(&mut host)?;
+    assert!(rt; left.slots.len() == 1 && left.slots.iter().all(|slot| has_bytes(slot, &[7])));
     Ok(())
 }

@@ -23,43 +23,63 @@ fn are_lines(
     )
 }
 
+const READ: Form = Form::Read {
+    first: 4094,
+    count: 4,
+};
+
+const WRITE: Form = Form::Write {
+    first: 0,
+    count: 1,
+    byte: 0xab,
+};
+
+const TRIM: Form = Form::Trim {
+    first: u64::MAX,
+    count: 0,
+};
+
+const LOWEST: Form = Form::Fetch { stripe: 0 };
+
+const HIGHEST: Form = Form::Fetch { stripe: u32::MAX };
+
+// Texts with their lines.
+static SCRIPTS: [(ScriptKind, &[u8], &[(u32, Form)]); 5] = [
+    (
+        STEPS,
+        b"# all forms\xff\x00\nread 4094 4\nwrite 0 1 aB\n\ntrim 18446744073709551615 0\nflush",
+        &[(1, READ), (1, WRITE), (1, TRIM), (1, Form::Flush)],
+    ),
+    (
+        STEPS,
+        b"fetch 0\nput\nfetch 4294967295\ncopy\nfinish\n",
+        &[
+            (1, LOWEST),
+            (1, Form::Put),
+            (1, HIGHEST),
+            (1, Form::Copy),
+            (1, Form::Finish),
+        ],
+    ),
+    (
+        SERVE,
+        b"1 write 0 1 ab\n64 flush\n",
+        &[(1, WRITE), (64, Form::Flush)],
+    ),
+    (SERVE, b"\n\n#", &[]),
+    // a line of 80 bytes
+    (
+        STEPS,
+        b"#2345678901234567890123456789012345678901234567890123456789012345678901234567890\nflush",
+        &[(1, Form::Flush)],
+    ),
+];
+
 #[test]
 fn lines_are_read(rt: HostRuntime) -> Result<(), Fail> {
-    let forms =
-        b"# all forms\xff\x00\nread 4094 4\nwrite 0 1 aB\n\ntrim 18446744073709551615 0\nflush";
-    let read = Form::Read {
-        first: 4094,
-        count: 4,
-    };
-    let write = Form::Write {
-        first: 0,
-        count: 1,
-        byte: 0xab,
-    };
-    let trim = Form::Trim {
-        first: u64::MAX,
-        count: 0,
-    };
-    let steps = [(1, read), (1, write), (1, trim), (1, Form::Flush)];
-    assert!(rt; are_lines(rt.alloc(), STEPS, forms, &steps)?);
-    let merging = b"fetch 0\nput\nfetch 4294967295\ncopy\nfinish\n";
-    let lowest = Form::Fetch { stripe: 0 };
-    let highest = Form::Fetch { stripe: u32::MAX };
-    let steps = [
-        (1, lowest),
-        (1, Form::Put),
-        (1, highest),
-        (1, Form::Copy),
-        (1, Form::Finish),
-    ];
-    assert!(rt; are_lines(rt.alloc(), STEPS, merging, &steps)?);
-    let served = [(1, write), (64, Form::Flush)];
-    assert!(rt; are_lines(rt.alloc(), SERVE, b"1 write 0 1 ab\n64 flush\n", &served)?);
-    assert!(rt; are_lines(rt.alloc(), SERVE, b"\n\n#", &[])?);
-    // a line of 80 bytes
-    let longest =
-        b"#2345678901234567890123456789012345678901234567890123456789012345678901234567890\nflush";
-    assert!(rt; are_lines(rt.alloc(), STEPS, longest, &[(1, Form::Flush)])?);
+    for (row, (kind, text, wanted)) in SCRIPTS.iter().enumerate() {
+        assert!(rt; are_lines(rt.alloc(), *kind, text, wanted)?, "{row}");
+    }
     Ok(())
 }
 
@@ -113,10 +133,13 @@ static BROKEN_SERVE: [&[u8]; 8] = [
 #[test]
 fn the_first_broken_line_is_named(rt: HostRuntime) -> Result<(), Fail> {
     for (text, wanted) in &BROKEN_STEPS {
-        assert_eq!(rt; broken_line(rt.alloc(), STEPS, text)?, Some(*wanted));
+        assert!(rt;
+            broken_line(rt.alloc(), STEPS, text)? == Some(*wanted),
+            "{wanted}"
+        );
     }
     for text in &BROKEN_SERVE {
-        assert_eq!(rt; broken_line(rt.alloc(), SERVE, text)?, Some(1));
+        assert!(rt; broken_line(rt.alloc(), SERVE, text)? == Some(1));
     }
     Ok(())
 }

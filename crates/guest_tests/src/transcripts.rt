@@ -5,6 +5,7 @@ ghost use Rattle.std.specs.Prelude.{◌≡◌, length, IfOk};
 use guest_model::{Call, ChainRefusal, Entry};
 use script::{Answer, Form, Text, ToldCall, ToldCalls, push_answered, serve_text, steps_text};
 use std::alloc::Global;
+use std::process::Abort;
 use std::test::Fail;
 use vx_base::Bytes;
 
@@ -18,23 +19,11 @@ fn write(first: u64, count: u64, byte: u8) -> Form {
     Form::Write { first, count, byte }
 }
 
-// Runs of bytes, one after the other.
-fn sectors(alloc: Global, parts: &[(usize, u8)]) -> Result<Vec<u8>, Fail> {
-    let mut bytes = Vec::new(alloc);
-    for (count, byte) in parts {
-        for _ in 0..*count {
-            bytes.push(*byte)?;
-        }
-    }
-    Ok(bytes)
-}
+/// A call's place in the history, its line and its answer.
+type Row<'a> = (Option<u64>, Form, Answer<'a>);
 
-fn told(
-    alloc: Global,
-    place: Option<u64>,
-    form: Form,
-    answer: Answer<'_>,
-) -> Result<ToldCall, Fail> {
+fn told(alloc: Global, row: Row<'_>) -> Result<ToldCall, Fail> {
+    let (place, form, answer) = row;
     let mut text = String::new(alloc);
     push_answered(&mut text, &NAMES, form, answer)?;
     Ok(ToldCall {
@@ -43,54 +32,88 @@ fn told(
     })
 }
 
+// What is told of these calls, one after the other.
+fn all_told(alloc: Global, rows: &[Row<'_>]) -> Result<Vec<ToldCall>, Fail> {
+    let mut all = Vec::new(alloc);
+    for row in rows {
+        all.push(told(alloc, *row)?)?;
+    }
+    Ok(all)
+}
+
+// Asks that the transcript of these calls is this text.
+fn ask_steps<R: Abort>(rt: &R, alloc: Global, rows: &[Row<'_>], wanted: &str) -> Result<(), Fail> {
+    let told = all_told(alloc, rows)?;
+    assert_eq!(rt; steps_text(alloc, &told)?.as_str(), wanted);
+    Ok(())
+}
+
+const BROKEN: ChainRefusal = ChainRefusal::Broken { file: 1, count: 2 };
+
+const TRIM: Form = Form::Trim {
+    first: 0,
+    count: 2048,
+};
+
+const PAST_THE_END: ChainRefusal = ChainRefusal::OutOfRange {
+    first: 2_097_152,
+    count: 1,
+    sectors: 2_097_152,
+};
+
+// Four sectors, the second and the third of them filled.
+fn mixed() -> [u8; 2048] {
+    let mut bytes = [0; 2048];
+    for byte in &mut bytes[512..1536] {
+        *byte = 0xaa;
+    }
+    bytes
+}
+
 #[test]
 fn a_transcript_of_steps(rt: HostRuntime) -> Result<(), Fail> {
-    let alloc = rt.alloc();
-    let mixed = sectors(alloc, &[(512, 0), (1024, 0xaa), (512, 0)])?;
-    let range = ChainRefusal::OutOfRange {
-        first: 2_097_152,
-        count: 1,
-        sectors: 2_097_152,
-    };
-    let broken = ChainRefusal::Broken { file: 1, count: 2 };
-    let trim = Form::Trim {
-        first: 0,
-        count: 2048,
-    };
-    let told = [
-        told(alloc, Some(1), write(4095, 2, 0xaa), Answer::Done)?,
-        told(alloc, Some(2), read(4094, 4), Answer::Bytes(&mixed))?,
-        told(alloc, None, read(2_097_152, 1), Answer::Refused(range))?,
-        told(alloc, Some(3), trim, Answer::Done)?,
-        told(alloc, None, Form::Flush, Answer::Refused(broken))?,
+    let mixed = mixed();
+    let rows = [
+        (Some(1), write(4095, 2, 0xaa), Answer::Done),
+        (Some(2), read(4094, 4), Answer::Bytes(&mixed)),
+        (None, read(2_097_152, 1), Answer::Refused(PAST_THE_END)),
+        (Some(3), TRIM, Answer::Done),
+        (None, Form::Flush, Answer::Refused(BROKEN)),
     ];
     let wanted = "1 write 4095 2 aa = done\n\
         2 read 4094 4 = 512*00 1024*aa 512*00\n\
         - read 2097152 1 = refused 32 OutOfRange first 2097152 count 1 sectors 2097152\n\
         3 trim 0 2048 = done\n\
         - flush = refused 35 Broken b.vhdx count 2\n";
-    assert_eq!(rt; steps_text(alloc, &told)?.as_str(), wanted);
-    Ok(())
+    ask_steps(&rt, rt.alloc(), &rows, wanted)
 }
+
+const FETCH: Form = Form::Fetch { stripe: 1023 };
+
+const WRITE: Form = Form::Write {
+    first: 0,
+    count: 1,
+    byte: 1,
+};
+
+const STALE: ChainRefusal = ChainRefusal::Stale { taken: 0, now: 1 };
+
+const MISSING: ChainRefusal = ChainRefusal::NotYet { stripe: 7 };
+
+static MERGED: [Row<'static>; 9] = [
+    (None, FETCH, Answer::Stamp(0)),
+    (Some(1), WRITE, Answer::Done),
+    (None, Form::Put, Answer::Refused(STALE)),
+    (None, FETCH, Answer::Stamp(u64::MAX)),
+    (None, Form::Put, Answer::Copied),
+    (None, Form::Finish, Answer::Refused(MISSING)),
+    (None, Form::Copy, Answer::Done),
+    (None, Form::Finish, Answer::Done),
+    (None, Form::Copy, Answer::Refused(ChainRefusal::NoMerge)),
+];
 
 #[test]
 fn a_transcript_of_a_merge(rt: HostRuntime) -> Result<(), Fail> {
-    let alloc = rt.alloc();
-    let fetch = Form::Fetch { stripe: 1023 };
-    let stale = ChainRefusal::Stale { taken: 0, now: 1 };
-    let missing = ChainRefusal::NotYet { stripe: 7 };
-    let ended = ChainRefusal::NoMerge;
-    let told = [
-        told(alloc, None, fetch, Answer::Stamp(0))?,
-        told(alloc, Some(1), write(0, 1, 1), Answer::Done)?,
-        told(alloc, None, Form::Put, Answer::Refused(stale))?,
-        told(alloc, None, fetch, Answer::Stamp(u64::MAX))?,
-        told(alloc, None, Form::Put, Answer::Copied)?,
-        told(alloc, None, Form::Finish, Answer::Refused(missing))?,
-        told(alloc, None, Form::Copy, Answer::Done)?,
-        told(alloc, None, Form::Finish, Answer::Done)?,
-        told(alloc, None, Form::Copy, Answer::Refused(ended))?,
-    ];
     let wanted = "- fetch 1023 = stamp 0\n\
         1 write 0 1 01 = done\n\
         - put = refused 46 Stale taken 0 now 1\n\
@@ -100,33 +123,37 @@ fn a_transcript_of_a_merge(rt: HostRuntime) -> Result<(), Fail> {
         - copy = done\n\
         - finish = done\n\
         - copy = refused 45 NoMerge\n";
-    assert_eq!(rt; steps_text(alloc, &told)?.as_str(), wanted);
-    Ok(())
+    ask_steps(&rt, rt.alloc(), &MERGED, wanted)
 }
 
 // The calls of one guest.
-fn calls(first: ToldCall, second: ToldCall, alloc: Global) -> Result<ToldCalls, Fail>
+fn calls(alloc: Global, first: Row<'_>, second: Row<'_>) -> Result<ToldCalls, Fail>
     ensures { IfOk result (λ calls. length calls ≡ 2) }
 {
     let mut calls = ToldCalls::new(alloc);
-    calls.push(first)?;
-    calls.push(second)?;
+    calls.push(told(alloc, first)?)?;
+    calls.push(told(alloc, second)?)?;
     Ok(calls)
+}
+
+static ZEROS: [u8; 512] = [0; 512];
+
+const EMPTY: Answer<'static> = Answer::Refused(ChainRefusal::EmptyRange);
+
+fn one_byte(alloc: Global) -> Result<Bytes, Fail> {
+    Ok(Bytes::from_slice(alloc, &[0xaa])?)
 }
 
 #[test]
 fn a_transcript_of_guests(rt: HostRuntime) -> Result<(), Fail> {
     let alloc = rt.alloc();
-    let zeros = sectors(alloc, &[(512, 0)])?;
-    let empty = Answer::Refused(ChainRefusal::EmptyRange);
-    let wrote = told(alloc, Some(2), write(0, 1, 0xaa), Answer::Done)?;
-    let refused = told(alloc, None, read(0, 0), empty)?;
-    let late = told(alloc, None, read(9, 0), empty)?;
-    let gave = told(alloc, Some(1), read(0, 1), Answer::Bytes(&zeros))?;
-    let mut guests = Vec::new(alloc);
-    guests.push(calls(wrote, refused, alloc)?)?;
-    guests.push(ToldCalls::new(alloc))?;
-    guests.push(calls(late, gave, alloc)?)?;
+    let wrote = (Some(2), write(0, 1, 0xaa), Answer::Done);
+    let gave = (Some(1), read(0, 1), Answer::Bytes(&ZEROS));
+    let guests = [
+        calls(alloc, wrote, (None, read(0, 0), EMPTY))?,
+        ToldCalls::new(alloc),
+        calls(alloc, (None, read(9, 0), EMPTY), gave)?,
+    ];
     let history = [
         Entry {
             guest: 3,
@@ -138,7 +165,7 @@ fn a_transcript_of_guests(rt: HostRuntime) -> Result<(), Fail> {
             no: 1,
             call: Call::Write {
                 first: 0,
-                bytes: Bytes::from_slice(alloc, &[0xaa])?,
+                bytes: one_byte(alloc)?,
             },
         },
     ];

@@ -1,93 +1,90 @@
 //! Chains of files in memory: what a dump of a leaf over parents shows, and each refusal of its links.
 
-ghost use Rattle.std.specs.Prelude.{OnOk};
 ghost use Rattle.link_rules.specs.Folders.{AllIdle};
 ghost use Rattle.mem_store.specs.HostTold.{hosted_by};
 ghost use Rattle.store_model.specs.Disk.{WhereTold};
 
 use crate::common::{
-    Patch, add, bytes_of, empty_host, host_with, ids_of, line_of, prepare, run_done, run_line,
+    Patch, add, add_text, ask_text, bytes_of, empty_host, host_with, ids_of, line_of, prepare,
+    run_done, run_line, says,
 };
 use crate::files::{FIXED, file_of, place};
 use mem_store::{MemHost, MemIds, Room};
 use parent_locator::{Locator, Pair, build, fits};
 use std::alloc::Global;
+use std::process::Abort;
 use std::sync::Wait;
-use std::test::Fail;
 use std::thread::Threads;
 use vhdx_app::Status;
 use vx_base::{Units, zeroed};
 
 // The bytes of the host's file of a name, with these bytes over its own.
-fn patched_file(
+fn patched_file<R: Abort>(
+    rt: &R,
     alloc: Global,
     host: &MemHost,
     name: &str,
     len: usize,
     patches: &[Patch<'_>],
-) -> Result<Vec<u8>, Fail> {
-    let whole = bytes_of(host, name).ok_or("no file")?;
-    let mut file = zeroed(alloc, len)?;
+) -> Vec<u8> {
+    let whole = bytes_of(host, name).expect(rt, "no file");
+    let mut file = zeroed(alloc, len).expect(rt, "no memory");
     place(&mut file, 0, whole);
     for (at, bytes) in patches {
         place(&mut file, *at, bytes);
     }
-    Ok(file)
+    file
 }
 
-fn units_of(alloc: Global, text: &str) -> Result<Units, Fail> {
+fn units_of<R: Abort>(rt: &R, alloc: Global, text: &str) -> Units {
     let mut units = Units::new(alloc);
     for byte in text.as_bytes() {
-        units.push(u16::from(*byte))?;
+        units.push(u16::from(*byte)).expect(rt, "no memory");
     }
-    Ok(units)
+    units
 }
 
 // Writes a locator of these pairs over the one of a child that was made.
-fn put_locator(alloc: Global, file: &mut [u8], pairs: &[(&str, &str)]) -> Result<(), Fail> {
+fn put_locator<R: Abort>(rt: &R, alloc: Global, file: &mut [u8], pairs: &[(&str, &str)]) {
     let mut locator = Locator::new(alloc);
     for (key, value) in pairs {
-        locator.push(Pair {
-            key: units_of(alloc, key)?,
-            value: units_of(alloc, value)?,
-        })?;
+        let key = units_of(rt, alloc, key);
+        let value = units_of(rt, alloc, value);
+        locator.push(Pair { key, value }).expect(rt, "no memory");
     }
-    if !fits(&locator) {
-        return Err(Fail::from("a long locator"));
-    }
-    let bytes = build(alloc, &locator)?;
+    assert!(rt; fits(&locator), "a long locator");
+    let bytes = build(alloc, &locator).expect(rt, "no memory");
     place(file, 2_162_728, bytes.as_slice());
     let len = u32::try_from(bytes.as_slice().len()).unwrap_or(0);
     place(file, 2_097_364, &len.to_le_bytes());
-    Ok(())
 }
 
 // Whether the line over the host ends so and prints this text.
-fn answers<R: Threads + Wait>(
+fn answers<R: Abort + Threads + Wait>(
     rt: &R,
     alloc: Global,
     host: &mut MemHost,
     line: &str,
     status: Status,
     text: &str,
-) -> Result<bool, Fail>
+) -> bool
     requires { WhereTold (hosted_by host.old).folder AllIdle }
 {
-    let mut ids = ids_of(alloc, &[])?;
-    let (met, out) = run_line(rt, alloc, line, host, &mut ids)?;
-    Ok(met == status && out.bytes.as_slice() == text.as_bytes())
+    let mut ids = ids_of(rt, alloc, &[]);
+    let (met, out) = run_line(rt, alloc, line, host, &mut ids);
+    met == status && says(&out, text)
 }
 
 #[test]
-fn sectors_of_two_files(rt: HostRuntime) -> Result<(), Fail> {
+fn sectors_of_two_files(rt: HostRuntime) {
     let alloc = rt.alloc();
     // A base with blocks of 1 MB, all there; its sector 4,097 stands in the third.
-    let mut base = file_of(alloc, FIXED)?;
+    let mut base = file_of(&rt, alloc, FIXED);
     place(&mut base, 6_291_968, &[0x5A; 512]);
-    let mut host = host_with(alloc, "b.vhdx", &base)?;
-    let mut ids = ids_of(alloc, &[])?;
+    let mut host = host_with(&rt, alloc, "b.vhdx", &base);
+    let mut ids = ids_of(&rt, alloc, &[]);
     let line = "make child c.vhdx --parent b.vhdx --block 2";
-    prepare(&rt, alloc, &[line], &mut host, &mut ids)?;
+    prepare(&rt, alloc, &[line], &mut host, &mut ids);
     // A child with blocks of 2 MB: the first is fully present, the second in part, with sector 4,096 alone.
     let patches: &[Patch] = &[
         (3_145_728, &[6, 0, 0x40]),
@@ -97,13 +94,13 @@ fn sectors_of_two_files(rt: HostRuntime) -> Result<(), Fail> {
         (6_291_456, &[0xA5; 1_024]),
         (8_389_120, &[1]),
     ];
-    let child = patched_file(alloc, &host, "c.vhdx", 9_437_184, patches)?;
-    let mut host = host_with(alloc, "c.vhdx", &child)?;
-    add(alloc, &mut host, "b.vhdx", &base)?;
-    let mut lines = line_of(alloc, "4095", "3c")?;
+    let child = patched_file(&rt, alloc, &host, "c.vhdx", 9_437_184, patches);
+    let mut host = host_with(&rt, alloc, "c.vhdx", &child);
+    add(&rt, alloc, &mut host, "b.vhdx", &base);
+    let mut lines = line_of(&rt, alloc, "4095", "3c");
     for (number, byte) in [("4096", "a5"), ("4097", "5a")] {
-        let line = line_of(alloc, number, byte)?;
-        lines.push_str(line.as_str())?;
+        let line = line_of(&rt, alloc, number, byte);
+        add_text(&rt, &mut lines, &line);
     }
     let met = answers(
         &rt,
@@ -112,9 +109,8 @@ fn sectors_of_two_files(rt: HostRuntime) -> Result<(), Fail> {
         "dump c.vhdx 4095 3",
         Status::Done,
         lines.as_str(),
-    )?;
+    );
     assert!(rt; met);
-    Ok(())
 }
 
 // Its data_write identifiers are {02..} and {04..}.
@@ -162,75 +158,73 @@ static LINKS: [(&[(&str, &str)], &str); 6] = [
 ];
 
 // Whether the line over a base and its child is refused so.
-fn is_refused<R: Threads + Wait>(
+fn is_refused<R: Abort + Threads + Wait>(
     rt: &R,
     alloc: Global,
     files: (&[u8], &[u8]),
     line: &str,
     text: &str,
-) -> Result<bool, Fail> {
+) -> bool {
     let (base, child) = files;
-    let mut host = host_with(alloc, "b.vhdx", base)?;
-    add(alloc, &mut host, "c.vhdx", child)?;
+    let mut host = host_with(rt, alloc, "b.vhdx", base);
+    add(rt, alloc, &mut host, "c.vhdx", child);
     answers(rt, alloc, &mut host, line, Status::Refused, text)
 }
 
 #[test]
-fn refused_links(rt: HostRuntime) -> Result<(), Fail> {
+fn refused_links(rt: HostRuntime) {
     let alloc = rt.alloc();
-    let mut host = empty_host(alloc)?;
-    let mut ids = ids_of(alloc, &[[1; 16], [2; 16], [3; 16], [4; 16]])?;
-    prepare(&rt, alloc, &MAKE_BOTH, &mut host, &mut ids)?;
-    let base = patched_file(alloc, &host, "b.vhdx", 4_194_304, &[])?;
-    let mut child = patched_file(alloc, &host, "c.vhdx", 4_194_304, &[])?;
+    let mut host = empty_host(&rt, alloc);
+    let mut ids = ids_of(&rt, alloc, &[[1; 16], [2; 16], [3; 16], [4; 16]]);
+    prepare(&rt, alloc, &MAKE_BOTH, &mut host, &mut ids);
+    let base = patched_file(&rt, alloc, &host, "b.vhdx", 4_194_304, &[]);
+    let mut child = patched_file(&rt, alloc, &host, "c.vhdx", 4_194_304, &[]);
     for (pairs, text) in &LINKS {
-        put_locator(alloc, &mut child, pairs)?;
+        put_locator(&rt, alloc, &mut child, pairs);
         for line in [
             "dump c.vhdx 0 1",
             "info c.vhdx",
             "make child d.vhdx --parent c.vhdx",
         ] {
-            let met = is_refused(&rt, alloc, (&base, &child), line, text)?;
+            let met = is_refused(&rt, alloc, (&base, &child), line, text);
             assert!(rt; met, "{line}: {text}");
         }
     }
-    Ok(())
 }
 
 // Makes the file 0 and so many children, each of the one before.
-fn make_chain<R: Threads + Wait>(
+fn make_chain<R: Abort + Threads + Wait>(
     rt: &R,
     alloc: Global,
     children: u32,
     host: &mut MemHost,
     ids: &mut MemIds,
-) -> Result<(), Fail>
+)
     requires { WhereTold (hosted_by host.old).folder AllIdle }
-    ensures { OnOk result (WhereTold (hosted_by host.new).folder AllIdle) }
+    ensures { WhereTold (hosted_by host.new).folder AllIdle }
 {
-    run_done(rt, alloc, "make dynamic 0 --sectors 1", host, ids)?;
+    run_done(rt, alloc, "make dynamic 0 --sectors 1", host, ids);
     for parent in 0..children {
         let name = u64::from(parent) + 1;
-        let line = format!(in alloc; "make child {name} --parent {parent}")?;
-        run_done(rt, alloc, line.as_str(), host, ids)?;
+        let line = format!(in alloc; "make child {name} --parent {parent}").expect(rt, "no memory");
+        run_done(rt, alloc, line.as_str(), host, ids);
     }
-    Ok(())
 }
 
 #[test]
-fn sixty_five_files(rt: HostRuntime) -> Result<(), Fail> {
+fn sixty_five_files(rt: HostRuntime) {
     let alloc = rt.alloc();
     let room = Room {
         bytes: 4_194_304,
         changes: 8,
         written: 1_200_000,
     };
-    let mut host = MemHost::new(alloc, room, 65)?;
-    let mut ids = ids_of(alloc, &[])?;
-    make_chain(&rt, alloc, 64, &mut host, &mut ids)?;
-    let out = run_done(&rt, alloc, "dump 63 0 1", &mut host, &mut ids)?;
-    let zeros = line_of(alloc, "0", "00")?;
-    assert!(rt; out.bytes.as_slice() == zeros.as_bytes());
+    let mut host = MemHost::new(alloc, room, 65).expect(&rt, "no memory");
+    let mut ids = ids_of(&rt, alloc, &[]);
+    make_chain(&rt, alloc, 64, &mut host, &mut ids);
+    let out = run_done(&rt, alloc, "dump 63 0 1", &mut host, &mut ids);
+    let zeros = line_of(&rt, alloc, "0", "00");
+    ask_text(&rt, &out, &zeros);
     let refused = "refused 24 ChainTooLong 0\n";
     assert!(rt;
         answers(
@@ -240,7 +234,6 @@ fn sixty_five_files(rt: HostRuntime) -> Result<(), Fail> {
             "dump 64 0 1",
             Status::Refused,
             refused
-        )?
+        )
     );
-    Ok(())
 }

@@ -1,23 +1,25 @@
 //! The merge of the leaf of a chain in memory: what its lines are told, what stands in the files behind it, and what a crash at
 //! each moment or a failing call leaves, from which the merge goes on to its end.
 
-ghost use Rattle.std.specs.Prelude.{IfOk};
 ghost use Rattle.link_rules.specs.Folders.{AllIdle};
 ghost use Rattle.mem_store.specs.HostTold.{hosted_by};
 ghost use Rattle.store_model.specs.Disk.{WhereTold};
 
 use crate::common::{
-    Case, PLAIN, Patch, bytes_of, ids_of, is_told, line_of, prepare, run_done, script_done, stands,
+    Case, PLAIN, Patch, ask_same, ask_text, bytes_of, ids_of, is_told, line_of, prepare, run_done,
+    script_done, stands, stands_wide,
 };
 use crate::files::place;
 use crate::merge_crashes::{
-    DRAWN, DRAWN_LATER, Merging, TO_THE_END, chain, each_failing_call, each_pick, held_bytes,
-    host_of, is_refused,
+    ChainBytes, DRAWN, DRAWN_LATER, Merging, TO_THE_END, chain, each_failing_call, each_is_told,
+    each_pick, each_unfit_is_refused, held_bytes, host_of,
 };
 use crate::merges::MIDDLE;
 use mem_store::{MemHost, Pick, Room};
 use std::alloc::Global;
-use std::test::Fail;
+use std::process::Abort;
+use std::sync::Wait;
+use std::thread::Threads;
 use vhdx_app::Status;
 
 const MERGE: &str = "steps c.vhdx --merge c.vhdx";
@@ -152,14 +154,8 @@ static TOLD: [Case; 10] = [
 ];
 
 #[test]
-fn what_leaf_merges_are_told(rt: HostRuntime) -> Result<(), Fail> {
-    let alloc = rt.alloc();
-    for case in &TOLD {
-        let mut host = chain(&rt, alloc, &LEAF)?;
-        let text = case.text;
-        assert!(rt; is_told(&rt, alloc, case, &DRAWN, &mut host)?, "{text}");
-    }
-    Ok(())
+fn what_leaf_merges_are_told(rt: HostRuntime) {
+    each_is_told(&rt, rt.alloc(), &LEAF, &TOLD);
 }
 
 // What is done over one chain, line by line: a merge is not finished, begins anew and is finished; then the leaf is retired.
@@ -191,46 +187,53 @@ static IN_TURN: [Case; 4] = [
     },
 ];
 
-#[test]
-fn leaf_merges_in_turn(rt: HostRuntime) -> Result<(), Fail> {
-    let alloc = rt.alloc();
-    let mut files = held_bytes(alloc, &chain(&rt, alloc, &LEAF)?)?;
-    for (number, case) in (1u8..).zip(&IN_TURN) {
-        let mut host = host_of(alloc, &files)?;
-        let mut drawn = DRAWN;
-        for id in &mut drawn {
-            id[0] = number;
-        }
-        let text = case.text;
-        assert!(rt; is_told(&rt, alloc, case, &drawn, &mut host)?, "{text}");
-        files = held_bytes(alloc, &host)?;
+// The files as the case leaves them, which ends as it says. It draws identifiers that begin with the number.
+fn taken_on<R: Abort + Threads + Wait>(
+    rt: &R,
+    alloc: Global,
+    files: &ChainBytes,
+    number: u8,
+    case: &Case,
+) -> ChainBytes {
+    let mut host = host_of(rt, alloc, files);
+    let mut drawn = DRAWN;
+    for id in &mut drawn {
+        id[0] = number;
     }
-    Ok(())
+    let told = is_told(rt, alloc, case, &drawn, &mut host);
+    assert!(rt; told, "{}", case.text);
+    held_bytes(rt, alloc, &host)
 }
 
 #[test]
-fn unfit_identifiers_of_a_leaf_merge(rt: HostRuntime) -> Result<(), Fail> {
-    let zero = "refused 44 IdUnfit {00000000-0000-0000-0000-000000000000}\n";
-    let first = "refused 44 IdUnfit {11111111-1111-1111-1111-111111111111}\n";
-    let fifth = "refused 44 IdUnfit {15151515-1515-1515-1515-151515151515}\n";
-    // Which of those drawn is another one.
-    let rows = [
-        (0, [0; 16], zero),
-        (3, [0; 16], zero),
-        (6, [0; 16], zero),
-        (1, [0x11; 16], first),
-        (6, [0x11; 16], first),
-        (6, [0x15; 16], fifth),
-    ];
-    for (drawn_as, id, text) in rows {
-        let mut drawn = DRAWN;
-        if let Some(unfit) = drawn.get_mut(drawn_as) {
-            *unfit = id;
-        }
-        let refused = is_refused(&rt, rt.alloc(), &LEAF, &drawn, text)?;
-        assert!(rt; refused, "{drawn_as} {text}");
+fn leaf_merges_in_turn(rt: HostRuntime) {
+    let alloc = rt.alloc();
+    let host = chain(&rt, alloc, &LEAF);
+    let mut files = held_bytes(&rt, alloc, &host);
+    for (number, case) in (1u8..).zip(&IN_TURN) {
+        files = taken_on(&rt, alloc, &files, number, case);
     }
-    Ok(())
+}
+
+const ZERO: &str = "refused 44 IdUnfit {00000000-0000-0000-0000-000000000000}\n";
+
+const FIRST: &str = "refused 44 IdUnfit {11111111-1111-1111-1111-111111111111}\n";
+
+const FIFTH: &str = "refused 44 IdUnfit {15151515-1515-1515-1515-151515151515}\n";
+
+// Which of those drawn is another one, of what byte, and how the merge is refused then.
+static UNFIT: [(usize, u8, &str); 6] = [
+    (0, 0, ZERO),
+    (3, 0, ZERO),
+    (6, 0, ZERO),
+    (1, 0x11, FIRST),
+    (6, 0x11, FIRST),
+    (6, 0x15, FIFTH),
+];
+
+#[test]
+fn unfit_identifiers_of_a_leaf_merge(rt: HostRuntime) {
+    each_unfit_is_refused(&rt, rt.alloc(), &LEAF, &UNFIT);
 }
 
 // Room for a base with a block of 32 MB, and its child.
@@ -240,11 +243,10 @@ const ROOM: Room = Room {
     written: 1_200_000,
 };
 
-fn roomy_host(alloc: Global) -> Result<MemHost, Fail>
-    ensures { IfOk result (λ host. WhereTold (hosted_by host).folder AllIdle) }
+fn roomy_host<R: Abort>(rt: &R, alloc: Global) -> MemHost
+    ensures { WhereTold (hosted_by result).folder AllIdle }
 {
-    let host = MemHost::new(alloc, ROOM, 2)?;
-    Ok(host)
+    MemHost::new(alloc, ROOM, 2).expect(rt, "no memory")
 }
 
 const MADE: [&str; 2] = [
@@ -300,16 +302,6 @@ const TEXTS: [(usize, &str); 7] = [
     (2_170_880, "b.vhdx"),
 ];
 
-// Whether the text stands at a place of the file, each letter in two bytes.
-fn stands_wide(alloc: Global, file: &[u8], at: usize, text: &str) -> Result<bool, Fail> {
-    let mut wide = Vec::new(alloc);
-    for byte in text.as_bytes() {
-        wide.push(*byte)?;
-        wide.push(0)?;
-    }
-    Ok(stands(file, at, &wide))
-}
-
 const TOO_SOON: &str = "finish\nput\nfetch 1024\n";
 
 const REFUSED: &str =
@@ -319,51 +311,49 @@ const RETIRED: &str =
     "retired c.vhdx to b.vhdx\nb.vhdx dynamic sectors 2097152 sector 512 block 32 id {17171717-1717-1717-1717-171717171717} parent none\n";
 
 #[test]
-fn files_of_a_leaf_merge(rt: HostRuntime) -> Result<(), Fail> {
+fn files_of_a_leaf_merge(rt: HostRuntime) {
     let alloc = rt.alloc();
-    let mut host = roomy_host(alloc)?;
-    let mut ids = ids_of(alloc, &[])?;
-    prepare(&rt, alloc, &MADE, &mut host, &mut ids)?;
-    let told = script_done(&rt, alloc, MERGE, TOO_SOON, &mut host, &mut ids)?;
-    assert_eq!(rt; told.bytes.as_slice(), REFUSED.as_bytes());
-    let mut ids = ids_of(alloc, &DRAWN)?;
-    let told = script_done(&rt, alloc, ROW.line, ROW.script, &mut host, &mut ids)?;
-    assert_eq!(rt; told.bytes.as_slice(), ROW.text.as_bytes());
-    let info = run_done(&rt, alloc, "info c.vhdx", &mut host, &mut ids)?;
-    assert_eq!(rt; info.bytes.as_slice(), RETIRED.as_bytes());
-    let dump = run_done(&rt, alloc, "dump c.vhdx 0 1", &mut host, &mut ids)?;
-    let line = line_of(alloc, "0", "11")?;
-    assert!(rt; dump.bytes.as_slice() == line.as_bytes());
-    let base = bytes_of(&host, "b.vhdx").ok_or("no file")?;
-    assert_eq!(rt; base.len(), 37_748_736);
+    let mut host = roomy_host(&rt, alloc);
+    let mut ids = ids_of(&rt, alloc, &[]);
+    prepare(&rt, alloc, &MADE, &mut host, &mut ids);
+    let told = script_done(&rt, alloc, MERGE, TOO_SOON, &mut host, &mut ids);
+    ask_text(&rt, &told, REFUSED);
+    let mut ids = ids_of(&rt, alloc, &DRAWN);
+    let told = script_done(&rt, alloc, ROW.line, ROW.script, &mut host, &mut ids);
+    ask_text(&rt, &told, ROW.text);
+    let info = run_done(&rt, alloc, "info c.vhdx", &mut host, &mut ids);
+    ask_text(&rt, &info, RETIRED);
+    let dump = run_done(&rt, alloc, "dump c.vhdx 0 1", &mut host, &mut ids);
+    let line = line_of(&rt, alloc, "0", "11");
+    ask_text(&rt, &dump, &line);
+    let base = bytes_of(&host, "b.vhdx").expect(&rt, "no file");
+    ask_same(&rt, &base.len(), &37_748_736, "bytes");
     assert!(rt; BASE.iter().all(|(at, bytes)| stands(base, *at, bytes)));
-    let leaf = bytes_of(&host, "c.vhdx").ok_or("no file")?;
+    let leaf = bytes_of(&host, "c.vhdx").expect(&rt, "no file");
     for (at, bytes) in ITEMS {
         assert!(rt; stands(leaf, at, bytes), "{at}");
     }
     for (at, text) in TEXTS {
-        assert!(rt; stands_wide(alloc, leaf, at, text)?, "{text}");
+        assert!(rt; stands_wide(&rt, alloc, leaf, at, text), "{text}");
     }
-    Ok(())
 }
 
 // The next session by the leaf's name writes the parent, and the leaf no more.
 #[test]
-fn sessions_behind_a_leaf_merge(rt: HostRuntime) -> Result<(), Fail> {
+fn sessions_behind_a_leaf_merge(rt: HostRuntime) {
     let alloc = rt.alloc();
-    let mut host = chain(&rt, alloc, &LEAF)?;
-    let mut ids = ids_of(alloc, &DRAWN)?;
-    script_done(&rt, alloc, MERGE, TO_THE_END, &mut host, &mut ids)?;
-    let before = held_bytes(alloc, &host)?;
-    let mut ids = ids_of(alloc, &DRAWN_LATER)?;
+    let mut host = chain(&rt, alloc, &LEAF);
+    let mut ids = ids_of(&rt, alloc, &DRAWN);
+    script_done(&rt, alloc, MERGE, TO_THE_END, &mut host, &mut ids);
+    let before = held_bytes(&rt, alloc, &host);
+    let mut ids = ids_of(&rt, alloc, &DRAWN_LATER);
     let script = "write 2049 1 cc\nread 2048 2\n";
-    script_done(&rt, alloc, "steps c.vhdx", script, &mut host, &mut ids)?;
-    let after = held_bytes(alloc, &host)?;
+    script_done(&rt, alloc, "steps c.vhdx", script, &mut host, &mut ids);
+    let after = held_bytes(&rt, alloc, &host);
     assert!(rt; after.leaf.as_slice() == before.leaf.as_slice());
     // Its block of sector 2,048 is the first that was written.
     assert!(rt; stands(&after.base, 4_194_304, &[0x22; 512]));
     assert!(rt; stands(&after.base, 4_194_816, &[0xCC; 512]));
-    Ok(())
 }
 
 // An item in the base's metadata that it is retired, which says nothing in a parent's place: that there are six, its place and length, and
@@ -385,16 +375,16 @@ const RETIRED_BASE: [Patch<'static>; 3] = [
 
 // A parent that was retired stands for itself once it takes the leaf's place: its item has no place and no length.
 #[test]
-fn a_retired_parent(rt: HostRuntime) -> Result<(), Fail> {
+fn a_retired_parent(rt: HostRuntime) {
     let alloc = rt.alloc();
-    let mut files = held_bytes(alloc, &chain(&rt, alloc, &LEAF)?)?;
+    let mut files = held_bytes(&rt, alloc, &chain(&rt, alloc, &LEAF));
     for (at, bytes) in RETIRED_BASE {
         place(&mut files.base, at, bytes);
     }
-    let mut host = host_of(alloc, &files)?;
-    let mut ids = ids_of(alloc, &DRAWN)?;
-    script_done(&rt, alloc, MERGE, TO_THE_END, &mut host, &mut ids)?;
-    let base = bytes_of(&host, "b.vhdx").ok_or("no file")?;
+    let mut host = host_of(&rt, alloc, &files);
+    let mut ids = ids_of(&rt, alloc, &DRAWN);
+    script_done(&rt, alloc, MERGE, TO_THE_END, &mut host, &mut ids);
+    let base = bytes_of(&host, "b.vhdx").expect(&rt, "no file");
     assert!(rt; stands(base, 2_097_360, &[0, 0, 0, 0, 0, 0, 0, 0, 1, 0, 0, 0]));
     let told = script_done(
         &rt,
@@ -403,9 +393,8 @@ fn a_retired_parent(rt: HostRuntime) -> Result<(), Fail> {
         "read 3 1\n",
         &mut host,
         &mut ids,
-    )?;
-    assert_eq!(rt; told.bytes.as_slice(), b"1 read 3 1 = 512*33\n".as_slice());
-    Ok(())
+    );
+    ask_text(&rt, &told, "1 read 3 1 = 512*33\n");
 }
 
 const RETIRED_TWICE: &str =
@@ -413,17 +402,17 @@ const RETIRED_TWICE: &str =
 
 // The file between leaf and base takes the leaf's place, and is then merged itself.
 #[test]
-fn one_leaf_behind_another(rt: HostRuntime) -> Result<(), Fail> {
+fn one_leaf_behind_another(rt: HostRuntime) {
     let alloc = rt.alloc();
-    let mut host = chain(&rt, alloc, &MIDDLE)?;
-    let mut ids = ids_of(alloc, &DRAWN)?;
+    let mut host = chain(&rt, alloc, &MIDDLE);
+    let mut ids = ids_of(&rt, alloc, &DRAWN);
     let script = "write 6 1 bb\ncopy\nfinish\nwrite 7 1 cc\n";
-    script_done(&rt, alloc, MERGE, script, &mut host, &mut ids)?;
-    let mut ids = ids_of(alloc, &DRAWN_LATER)?;
+    script_done(&rt, alloc, MERGE, script, &mut host, &mut ids);
+    let mut ids = ids_of(&rt, alloc, &DRAWN_LATER);
     let line = "steps c.vhdx --merge m.vhdx";
-    script_done(&rt, alloc, line, TO_THE_END, &mut host, &mut ids)?;
-    let info = run_done(&rt, alloc, "info c.vhdx", &mut host, &mut ids)?;
-    assert_eq!(rt; info.bytes.as_slice(), RETIRED_TWICE.as_bytes());
+    script_done(&rt, alloc, line, TO_THE_END, &mut host, &mut ids);
+    let info = run_done(&rt, alloc, "info c.vhdx", &mut host, &mut ids);
+    ask_text(&rt, &info, RETIRED_TWICE);
     let told = script_done(
         &rt,
         alloc,
@@ -431,29 +420,28 @@ fn one_leaf_behind_another(rt: HostRuntime) -> Result<(), Fail> {
         "read 4 5\n",
         &mut host,
         &mut ids,
-    )?;
+    );
     let text = "1 read 4 5 = 512*00 512*22 512*bb 512*cc 512*00\n";
-    assert_eq!(rt; told.bytes.as_slice(), text.as_bytes());
-    Ok(())
+    ask_text(&rt, &told, text);
 }
 
 #[test]
-fn crashes_of_a_leaf_merge(rt: HostRuntime) -> Result<(), Fail> {
+fn crashes_of_a_leaf_merge(rt: HostRuntime) {
     let picks = [Pick::Nothing, Pick::Everything, Pick::EverySecond];
     each_pick(&rt, rt.alloc(), &LEAF, &picks)
 }
 
 #[test]
-fn torn_writes_of_a_leaf_merge(rt: HostRuntime) -> Result<(), Fail> {
+fn torn_writes_of_a_leaf_merge(rt: HostRuntime) {
     each_pick(&rt, rt.alloc(), &LEAF, &[Pick::Front(256)])
 }
 
 #[test]
-fn failing_odd_calls_of_a_leaf_merge(rt: HostRuntime) -> Result<(), Fail> {
+fn failing_odd_calls_of_a_leaf_merge(rt: HostRuntime) {
     each_failing_call(&rt, rt.alloc(), &LEAF, 1)
 }
 
 #[test]
-fn failing_even_calls_of_a_leaf_merge(rt: HostRuntime) -> Result<(), Fail> {
+fn failing_even_calls_of_a_leaf_merge(rt: HostRuntime) {
     each_failing_call(&rt, rt.alloc(), &LEAF, 2)
 }

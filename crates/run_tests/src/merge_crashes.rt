@@ -1,17 +1,17 @@
 //! Merges over files in memory that a crash ends, or in which a call fails: what is left, from which the merge goes on to its end.
 
-ghost use Rattle.std.specs.Prelude.{IfOk, OnOk};
 ghost use Rattle.link_rules.specs.Folders.{AllIdle};
 ghost use Rattle.mem_store.specs.HostTold.{hosted_by};
 ghost use Rattle.store_model.specs.Disk.{WhereTold};
 
 use crate::common::{
-    add, bytes_of, empty_host, ids_of, prepare_scripts, run_done, run_script, script_done, stands,
+    Case, ROOM, add, ask_text, bytes_of, empty_host, ids_of, is_told, listed, prepare_scripts,
+    run_done, run_script, says, script_done, stands,
 };
-use mem_store::{Crash, MemHost, MemIds, Pick};
+use mem_store::{MemHost, MemIds, MemStore, Pick, Returned};
 use std::alloc::Global;
+use std::process::Abort;
 use std::sync::Wait;
-use std::test::Fail;
 use std::thread::Threads;
 use vhdx_app::Status;
 
@@ -36,7 +36,7 @@ pub struct Merging {
     /// The lines that make the chain, with their scripts.
     pub made: &'static [(&'static str, &'static str)],
     /// How many files are opened before the session starts.
-    pub opened: u64,
+    pub opened: usize,
     /// The line that starts the session, and how it is refused where the source has left the chain.
     pub line: &'static str,
     pub gone: &'static str,
@@ -64,13 +64,13 @@ impl Merging {
 }
 
 /// A chain to be merged.
-pub fn chain<R: Threads + Wait>(rt: &R, alloc: Global, of: &Merging) -> Result<MemHost, Fail>
-    ensures { IfOk result (λ host. WhereTold (hosted_by host).folder AllIdle) }
+pub fn chain<R: Abort + Threads + Wait>(rt: &R, alloc: Global, of: &Merging) -> MemHost
+    ensures { WhereTold (hosted_by result).folder AllIdle }
 {
-    let mut host = empty_host(alloc)?;
-    let mut ids = ids_of(alloc, &[])?;
-    prepare_scripts(rt, alloc, of.made, &mut host, &mut ids)?;
-    Ok(host)
+    let mut host = empty_host(rt, alloc);
+    let mut ids = ids_of(rt, alloc, &[]);
+    prepare_scripts(rt, alloc, of.made, &mut host, &mut ids);
+    host
 }
 
 /// The bytes of the chain's files.
@@ -82,40 +82,40 @@ pub struct ChainBytes {
     pub leaf: Vec<u8>,
 }
 
-fn copy_of(alloc: Global, host: &MemHost, name: &str) -> Result<Vec<u8>, Fail> {
+/// A copy of the file of this name; nothing where there is none.
+pub fn copy_of<R: Abort>(rt: &R, alloc: Global, host: &MemHost, name: &str) -> Vec<u8> {
     let bytes = bytes_of(host, name).unwrap_or(&[]);
-    Ok(bytes.to_vec(alloc)?)
+    bytes.to_vec(alloc).expect(rt, "no memory")
 }
 
 /// What stands in the host.
-pub fn held_bytes(alloc: Global, host: &MemHost) -> Result<ChainBytes, Fail> {
-    Ok(ChainBytes {
-        base: copy_of(alloc, host, "b.vhdx")?,
-        middle: copy_of(alloc, host, "m.vhdx")?,
-        leaf: copy_of(alloc, host, "c.vhdx")?,
-    })
+pub fn held_bytes<R: Abort>(rt: &R, alloc: Global, host: &MemHost) -> ChainBytes {
+    ChainBytes {
+        base: copy_of(rt, alloc, host, "b.vhdx"),
+        middle: copy_of(rt, alloc, host, "m.vhdx"),
+        leaf: copy_of(rt, alloc, host, "c.vhdx"),
+    }
 }
 
 // Puts the file between the leaf and the base into the host, where there is one.
-fn add_middle(alloc: Global, host: &mut MemHost, bytes: &[u8]) -> Result<(), Fail>
+fn add_middle<R: Abort>(rt: &R, alloc: Global, host: &mut MemHost, bytes: &[u8])
     requires { WhereTold (hosted_by host.old).folder AllIdle }
-    ensures { OnOk result (WhereTold (hosted_by host.new).folder AllIdle) }
+    ensures { WhereTold (hosted_by host.new).folder AllIdle }
 {
-    if bytes.is_empty() {
-        return Ok(());
+    if !bytes.is_empty() {
+        add(rt, alloc, host, "m.vhdx", bytes);
     }
-    add(alloc, host, "m.vhdx", bytes)
 }
 
 /// A host of these files.
-pub fn host_of(alloc: Global, files: &ChainBytes) -> Result<MemHost, Fail>
-    ensures { IfOk result (λ host. WhereTold (hosted_by host).folder AllIdle) }
+pub fn host_of<R: Abort>(rt: &R, alloc: Global, files: &ChainBytes) -> MemHost
+    ensures { WhereTold (hosted_by result).folder AllIdle }
 {
-    let mut host = empty_host(alloc)?;
-    add(alloc, &mut host, "b.vhdx", &files.base)?;
-    add_middle(alloc, &mut host, &files.middle)?;
-    add(alloc, &mut host, "c.vhdx", &files.leaf)?;
-    Ok(host)
+    let mut host = empty_host(rt, alloc);
+    add(rt, alloc, &mut host, "b.vhdx", &files.base);
+    add_middle(rt, alloc, &mut host, &files.middle);
+    add(rt, alloc, &mut host, "c.vhdx", &files.leaf);
+    host
 }
 
 pub fn are_same(files: &ChainBytes, others: &ChainBytes) -> bool {
@@ -124,30 +124,60 @@ pub fn are_same(files: &ChainBytes, others: &ChainBytes) -> bool {
         && files.leaf.as_slice() == others.leaf.as_slice()
 }
 
-/// Whether a merge that draws these is refused so, and no file changed.
-pub fn is_refused<R: Threads + Wait>(
+/// Asks that each case over a chain ends as it says.
+pub fn each_is_told<R: Abort + Threads + Wait>(
+    rt: &R,
+    alloc: Global,
+    of: &Merging,
+    cases: &[Case],
+) {
+    for case in cases {
+        let mut host = chain(rt, alloc, of);
+        let told = is_told(rt, alloc, case, &DRAWN, &mut host);
+        assert!(rt; told, "{}", case.text);
+    }
+}
+
+// Whether a merge that draws these is refused so, and no file changed.
+fn is_refused<R: Abort + Threads + Wait>(
     rt: &R,
     alloc: Global,
     of: &Merging,
     drawn: &[[u8; 16]],
     text: &str,
-) -> Result<bool, Fail> {
-    let mut host = chain(rt, alloc, of)?;
-    let before = held_bytes(alloc, &host)?;
-    let mut ids = ids_of(alloc, drawn)?;
-    let (status, out) = run_script(rt, alloc, of.line, TO_THE_END, &mut host, &mut ids)?;
-    let told = status == Status::Refused && out.bytes.as_slice() == text.as_bytes();
-    let after = held_bytes(alloc, &host)?;
-    Ok(told && are_same(&after, &before))
+) -> bool {
+    let mut host = chain(rt, alloc, of);
+    let before = held_bytes(rt, alloc, &host);
+    let mut ids = ids_of(rt, alloc, drawn);
+    let (status, out) = run_script(rt, alloc, of.line, TO_THE_END, &mut host, &mut ids);
+    let after = held_bytes(rt, alloc, &host);
+    status == Status::Refused && says(&out, text) && are_same(&after, &before)
 }
 
-fn written_in(of: &Merging, text: &[u8]) -> Result<u64, Fail> {
+/// Asks that merges are refused so in which one of the identifiers that are drawn is of another byte.
+pub fn each_unfit_is_refused<R: Abort + Threads + Wait>(
+    rt: &R,
+    alloc: Global,
+    of: &Merging,
+    rows: &[(usize, u8, &str)],
+) {
+    for (place, byte, text) in rows {
+        let mut drawn = DRAWN;
+        if let Some(unfit) = drawn.get_mut(*place) {
+            *unfit = [*byte; 16];
+        }
+        let refused = is_refused(rt, alloc, of, &drawn, text);
+        assert!(rt; refused, "{place} {text}");
+    }
+}
+
+fn written_in<R: Abort>(rt: &R, of: &Merging, text: &[u8]) -> u64 {
     for (written, disk) in of.disks {
         if text == disk.as_bytes() {
-            return Ok(*written);
+            return *written;
         }
     }
-    Err(Fail::from("another disk"))
+    panic!(rt; "another disk")
 }
 
 // Whether the text is these lines, each with an identifier of 38 bytes between its two parts.
@@ -164,14 +194,14 @@ fn are_lines(text: &[u8], lines: &[Line]) -> bool {
     at == text.len()
 }
 
-fn merged_in(of: &Merging, text: &[u8]) -> Result<bool, Fail> {
+fn merged_in<R: Abort>(rt: &R, of: &Merging, text: &[u8]) -> bool {
     if are_lines(text, of.whole) {
-        return Ok(false);
+        return false;
     }
     if are_lines(text, of.merged) {
-        return Ok(true);
+        return true;
     }
-    Err(Fail::from("another chain"))
+    panic!(rt; "another chain")
 }
 
 /// What an opened chain shows: how many of the session's bytes are written, and whether the source has left it.
@@ -186,35 +216,35 @@ const BEGUN: Shown = Shown {
     merged: false,
 };
 
-fn look_at<R: Threads + Wait>(
+fn look_at<R: Abort + Threads + Wait>(
     rt: &R,
     alloc: Global,
     of: &Merging,
     host: &mut MemHost,
     ids: &mut MemIds,
-) -> Result<Shown, Fail>
+) -> Shown
     requires { WhereTold (hosted_by host.old).folder AllIdle }
-    ensures { OnOk result (WhereTold (hosted_by host.new).folder AllIdle) }
+    ensures { WhereTold (hosted_by host.new).folder AllIdle }
 {
     let line = "steps c.vhdx --read-only";
     let script = "read 0 2048\nread 2048 2048\n";
-    let disk = script_done(rt, alloc, line, script, host, ids)?;
-    let info = run_done(rt, alloc, "info c.vhdx", host, ids)?;
-    Ok(Shown {
-        written: written_in(of, &disk.bytes)?,
-        merged: merged_in(of, &info.bytes)?,
-    })
+    let disk = script_done(rt, alloc, line, script, host, ids);
+    let info = run_done(rt, alloc, "info c.vhdx", host, ids);
+    Shown {
+        written: written_in(rt, of, &disk.bytes),
+        merged: merged_in(rt, of, &info.bytes),
+    }
 }
 
 // Merges to the end what was left, or is refused where the source has left the chain. Gives what stands behind it.
-fn end_merge<R: Threads + Wait>(
+fn end_merge<R: Abort + Threads + Wait>(
     rt: &R,
     alloc: Global,
     of: &Merging,
     merged: bool,
     host: &mut MemHost,
     ids: &mut MemIds,
-) -> Result<ChainBytes, Fail>
+) -> ChainBytes
     requires { WhereTold (hosted_by host.old).folder AllIdle }
 {
     let (status, text) = if merged {
@@ -222,202 +252,182 @@ fn end_merge<R: Threads + Wait>(
     } else {
         (Status::Done, "- copy = done\n- finish = done\n")
     };
-    let (met, out) = run_script(rt, alloc, of.line, TO_THE_END, host, ids)?;
-    if met != status || out.bytes.as_slice() != text.as_bytes() {
-        return Err(Fail::from("not merged to the end"));
-    }
-    held_bytes(alloc, host)
+    let (met, out) = run_script(rt, alloc, of.line, TO_THE_END, host, ids);
+    assert!(rt; met == status && says(&out, text), "not merged to the end");
+    held_bytes(rt, alloc, host)
 }
 
 // Opens what was left and merges it to the end, which changes nothing of the disk. Gives what it showed before.
-fn mended<R: Threads + Wait>(
+fn mended<R: Abort + Threads + Wait>(
     rt: &R,
     alloc: Global,
     of: &Merging,
     left: &ChainBytes,
-) -> Result<Shown, Fail> {
-    let mut host = host_of(alloc, left)?;
-    let mut ids = ids_of(alloc, &DRAWN_LATER)?;
-    let before = look_at(rt, alloc, of, &mut host, &mut ids)?;
-    let files = end_merge(rt, alloc, of, before.merged, &mut host, &mut ids)?;
-    let mut host = host_of(alloc, &files)?;
-    let after = look_at(rt, alloc, of, &mut host, &mut ids)?;
-    if after.merged && after.written == before.written {
-        return Ok(before);
-    }
-    Err(Fail::from("another disk behind the merge"))
+) -> Shown {
+    let mut host = host_of(rt, alloc, left);
+    let mut ids = ids_of(rt, alloc, &DRAWN_LATER);
+    let before = look_at(rt, alloc, of, &mut host, &mut ids);
+    let files = end_merge(rt, alloc, of, before.merged, &mut host, &mut ids);
+    let mut host = host_of(rt, alloc, &files);
+    let after = look_at(rt, alloc, of, &mut host, &mut ids);
+    let same = after.merged && after.written == before.written;
+    assert!(rt; same, "another disk behind the merge");
+    before
 }
 
-// What a crash at this moment of the session leaves; None behind its end.
-fn crashed<R: Threads + Wait>(
+// The session's store as it comes back, behind those of the openings: it tells what was done to the chain's files.
+fn session<R: Abort + Threads + Wait>(
     rt: &R,
     alloc: Global,
     of: &Merging,
     files: &ChainBytes,
+) -> MemStore {
+    let mut host = host_of(rt, alloc, files);
+    host.keep_returned();
+    let mut ids = ids_of(rt, alloc, &DRAWN);
+    let out = script_done(rt, alloc, of.line, of.script, &mut host, &mut ids);
+    ask_text(rt, &out, of.finished);
+    let mut past = host.past.take().expect(rt, "no store is kept");
+    assert!(rt; of.opened < past.len(), "no store of the session");
+    let Returned { store, rest } = past.remove(of.opened);
+    assert!(rt;
+        rest.iter().all(|slot| slot.file.is_none()),
+        "a file is no part of the chain"
+    );
+    store
+}
+
+// What a crash at this moment of the session leaves.
+fn crashed<R: Abort>(
+    rt: &R,
+    alloc: Global,
+    store: &MemStore,
     moment: u64,
     pick: Pick,
-) -> Result<Option<ChainBytes>, Fail> {
-    let mut host = host_of(alloc, files)?;
-    let mut ids = ids_of(alloc, &DRAWN)?;
-    // The stores of the openings come back first.
-    host.crash = Some(Crash {
-        store: of.opened,
-        moment,
-        pick,
-    });
-    let out = script_done(rt, alloc, of.line, of.script, &mut host, &mut ids)?;
-    if out.bytes.as_slice() != of.finished.as_bytes() {
-        return Err(Fail::from("not finished"));
-    }
-    let Some(left) = host.take_crashed()? else {
-        return Ok(None);
-    };
-    Ok(Some(held_bytes(alloc, &left)?))
+) -> ChainBytes {
+    assert!(rt; moment <= store.order.len() as u64, "no such moment");
+    let left = store.image(moment, pick, ROOM).expect(rt, "no memory");
+    held_bytes(rt, alloc, &left)
 }
 
 // Asks that what was shown at a moment is still so, that the first write is there once the flush is done, and each once the merge is.
-fn goes_on(of: &Merging, before: Shown, now: Shown, flushed: bool) -> Result<(), Fail> {
-    if now.written < before.written || (before.merged && !now.merged) {
-        return Err(Fail::from("lost again"));
-    }
-    if (flushed && now.written < 512) || (now.merged && now.written != of.all()) {
-        return Err(Fail::from("a flushed write is lost"));
-    }
-    Ok(())
+fn goes_on<R: Abort>(rt: &R, of: &Merging, before: Shown, now: Shown, flushed: bool) {
+    let lost = now.written < before.written || (before.merged && !now.merged);
+    assert!(rt; !lost, "lost again");
+    let lost = (flushed && now.written < 512) || (now.merged && now.written != of.all());
+    assert!(rt; !lost, "a flushed write is lost");
 }
 
 // The files of a new chain, which is whole and can be merged.
-fn new_files<R: Threads + Wait>(rt: &R, alloc: Global, of: &Merging) -> Result<ChainBytes, Fail> {
-    let host = chain(rt, alloc, of)?;
-    let files = held_bytes(alloc, &host)?;
-    if mended(rt, alloc, of, &files)? != BEGUN {
-        return Err(Fail::from("another chain before the merge"));
-    }
-    Ok(files)
+fn new_files<R: Abort + Threads + Wait>(rt: &R, alloc: Global, of: &Merging) -> ChainBytes {
+    let host = chain(rt, alloc, of);
+    let files = held_bytes(rt, alloc, &host);
+    assert!(rt;
+        mended(rt, alloc, of, &files) == BEGUN,
+        "another chain before the merge"
+    );
+    files
 }
 
-// The moment at which the base grows: the copy has begun, so that the flush is done.
-fn moment_of_copy<R: Threads + Wait>(
-    rt: &R,
-    alloc: Global,
-    of: &Merging,
-    files: &ChainBytes,
-) -> Result<u64, Fail> {
-    for moment in 0..1000 {
-        let left = crashed(rt, alloc, of, files, moment, Pick::Everything)?.ok_or("no copy")?;
-        if left.base.len() > files.base.len() {
-            return Ok(moment);
+// The moment at which the base grows beyond this: the copy has begun, so that the flush is done.
+fn moment_of_copy<R: Abort>(rt: &R, alloc: Global, store: &MemStore, len: usize) -> u64 {
+    for moment in 0..store.order.len() {
+        let left = crashed(rt, alloc, store, moment as u64, Pick::Everything);
+        if left.base.len() > len {
+            return moment as u64;
         }
     }
-    Err(Fail::from("too many moments"))
+    panic!(rt; "no copy")
 }
 
 // Asks that each crash of the session leaves the disk and a chain from which the merge goes on to its end, the flush being done from a
 // moment on. Gives what the last one showed, and whether the merge was done while the last change stood in the log alone.
-fn each_crash<R: Threads + Wait>(
+fn each_crash<R: Abort + Threads + Wait>(
     rt: &R,
     alloc: Global,
     of: &Merging,
-    files: &ChainBytes,
+    store: &MemStore,
     flushed: u64,
     pick: Pick,
-) -> Result<(Shown, bool), Fail> {
+) -> (Shown, bool) {
     let (at, bytes) = of.last;
-    let mut image = crashed(rt, alloc, of, files, 0, pick)?.ok_or("no moment")?;
-    let mut last = mended(rt, alloc, of, &image)?;
+    let mut image = crashed(rt, alloc, store, 0, pick);
+    let mut last = mended(rt, alloc, of, &image);
     let mut logged = false;
-    for moment in 1..1000 {
-        let Some(left) = crashed(rt, alloc, of, files, moment, pick)? else {
-            return if moment > 40 {
-                Ok((last, logged))
-            } else {
-                Err(Fail::from("too few moments"))
-            };
-        };
+    for before in 0..store.order.len() {
+        let moment = (before as u64).saturating_add(1);
+        let left = crashed(rt, alloc, store, moment, pick);
         // Where no byte is another one than at the moment before, all is as it was.
         let now = if are_same(&left, &image) {
             last
         } else {
-            mended(rt, alloc, of, &left)?
+            mended(rt, alloc, of, &left)
         };
-        goes_on(of, last, now, moment >= flushed)?;
+        goes_on(rt, of, last, now, moment >= flushed);
         logged |= now.merged && stands(&left.leaf, at, bytes);
         last = now;
         image = left;
     }
-    Err(Fail::from("too many moments"))
+    (last, logged)
 }
 
 /// Asks it of crashes that leave these of the changes that weren't synced. The last one shows the whole merge.
-pub fn each_pick<R: Threads + Wait>(
-    rt: &R,
-    alloc: Global,
-    of: &Merging,
-    picks: &[Pick],
-) -> Result<(), Fail> {
-    let files = new_files(rt, alloc, of)?;
-    let flushed = moment_of_copy(rt, alloc, of, &files)?;
-    let ended = Shown {
-        written: of.all(),
-        merged: true,
-    };
+pub fn each_pick<R: Abort + Threads + Wait>(rt: &R, alloc: Global, of: &Merging, picks: &[Pick]) {
+    let files = new_files(rt, alloc, of);
+    let store = session(rt, alloc, of, &files);
+    assert!(rt; store.order.len() >= 40, "too few moments");
+    let flushed = moment_of_copy(rt, alloc, &store, files.base.len());
     for pick in picks {
-        if each_crash(rt, alloc, of, &files, flushed, *pick)? != (ended, true) {
-            return Err(Fail::from("another end"));
-        }
+        let (shown, logged) = each_crash(rt, alloc, of, &store, flushed, *pick);
+        assert!(rt;
+            shown.merged && shown.written == of.all() && logged,
+            "another end"
+        );
     }
-    Ok(())
 }
 
 // Whether the session is done though this call of a store is to fail. If it isn't, the fault leaves what can be merged to the end.
-fn is_done<R: Threads + Wait>(
+fn is_done<R: Abort + Threads + Wait>(
     rt: &R,
     alloc: Global,
     of: &Merging,
     files: &ChainBytes,
     call: u64,
-) -> Result<bool, Fail> {
-    let mut host = host_of(alloc, files)?;
-    host.failing_in_store = [call].to_vec(alloc)?;
-    let mut ids = ids_of(alloc, &DRAWN)?;
-    let (status, out) = run_script(rt, alloc, of.line, of.script, &mut host, &mut ids)?;
-    let left = held_bytes(alloc, &host)?;
+) -> bool {
+    let mut host = host_of(rt, alloc, files);
+    host.failing_in_store = listed(rt, alloc, call);
+    let mut ids = ids_of(rt, alloc, &DRAWN);
+    let (status, out) = run_script(rt, alloc, of.line, of.script, &mut host, &mut ids);
+    let left = held_bytes(rt, alloc, &host);
     // Where no byte was changed the chain is as it was.
     let now = if are_same(&left, files) {
         BEGUN
     } else {
-        mended(rt, alloc, of, &left)?
+        mended(rt, alloc, of, &left)
     };
-    if stands(&out.bytes, 0, of.flushed.as_bytes()) && now.written < 512 {
-        return Err(Fail::from("a flushed write is lost"));
-    }
-    if stands(&out.bytes, 0, of.finished.as_bytes()) && !now.merged {
-        return Err(Fail::from("a finished merge is lost"));
-    }
-    match status {
-        Status::Done if out.bytes.as_slice() == of.finished.as_bytes() => Ok(true),
-        Status::Fault => Ok(false),
-        _ => Err(Fail::from("another status")),
-    }
+    let flushed = stands(&out.bytes, 0, of.flushed.as_bytes());
+    let finished = stands(&out.bytes, 0, of.finished.as_bytes());
+    assert!(rt; !flushed || now.written >= 512, "a flushed write is lost");
+    assert!(rt; !finished || now.merged, "a finished merge is lost");
+    let done = status == Status::Done && says(&out, of.finished);
+    assert!(rt; done || status == Status::Fault, "another status");
+    done
 }
 
 /// Asks it of each second call, from the first one on.
-pub fn each_failing_call<R: Threads + Wait>(
+pub fn each_failing_call<R: Abort + Threads + Wait>(
     rt: &R,
     alloc: Global,
     of: &Merging,
     first: u64,
-) -> Result<(), Fail> {
-    let files = new_files(rt, alloc, of)?;
+) {
+    let files = new_files(rt, alloc, of);
     for pair in 0..500u64 {
         let call = pair.saturating_mul(2).saturating_add(first);
-        if is_done(rt, alloc, of, &files, call)? {
-            return if pair > 40 {
-                Ok(())
-            } else {
-                Err(Fail::from("too few calls"))
-            };
+        if is_done(rt, alloc, of, &files, call) {
+            assert!(rt; pair > 40, "too few calls");
+            return;
         }
     }
-    Err(Fail::from("too many calls"))
+    panic!(rt; "too many calls")
 }

@@ -1,12 +1,14 @@
 //! The merge of a file inside a chain in memory: what its lines are told, what stands in the files behind it, and what a crash
 //! at each moment or a failing call leaves, from which the merge goes on to its end.
 
-use crate::common::{Case, PLAIN, bytes_of, ids_of, is_told, run_done, script_done, stands};
+use crate::common::{
+    Case, PLAIN, ask_same, ask_text, bytes_of, ids_of, is_told, run_done, script_done, stands,
+};
 use crate::merge_crashes::{
-    DRAWN, DRAWN_LATER, Merging, TO_THE_END, chain, each_failing_call, each_pick, is_refused,
+    DRAWN, DRAWN_LATER, Merging, TO_THE_END, chain, each_failing_call, each_is_told, each_pick,
+    each_unfit_is_refused,
 };
 use mem_store::Pick;
-use std::test::Fail;
 use vhdx_app::Status;
 
 const MERGE: &str = "steps c.vhdx --merge m.vhdx";
@@ -138,88 +140,81 @@ const GONE: Case = Case {
 };
 
 #[test]
-fn what_merges_are_told(rt: HostRuntime) -> Result<(), Fail> {
-    let alloc = rt.alloc();
-    for case in &TOLD {
-        let mut host = chain(&rt, alloc, &MIDDLE)?;
-        let text = case.text;
-        assert!(rt; is_told(&rt, alloc, case, &DRAWN, &mut host)?, "{text}");
-    }
-    let mut host = chain(&rt, alloc, &MIDDLE)?;
-    let mut ids = ids_of(alloc, &DRAWN)?;
-    script_done(&rt, alloc, MERGE, TO_THE_END, &mut host, &mut ids)?;
-    assert!(rt; is_told(&rt, alloc, &GONE, &DRAWN_LATER, &mut host)?);
-    Ok(())
+fn what_merges_are_told(rt: HostRuntime) {
+    each_is_told(&rt, rt.alloc(), &MIDDLE, &TOLD);
 }
 
 #[test]
-fn an_unfit_identifier(rt: HostRuntime) -> Result<(), Fail> {
-    let zero = "refused 44 IdUnfit {00000000-0000-0000-0000-000000000000}\n";
-    let first = "refused 44 IdUnfit {11111111-1111-1111-1111-111111111111}\n";
-    let sixth = "refused 44 IdUnfit {16161616-1616-1616-1616-161616161616}\n";
-    // Which of those drawn is another one.
-    let rows = [
-        (0, [0; 16], zero),
-        (3, [0; 16], zero),
-        (7, [0; 16], zero),
-        (1, [0x11; 16], first),
-        (4, [0x11; 16], first),
-        (7, [0x11; 16], first),
-        (7, [0x16; 16], sixth),
-    ];
-    for (place, id, text) in rows {
-        let mut drawn = DRAWN;
-        if let Some(unfit) = drawn.get_mut(place) {
-            *unfit = id;
-        }
-        assert!(rt;
-            is_refused(&rt, rt.alloc(), &MIDDLE, &drawn, text)?,
-            "{place} {text}"
-        );
-    }
-    Ok(())
+fn what_is_told_behind_a_merge(rt: HostRuntime) {
+    let alloc = rt.alloc();
+    let mut host = chain(&rt, alloc, &MIDDLE);
+    let mut ids = ids_of(&rt, alloc, &DRAWN);
+    script_done(&rt, alloc, MERGE, TO_THE_END, &mut host, &mut ids);
+    let told = is_told(&rt, alloc, &GONE, &DRAWN_LATER, &mut host);
+    assert!(rt; told);
+}
+
+const ZERO: &str = "refused 44 IdUnfit {00000000-0000-0000-0000-000000000000}\n";
+
+const FIRST: &str = "refused 44 IdUnfit {11111111-1111-1111-1111-111111111111}\n";
+
+const SIXTH: &str = "refused 44 IdUnfit {16161616-1616-1616-1616-161616161616}\n";
+
+// Which of those drawn is another one, of what byte, and how the merge is refused then.
+static UNFIT: [(usize, u8, &str); 7] = [
+    (0, 0, ZERO),
+    (3, 0, ZERO),
+    (7, 0, ZERO),
+    (1, 0x11, FIRST),
+    (4, 0x11, FIRST),
+    (7, 0x11, FIRST),
+    (7, 0x16, SIXTH),
+];
+
+#[test]
+fn an_unfit_identifier(rt: HostRuntime) {
+    each_unfit_is_refused(&rt, rt.alloc(), &MIDDLE, &UNFIT);
 }
 
 const MERGED_INFO: &str =
     "c.vhdx child sectors 2097152 sector 512 block 2 id {12121212-1212-1212-1212-121212121212} parent b.vhdx\nb.vhdx dynamic sectors 2097152 sector 512 block 1 id {17171717-1717-1717-1717-171717171717} parent none\n";
 
 #[test]
-fn files_of_a_merge(rt: HostRuntime) -> Result<(), Fail> {
+fn files_of_a_merge(rt: HostRuntime) {
     let alloc = rt.alloc();
-    let mut host = chain(&rt, alloc, &MIDDLE)?;
-    let mut ids = ids_of(alloc, &DRAWN)?;
+    let mut host = chain(&rt, alloc, &MIDDLE);
+    let mut ids = ids_of(&rt, alloc, &DRAWN);
     let dump = "dump c.vhdx 0 2048";
-    let before = run_done(&rt, alloc, dump, &mut host, &mut ids)?;
-    script_done(&rt, alloc, MERGE, TO_THE_END, &mut host, &mut ids)?;
-    let info = run_done(&rt, alloc, "info c.vhdx", &mut host, &mut ids)?;
-    assert_eq!(rt; info.bytes.as_slice(), MERGED_INFO.as_bytes());
-    let after = run_done(&rt, alloc, dump, &mut host, &mut ids)?;
-    assert!(rt; after.bytes.as_slice() == before.bytes.as_slice());
+    let before = run_done(&rt, alloc, dump, &mut host, &mut ids);
+    script_done(&rt, alloc, MERGE, TO_THE_END, &mut host, &mut ids);
+    let info = run_done(&rt, alloc, "info c.vhdx", &mut host, &mut ids);
+    ask_text(&rt, &info, MERGED_INFO);
+    let after = run_done(&rt, alloc, dump, &mut host, &mut ids);
+    assert!(rt; after.bytes == before.bytes);
     // The base has its first block, at its old end.
-    let base = bytes_of(&host, "b.vhdx").ok_or("no file")?;
-    assert_eq!(rt; base.len(), 5_242_880);
+    let base = bytes_of(&host, "b.vhdx").expect(&rt, "no file");
+    ask_same(&rt, &base.len(), &5_242_880, "bytes");
     assert!(rt; stands(base, 3_145_728, &[6, 0, 0x40, 0, 0, 0, 0, 0]));
     assert!(rt; stands(base, 4_196_864, &[0x22; 512]));
-    Ok(())
 }
 
 #[test]
-fn crashes_of_a_merge(rt: HostRuntime) -> Result<(), Fail> {
+fn crashes_of_a_merge(rt: HostRuntime) {
     let picks = [Pick::Nothing, Pick::Everything, Pick::EverySecond];
     each_pick(&rt, rt.alloc(), &MIDDLE, &picks)
 }
 
 #[test]
-fn torn_writes_of_a_merge(rt: HostRuntime) -> Result<(), Fail> {
+fn torn_writes_of_a_merge(rt: HostRuntime) {
     each_pick(&rt, rt.alloc(), &MIDDLE, &[Pick::Front(256)])
 }
 
 #[test]
-fn failing_odd_calls_of_a_merge(rt: HostRuntime) -> Result<(), Fail> {
+fn failing_odd_calls_of_a_merge(rt: HostRuntime) {
     each_failing_call(&rt, rt.alloc(), &MIDDLE, 1)
 }
 
 #[test]
-fn failing_even_calls_of_a_merge(rt: HostRuntime) -> Result<(), Fail> {
+fn failing_even_calls_of_a_merge(rt: HostRuntime) {
     each_failing_call(&rt, rt.alloc(), &MIDDLE, 2)
 }

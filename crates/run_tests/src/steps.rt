@@ -1,18 +1,17 @@
 //! Scripts over files in memory: what they are told, what they leave in the files, and what a crash or a failing call leaves.
 
-ghost use Rattle.std.specs.Prelude.{IfOk};
 ghost use Rattle.link_rules.specs.Folders.{AllIdle};
 ghost use Rattle.mem_store.specs.HostTold.{hosted_by};
 ghost use Rattle.store_model.specs.Disk.{WhereTold};
 
 use crate::common::{
-    Case, PLAIN, bytes_of, each_ends, empty_host, host_after, host_with, ids_of, line_of, prepare,
-    run_line, run_script, stands,
+    Case, PLAIN, add_text, ask_same, bytes_of, each_ends, empty_host, host_after, host_with,
+    ids_of, line_of, listed, owned, prepare, run_line, run_script, says, stands,
 };
 use mem_store::{Crash, MemHost, MemSink, Pick};
 use std::alloc::Global;
+use std::process::Abort;
 use std::sync::Wait;
-use std::test::Fail;
 use std::thread::Threads;
 use vhdx_app::Status;
 
@@ -92,7 +91,7 @@ static TOLD: [Case; 9] = [
 ];
 
 #[test]
-fn what_scripts_are_told(rt: HostRuntime) -> Result<(), Fail> {
+fn what_scripts_are_told(rt: HostRuntime) {
     each_ends(&rt, rt.alloc(), &TOLD)
 }
 
@@ -100,107 +99,123 @@ const NO_FLUSH: &str = "write 0 1 aa\ntrim 0 2048\nwrite 2047 1 bb\nread 2046 2\
 
 const WITH_FLUSH: &str = "write 0 1 aa\ntrim 0 2048\nflush\nwrite 2047 1 bb\nread 2046 2\n";
 
+/// A case, the file that it leaves of so many bytes, and some of these by their places.
+type Left = (Case, &'static str, usize, &'static [(usize, [u8; 8])]);
+
 // A block that was trimmed leaves its place, which is given again once that is committed.
-#[test]
-fn places_of_blocks(rt: HostRuntime) -> Result<(), Fail> {
-    let rows = [
-        (
-            NO_FLUSH,
-            "1 write 0 1 aa = done\n2 trim 0 2048 = done\n3 write 2047 1 bb = done\n4 read 2046 2 = 512*00 512*bb\n",
-            0x50,
-            6_291_456,
-        ),
-        (
-            WITH_FLUSH,
-            "1 write 0 1 aa = done\n2 trim 0 2048 = done\n3 flush = done\n4 write 2047 1 bb = done\n5 read 2046 2 = 512*00 512*bb\n",
-            0x40,
-            5_242_880,
-        ),
-    ];
-    for (script, text, place, len) in rows {
-        let case = Case {
+static PLACES: [Left; 2] = [
+    (
+        Case {
             before: &[SMALL_BLOCKS],
             line: "steps d.vhdx",
-            script,
-            text,
+            script: NO_FLUSH,
+            text: "1 write 0 1 aa = done\n2 trim 0 2048 = done\n3 write 2047 1 bb = done\n4 read 2046 2 = 512*00 512*bb\n",
             ..PLAIN
-        };
-        let host = host_after(&rt, rt.alloc(), &case)?.ok_or("not told so")?;
-        let file = bytes_of(&host, "d.vhdx").ok_or("no file")?;
-        assert_eq!(rt; file.len(), len);
-        let entry = [6, 0, place, 0, 0, 0, 0, 0];
-        assert_eq!(rt; &file[3_145_728..3_145_736], entry.as_slice());
+        },
+        "d.vhdx",
+        6_291_456,
+        &[(3_145_728, [6, 0, 0x50, 0, 0, 0, 0, 0])],
+    ),
+    (
+        Case {
+            before: &[SMALL_BLOCKS],
+            line: "steps d.vhdx",
+            script: WITH_FLUSH,
+            text: "1 write 0 1 aa = done\n2 trim 0 2048 = done\n3 flush = done\n4 write 2047 1 bb = done\n5 read 2046 2 = 512*00 512*bb\n",
+            ..PLAIN
+        },
+        "d.vhdx",
+        5_242_880,
+        &[(3_145_728, [6, 0, 0x40, 0, 0, 0, 0, 0])],
+    ),
+];
+
+// Asks that a case leaves its file so.
+fn ask_left<R: Abort + Threads + Wait>(rt: &R, alloc: Global, left: &Left) {
+    let (case, name, len, parts) = left;
+    let host = host_after(rt, alloc, case).expect(rt, "not told so");
+    let file = bytes_of(&host, name).expect(rt, "no file");
+    ask_same(rt, &file.len(), len, case.script);
+    let stand = parts.iter().all(|(at, bytes)| stands(file, *at, bytes));
+    assert!(rt; stand, "{}", case.script);
+}
+
+#[test]
+fn places_of_blocks(rt: HostRuntime) {
+    for left in &PLACES {
+        ask_left(&rt, rt.alloc(), left);
     }
-    Ok(())
 }
 
 // Blocks of a child become partly present, with the bitmap block of their chunk, and bytes that stand then in the file.
-const IN_TWO_BLOCKS: [(usize, [u8; 8]); 3] = [
-    (3_145_728, [7, 0, 0x50, 0, 0, 0, 0, 0]),
-    (3_145_736, [7, 0, 0x70, 0, 0, 0, 0, 0]),
-    (3_162_112, [6, 0, 0x40, 0, 0, 0, 0, 0]),
+static IN_CHUNKS: [Left; 2] = [
+    (
+        Case {
+            before: &[BASE, CHILD],
+            line: "steps c.vhdx",
+            script: "write 4095 2 aa\nread 4094 4\n",
+            text: "1 write 4095 2 aa = done\n2 read 4094 4 = 512*00 1024*aa 512*00\n",
+            ..PLAIN
+        },
+        "c.vhdx",
+        9_437_184,
+        &[
+            (3_145_728, [7, 0, 0x50, 0, 0, 0, 0, 0]),
+            (3_145_736, [7, 0, 0x70, 0, 0, 0, 0, 0]),
+            (3_162_112, [6, 0, 0x40, 0, 0, 0, 0, 0]),
+        ],
+    ),
+    (
+        Case {
+            before: &["make dynamic b.vhdx --sectors 16777216", CHILD],
+            line: "steps c.vhdx",
+            script: "write 8388609 1 aa\nread 8388608 3\n",
+            text: "1 write 8388609 1 aa = done\n2 read 8388608 3 = 512*00 512*aa 512*00\n",
+            ..PLAIN
+        },
+        "c.vhdx",
+        7_340_032,
+        &[
+            (3_162_120, [7, 0, 0x50, 0, 0, 0, 0, 0]),
+            (3_178_504, [6, 0, 0x40, 0, 0, 0, 0, 0]),
+            (4_194_304, [2, 0, 0, 0, 0, 0, 0, 0]),
+        ],
+    ),
 ];
-
-const IN_THE_SECOND_CHUNK: [(usize, [u8; 8]); 3] = [
-    (3_162_120, [7, 0, 0x50, 0, 0, 0, 0, 0]),
-    (3_178_504, [6, 0, 0x40, 0, 0, 0, 0, 0]),
-    (4_194_304, [2, 0, 0, 0, 0, 0, 0, 0]),
-];
-
-const FAR_WRITE: Case = Case {
-    before: &["make dynamic b.vhdx --sectors 16777216", CHILD],
-    line: "steps c.vhdx",
-    script: "write 8388609 1 aa\nread 8388608 3\n",
-    text: "1 write 8388609 1 aa = done\n2 read 8388608 3 = 512*00 512*aa 512*00\n",
-    ..PLAIN
-};
 
 #[test]
-fn blocks_of_a_child(rt: HostRuntime) -> Result<(), Fail> {
-    let rows = [
-        (TOLD[5], 9_437_184, IN_TWO_BLOCKS),
-        (FAR_WRITE, 7_340_032, IN_THE_SECOND_CHUNK),
-    ];
-    for (case, len, parts) in rows {
-        let host = host_after(&rt, rt.alloc(), &case)?.ok_or("not told so")?;
-        let file = bytes_of(&host, "c.vhdx").ok_or("no file")?;
-        assert_eq!(rt; file.len(), len);
-        assert!(rt;
-            parts.iter().all(|(at, bytes)| stands(file, *at, bytes)),
-            "{len}"
-        );
+fn blocks_of_a_child(rt: HostRuntime) {
+    for left in &IN_CHUNKS {
+        ask_left(&rt, rt.alloc(), left);
     }
-    Ok(())
 }
 
 // A sector's line of a dump: so many bytes bb, then zeros.
-fn front_line(alloc: Global, number: &str, n: usize) -> Result<String, Fail> {
-    let mut line = String::from_str(alloc, number)?;
-    line.push_str(" ")?;
+fn front_line<R: Abort>(rt: &R, alloc: Global, number: &str, n: usize) -> String {
+    let mut line = owned(rt, alloc, number);
+    add_text(rt, &mut line, " ");
     for i in 0..512 {
-        line.push_str(if i < n { "bb" } else { "00" })?;
+        add_text(rt, &mut line, if i < n { "bb" } else { "00" });
     }
-    line.push_str("\n")?;
-    Ok(line)
+    add_text(rt, &mut line, "\n");
+    line
 }
 
 // Stands for a sector of which the front alone was written.
 const TORN: u8 = 0x0B;
 
 // The first bytes of sectors 0 and 1 of the disk of d.vhdx, as a dump has them, or that the second was written up to there.
-fn first_sectors<R: Threads + Wait>(
+fn first_sectors<R: Abort + Threads + Wait>(
     rt: &R,
     alloc: Global,
     host: &mut MemHost,
     front: usize,
-) -> Result<[u8; 2], Fail>
+) -> [u8; 2]
     requires { WhereTold (hosted_by host.old).folder AllIdle }
 {
-    let mut ids = ids_of(alloc, &[])?;
-    let (status, out) = run_line(rt, alloc, "dump d.vhdx 0 2", host, &mut ids)?;
-    if status != Status::Done {
-        return Err(Fail::from("not dumped"));
-    }
+    let mut ids = ids_of(rt, alloc, &[]);
+    let (status, out) = run_line(rt, alloc, "dump d.vhdx 0 2", host, &mut ids);
+    assert!(rt; status == Status::Done, "not dumped");
     for (zero, one, shown) in [
         ("00", 0, [0, 0]),
         ("aa", 0, [0xAA, 0]),
@@ -209,14 +224,14 @@ fn first_sectors<R: Threads + Wait>(
         ("aa", front, [0xAA, TORN]),
         ("00", front, [0, TORN]),
     ] {
-        let mut text = line_of(alloc, "0", zero)?;
-        let second = front_line(alloc, "1", one)?;
-        text.push_str(second.as_str())?;
-        if out.bytes.as_slice() == text.as_bytes() {
-            return Ok(shown);
+        let mut text = line_of(rt, alloc, "0", zero);
+        let second = front_line(rt, alloc, "1", one);
+        add_text(rt, &mut text, &second);
+        if says(&out, &text) {
+            return shown;
         }
     }
-    Err(Fail::from("other bytes"))
+    panic!(rt; "other bytes")
 }
 
 const FLUSHED: &str = "write 0 1 aa\nflush\nwrite 1 1 bb\n";
@@ -230,77 +245,62 @@ fn front_of(pick: Pick) -> usize {
 }
 
 // What a crash at this moment of the session leaves of the disk; None behind its end.
-fn crashed<R: Threads + Wait>(
+fn crashed<R: Abort + Threads + Wait>(
     rt: &R,
     alloc: Global,
     moment: u64,
     pick: Pick,
-) -> Result<Option<[u8; 2]>, Fail> {
-    let mut host = empty_host(alloc)?;
-    let mut ids = ids_of(alloc, &[])?;
-    prepare(rt, alloc, &[SMALL_BLOCKS], &mut host, &mut ids)?;
+) -> Option<[u8; 2]> {
+    let mut host = empty_host(rt, alloc);
+    let mut ids = ids_of(rt, alloc, &[]);
+    prepare(rt, alloc, &[SMALL_BLOCKS], &mut host, &mut ids);
     // The opening's store comes back first.
-    let store = host.returned.checked_add(1).ok_or("no number")?;
+    let store = host.returned.checked_add(1).expect(rt, "no number");
     host.crash = Some(Crash {
         store,
         moment,
         pick,
     });
-    let (status, _out) = run_script(rt, alloc, "steps d.vhdx", FLUSHED, &mut host, &mut ids)?;
-    if status != Status::Done {
-        return Err(Fail::from("not done"));
-    }
-    let Some(left) = host.take_crashed()? else {
-        return Ok(None);
-    };
-    let bytes = bytes_of(&left, "d.vhdx").ok_or("no file")?;
-    let mut again = host_with(alloc, "d.vhdx", bytes)?;
-    Ok(Some(first_sectors(rt, alloc, &mut again, front_of(pick))?))
+    let (status, _out) = run_script(rt, alloc, "steps d.vhdx", FLUSHED, &mut host, &mut ids);
+    assert!(rt; status == Status::Done, "not done");
+    let left = host.take_crashed().expect(rt, "no memory")?;
+    let bytes = bytes_of(&left, "d.vhdx").expect(rt, "no file");
+    let mut again = host_with(rt, alloc, "d.vhdx", bytes);
+    Some(first_sectors(rt, alloc, &mut again, front_of(pick)))
 }
 
 // What a crash at the last moment of the session leaves of the disk, and whether one at some moment left the second sector torn. At each
 // moment the second write is there only once the first one is, which was flushed before.
-fn each_crash<R: Threads + Wait>(
-    rt: &R,
-    alloc: Global,
-    pick: Pick,
-) -> Result<([u8; 2], bool), Fail> {
+fn each_crash<R: Abort + Threads + Wait>(rt: &R, alloc: Global, pick: Pick) -> ([u8; 2], bool) {
     let mut shown = [0, 0];
     let mut torn = false;
     for moment in 0..1000 {
-        let Some(now) = crashed(rt, alloc, moment, pick)? else {
-            return if moment > 10 {
-                Ok((shown, torn))
-            } else {
-                Err(Fail::from("too few moments"))
-            };
+        let Some(now) = crashed(rt, alloc, moment, pick) else {
+            assert!(rt; moment > 10, "too few moments");
+            return (shown, torn);
         };
-        if now[0] == 0 && now[1] != 0 {
-            return Err(Fail::from("the second write alone"));
-        }
+        assert!(rt; now[0] != 0 || now[1] == 0, "the second write alone");
         torn |= now[1] == TORN;
         shown = now;
     }
-    Err(Fail::from("too many moments"))
+    panic!(rt; "too many moments")
 }
 
 #[test]
-fn crashes_of_a_session(rt: HostRuntime) -> Result<(), Fail> {
+fn crashes_of_a_session(rt: HostRuntime) {
     for pick in [Pick::Nothing, Pick::Everything, Pick::EverySecond] {
-        let left = each_crash(&rt, rt.alloc(), pick)?;
-        assert_eq!(rt; left, ([0xAA, 0xBB], false), "{pick:?}");
+        let left = each_crash(&rt, rt.alloc(), pick);
+        assert!(rt; left == ([0xAA, 0xBB], false), "{pick:?}");
     }
-    Ok(())
 }
 
 // Of each write 40 bytes tear a header, and an entry of the log in its own; 256 a sector; 6,000 an entry in its first page.
 #[test]
-fn torn_writes_of_a_session(rt: HostRuntime) -> Result<(), Fail> {
+fn torn_writes_of_a_session(rt: HostRuntime) {
     for (front, torn) in [(40, true), (256, true), (6000, false)] {
-        let left = each_crash(&rt, rt.alloc(), Pick::Front(front))?;
-        assert_eq!(rt; left, ([0xAA, 0xBB], torn), "{front}");
+        let left = each_crash(&rt, rt.alloc(), Pick::Front(front));
+        assert!(rt; left == ([0xAA, 0xBB], torn), "{front}");
     }
-    Ok(())
 }
 
 const TO_BREAK: &str = "write 0 1 aa\nflush\nread 0 1\nflush\n";
@@ -312,40 +312,38 @@ const BROKEN: &str =
     "1 write 0 1 aa = done\n- flush = refused 35 Broken d.vhdx count 1\n- read 0 1 = refused 35 Broken d.vhdx count 1\n- flush = refused 35 Broken d.vhdx count 1\n";
 
 // A host after a script over d.vhdx in which this call of a store fails, and what was printed.
-fn failed<R: Threads + Wait>(
+fn failed<R: Abort + Threads + Wait>(
     rt: &R,
     alloc: Global,
     call: u64,
-) -> Result<(MemHost, Status, MemSink), Fail> {
-    let mut host = empty_host(alloc)?;
-    let mut ids = ids_of(alloc, &[])?;
-    prepare(rt, alloc, &[SMALL_BLOCKS], &mut host, &mut ids)?;
-    host.failing_in_store = [call].to_vec(alloc)?;
-    let (status, out) = run_script(rt, alloc, "steps d.vhdx", TO_BREAK, &mut host, &mut ids)?;
-    Ok((host, status, out))
+) -> (MemHost, Status, MemSink) {
+    let mut host = empty_host(rt, alloc);
+    let mut ids = ids_of(rt, alloc, &[]);
+    prepare(rt, alloc, &[SMALL_BLOCKS], &mut host, &mut ids);
+    host.failing_in_store = listed(rt, alloc, call);
+    let (status, out) = run_script(rt, alloc, "steps d.vhdx", TO_BREAK, &mut host, &mut ids);
+    (host, status, out)
 }
 
 #[test]
-fn failing_calls(rt: HostRuntime) -> Result<(), Fail> {
+fn failing_calls(rt: HostRuntime) {
     let alloc = rt.alloc();
     let mut broken = false;
     for call in 1..1000 {
-        let (host, status, out) = failed(&rt, alloc, call)?;
+        let (host, status, out) = failed(&rt, alloc, call);
         if status == Status::Done {
             assert!(rt; call > 20);
             break;
         }
-        assert_eq!(rt; status, Status::Fault, "{call}");
+        assert!(rt; status == Status::Fault, "{call}");
         // Where a write or a sync of the flush fails it breaks the session, for all calls behind it.
-        broken |= out.bytes.as_slice() == BROKEN.as_bytes();
+        broken |= says(&out, BROKEN);
         // The file opens, and the same script runs over it.
-        let bytes = bytes_of(&host, "d.vhdx").ok_or("no file")?;
-        let mut again = host_with(alloc, "d.vhdx", bytes)?;
-        let mut ids = ids_of(alloc, &[[7; 16], [8; 16], [9; 16]])?;
-        let (status, out) = run_script(&rt, alloc, "steps d.vhdx", TO_BREAK, &mut again, &mut ids)?;
-        assert_eq!(rt; status, Status::Done, "{call}");
-        assert!(rt; out.bytes.as_slice() == UNBROKEN.as_bytes(), "{call}");
+        let bytes = bytes_of(&host, "d.vhdx").expect(&rt, "no file");
+        let mut again = host_with(&rt, alloc, "d.vhdx", bytes);
+        let mut ids = ids_of(&rt, alloc, &[[7; 16], [8; 16], [9; 16]]);
+        let (status, out) = run_script(&rt, alloc, "steps d.vhdx", TO_BREAK, &mut again, &mut ids);
+        assert!(rt; status == Status::Done && says(&out, UNBROKEN), "{call}");
     }
     assert!(rt; broken);
-    Ok(())
 }

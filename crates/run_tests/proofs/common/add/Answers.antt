@@ -3,4 +3,4 @@ use Rattle.run_tests.proofs.Folders.{more_idle}
 use Rattle.run_tests.proofs.common.add.Goals as goal
 
 pub returns : goal.returns
-returns c = more_idle _ _ _ _ _ refl c.requires (ap (λ h. h.folder) c.in_ok-put.ensures.ok)
+returns g c = more_idle _ _ _ _ _ refl c.requires (ap (λ h. h.folder) (rw c.expect.ensures at c.put.ensures.ok))

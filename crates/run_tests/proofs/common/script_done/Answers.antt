@@ -9,5 +9,5 @@ no_fault status is fault = let never : Done ≡ Fault = sym is ∙ fault in cc
 has_memory : (status : Status) → status ≡ Done → status ≢ NoMemory
 has_memory status is none = let never : Done ≡ NoMemory = sym is ∙ none in cc
 
-pub returns-in-Done : goal.returns-in-Done
-returns-in-Done g c = c.in_ok-status.ensures (no_fault _ c.in-Done.is) (has_memory _ c.in-Done.is)
+pub returns : goal.returns
+returns g c = c.run_script-status.ensures (no_fault _ c.in-Done.is) (has_memory _ c.in-Done.is)
