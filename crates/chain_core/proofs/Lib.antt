@@ -49,3 +49,4 @@ pub mod Retires
 pub mod RetireStays
 pub mod RetireLeaf
 pub mod Noting
+pub mod Handing

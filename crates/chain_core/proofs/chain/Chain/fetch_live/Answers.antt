@@ -34,9 +34,9 @@ pub returns-in-Ok-clause-taken : goal.returns-in-Ok-clause-taken
 returns-in-Ok-clause-taken g c =
     record {
       filled = c.in-Ok.ensures.filled;
-      stripe_is = c.in-Ok.ensures.stripe;
-      stamp_is = c.in-Ok.ensures.stamp ∙ ap (λ k. stamp_of k.layers c.args.stripe) c.admit.ensures.only;
-      fits = λ parts sector sectors. c.in-Ok.ensures.fits parts (sector ∙ sym (ap (λ k. k.layers.geometry.sector) c.admit.ensures.only)) (sectors ∙ sym (ap (λ k. k.layers.geometry.sectors) c.admit.ensures.only));
+      stripe_is = c.take.ensures.stripe_is;
+      stamp_is = c.take.ensures.stamp_is ∙ ap (λ k. stamp_of k.layers c.args.stripe) c.admit.ensures.only;
+      fits = λ parts sector sectors. c.take.ensures.fits parts (sector ∙ sym (ap (λ k. k.layers.geometry.sector) c.admit.ensures.only)) (sectors ∙ sym (ap (λ k. k.layers.geometry.sectors) c.admit.ensures.only));
     }
 
 pub returns-in-Ok-clause-told : goal.returns-in-Ok-clause-told
