@@ -50,3 +50,4 @@ pub mod RetireStays
 pub mod RetireLeaf
 pub mod Noting
 pub mod Handing
+pub mod Called
