@@ -7,6 +7,9 @@ use Rattle.guest_model.specs.declared.call.Call.{Call}
 use Rattle.guest_model.specs.declared.call.Call.TheVariants as calls
 use Rattle.guest_model.specs.declared.call.Caller.{Caller}
 use Rattle.guest_model.specs.declared.refusal.ChainRefusal.{ChainRefusal}
+use Rattle.guest_model.specs.declared.call.Reply.{Reply}
+use Rattle.guest_model.specs.declared.call.Reply.TheVariants as replies
+use Rattle.guest_model.specs.Calls.{Disk as Disk', reply}
 use Rattle.guest_model.specs.declared.refusal.ChainRefusal.TheVariants.{NoRoom}
 use Rattle.layer_session.specs.Calls.{Fails}
 use Rattle.layer_session.specs.ReadOnly.{SomeReadFailed}
@@ -17,11 +20,14 @@ use Rattle.merge_core.specs.Copied.{marks_of}
 use Rattle.chain_core.specs.declared.layers.Layers.{Layers}
 use Rattle.chain_core.specs.declared.layers.Retiring.{Retiring}
 use Rattle.chain_core.specs.Answering.{AnswersTold, HasCause, HasReadCause, HasRoom, IsCausedBy, IsCausedByRead, NeedsNoRoom, Notes, RoomIs, answer_of, as_read, breaks}
+use Rattle.chain_core.specs.declared.answer.Answer.{Answer}
+use Rattle.chain_core.specs.declared.answer.Answer.TheVariants as answers
+use Rattle.chain_core.specs.Events.{IsCaused, RepliesBy, answer_by, placed}
 use Rattle.chain_core.specs.Copying.{LayerFollows, MergeFollows, Touches}
-use Rattle.chain_core.specs.Reading.{HasOnlyRead}
+use Rattle.chain_core.specs.Reading.{Finds, HasOnlyRead}
 use Rattle.chain_core.specs.Refusing.{IfRefused, counted, refused}
 use Rattle.chain_core.specs.Sessions.{IsSound, KeepsMerge, Session, leaf_number, log_numbers}
-use Rattle.chain_core.specs.States.{entry}
+use Rattle.chain_core.specs.States.{disk_now, entry}
 use Rattle.chain_core.proofs.Concluding.{unanswered}
 use Rattle.chain_core.proofs.Copied.{sound_refused}
 
@@ -167,3 +173,41 @@ still_whole (Err (layer.Write f)) old new same whole = tt
 pub read_whole : (found : Result (Unit {0}) StoreFault) (old new : Option StoreFault) → IfNone (breaks (as_read found)) (new ≡ old) → old ≡ None → new ≡ None
 read_whole (Ok t) old new same whole = same ∙ whole
 read_whole (Err f) old new same whole = same ∙ whole
+
+-- ---- with its reply
+
+pub placed_by : (done : Result ℕ ChainRefusal) (r : Reply) → placed (answer_by done r) ≡ done
+placed_by (Ok place) r = refl
+placed_by (Err refusal) r = refl
+
+pub replies_done : (call : Call) (s : Session) (done : Result ℕ ChainRefusal) → ((disk : Disk') → reply disk call ≡ replies.Done) → RepliesBy call s (answer_by done replies.Done)
+replies_done call s (Ok place) same = λ trace told v serving. same (disk_now v)
+replies_done call s (Err refusal) same = tt
+
+pub replies_read : (first count : ℕ) (s : Session) (out : List ℕ) (r : Reply) (done : Result ℕ ChainRefusal) → OnOk done (Finds first count out s.layers s.disk) → r ≡ replies.Bytes out → RepliesBy (calls.Read first count) s (answer_by done r)
+replies_read first count s out r (Ok place) finds same = subst (λ (x : Reply). RepliesBy (calls.Read first count) s (answers.Reply place x)) (sym same) finds
+replies_read first count s out r (Err refusal) finds same = tt
+
+pub record IsAnswered (who : Caller) (call : Call) (old new : Session) (answer : Answer) (P : Type 0) : Type 0 where
+  pub merge : MergeFollows call old.layers new.layers (placed answer)
+  pub early : IfRefused call old (placed answer) P
+  pub notes : Notes who call old new (placed answer)
+  pub cause : IsCaused call old new answer
+  pub room : HasRoom call old (placed answer)
+  pub replies : RepliesBy call old answer
+  pub told : AnswersTold who call old new (placed answer)
+
+-- what is said of this call is said of the one that it is
+pub call_answered : (who : Caller) (call is_of : Call) (old new : Session) (done : Result ℕ ChainRefusal) (r : Reply) (answer : Answer) (P : Type 0) → call ≡ is_of → answer ≡ answer_by done r → MergeFollows is_of old.layers new.layers done → IfRefused is_of old done P
+    → Notes who is_of old new done → IsCaused is_of old new (answer_by done r) → HasRoom is_of old done → RepliesBy is_of old (answer_by done r) → AnswersTold who is_of old new done → IsAnswered who call old new answer P
+call_answered who call is_of old new done r answer P of is merge early notes cause room replied told =
+    let same = placed_by done r in
+    subst (λ (k : Call). IsAnswered who k old new answer P) (sym of) (subst (λ a. IsAnswered who is_of old new a P) (sym is) record {
+      merge = subst (MergeFollows is_of old.layers new.layers) (sym same) merge;
+      early = subst (λ x. IfRefused is_of old x P) (sym same) early;
+      notes = subst (Notes who is_of old new) (sym same) notes;
+      cause = cause;
+      room = subst (HasRoom is_of old) (sym same) room;
+      replies = replied;
+      told = subst (AnswersTold who is_of old new) (sym same) told;
+    })
