@@ -51,3 +51,4 @@ pub mod RetireLeaf
 pub mod Noting
 pub mod Handing
 pub mod Called
+pub mod Stopped
