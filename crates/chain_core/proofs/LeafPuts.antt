@@ -1,9 +1,9 @@
 -- A piece is put into the target of the merge of the leaf, or taken of the leaf: what the layers say of it.
 use Rattle.std.proofs.Common.{◌≡◌, ℕ, ◌+◌, ◌<◌, ◌≤◌, true, false, Bool, cond, ◌-◌, ◌⊎◌, inl, inr, List, [], ◌∷◌, ◌++◌, length, map, get_or, is_some, refl, sym, ap, subst, ◌∙◌, arith}
-use Rattle.std.specs.Prelude.{Option, Some, None, Result, Ok, Err, IfErr, IfSome, OnOk, option_map}
+use Rattle.std.specs.Prelude.{Option, Some, None, Result, Ok, Err, IfErr, IfSome, OnErr, OnOk, option_map}
 use Rattle.std.specs.List.{AllByRecursion}
 use Rattle.vx_base.specs.declared.parts.Geometry.{Geometry}
-use Rattle.store_model.specs.Disk.{Disk, WhereBothTold, WhereTold}
+use Rattle.store_model.specs.Disk.{Disk, ReadFailed, WhereBothTold, WhereTold}
 use Rattle.store_model.specs.Trace.{Trace}
 use Rattle.store_model.specs.declared.fault.StoreFault.{StoreFault}
 use Rattle.guest_model.specs.History.{either}
@@ -17,7 +17,7 @@ use Rattle.vhdx_format.specs.AllocationTables.{IsSectorSize}
 use Rattle.vhdx_format.proofs.SizeLemmas.{sector_cases}
 use Rattle.merge_core.proofs.Touching.{calls_touch_ranges}
 use Rattle.chain_model.proofs.Merging.{true_pieces}
-use Rattle.layer_session.specs.Calls.{Fails, HasKept, KeepsOver, OnRefused, own_file}
+use Rattle.layer_session.specs.Calls.{Fails, HasKept, IsSame, KeepsOver, OnRefused, own_file}
 use Rattle.layer_session.specs.FileLayers.{AreReadyFiles, IsReadyFile, LeavesOthers, file_numbers, log_number}
 use Rattle.layer_session.specs.Keeping.{IsReady, Serves}
 use Rattle.layer_session.specs.declared.file.Layer.{Layer}
@@ -34,14 +34,16 @@ use Rattle.chain_core.specs.declared.layers.Layers.{Layers}
 use Rattle.chain_core.specs.declared.layers.Retiring.{Retiring}
 use Rattle.chain_core.specs.declared.layers.Underway.{Underway}
 use Rattle.chain_core.specs.Answering.{UnlessBroken}
-use Rattle.chain_core.specs.Copying.{HasMarked, IsMarkedToo, IsTouched, MarksIn, MarksToo, PutRoomIs, PutTold, PutsAt, number_below, session_below, session_in, stamp_in, stamp_of, target_layer, target_number}
+use Rattle.chain_core.specs.Copying.{FitsDisk, HasMarked, IsMarkedToo, IsTouched, MarksIn, MarksToo, PutRoomIs, PutTold, PutsAt, PutsInTarget, number_below, session_below, session_in, source_number, stamp_in, stamp_of, TakesStripe, number_at_source, target_layer, target_number}
 use Rattle.chain_core.specs.Merging.{IsTruePiece, PutAnswers}
-use Rattle.chain_core.specs.Sessions.{AreReady, AtMostOne, CanRelink, CanRetire, IsLow, IsMergeOf, IsRetiringOf, header_at, is_session_at}
+use Rattle.chain_core.specs.Sessions.{AreReady, AtMostOne, CanRelink, CanRetire, IsLow, IsMergeOf, IsRetiringOf, header_at, is_session_at, number_of_leaf}
 use Rattle.chain_core.specs.States.{AreHeld, IsLeaving, IsRetiring, IsServing, Rest, State, merging, plain, retiring, sector_of}
 use Rattle.chain_core.proofs.LeafTargets.{piece_copied, piece_failed, piece_refused, serves_target}
-use Rattle.chain_core.proofs.Places.{one_of, some_leaf}
+use Rattle.chain_core.proofs.Finding.{leaf_reads}
+use Rattle.chain_core.proofs.Places.{one_of, some_failed, some_leaf}
 use Rattle.chain_core.proofs.Replaced.{AreParts, all_low, both_at, low_at, more_low, parts_of, parts_then, round_apart, top_apart}
-use Rattle.chain_core.proofs.Standing.{same_files}
+use Rattle.chain_core.proofs.Standing.{leaf_of, same_files}
+use Rattle.chain_core.proofs.Steps.{LeafStep}
 use Rattle.chain_core.proofs.Turning.{Alike, KeepsTies, KeepsUnlessBroken, alike_marked, alike_same, all_but_one, one_alike, piece_ties, retires_alike, retiring_alike, top_beside, turn_kept}
 
 -- ---- the layer below the leaf
@@ -68,7 +70,7 @@ none_marked stripe o none = subst (λ (k : Option Underway). MarksIn stripe k k)
 
 -- ---- what is taken of the leaf
 
-pub leaf_taken : (layers : Layers) (leaf : Layer) (r : Retiring) (disk : Disk) (answer : Result (Unit {0}) StoreFault) (piece : Piece) (stripe : ℕ) → layers.leaf ≡ Some leaf → layers.retiring ≡ Some r → layers.geometry.sector ≡ 512
+leaf_taken : (layers : Layers) (leaf : Layer) (r : Retiring) (disk : Disk) (answer : Result (Unit {0}) StoreFault) (piece : Piece) (stripe : ℕ) → layers.leaf ≡ Some leaf → layers.retiring ≡ Some r → layers.geometry.sector ≡ 512
     → stripe < stripe_count layers.geometry.sector layers.geometry.sectors → piece.stripe ≡ stripe → piece.stamp ≡ stamps_of r.stamps stripe
     → OnOk answer ((file : Placed) → WhereTold disk.told (λ trace. Serves leaf trace file → IsTaken layers.geometry.sector file.member.layer piece))
     → OnOk answer (WhereTold disk.told (λ trace. (v : State) → IsServing layers v trace → IsTruePiece v piece))
@@ -88,13 +90,35 @@ leaf_taken layers leaf r disk (Ok done) piece stripe is kept sector there stripe
         let inside : stripe < stripe_count z v.top.member.ties.geometry.sectors = subst (λ (g : Geometry). stripe < stripe_count g.sector g.sectors) serving.geometry there in
         true_pieces.taken z first v.history v.top.member.layer piece leaving.some (λ s. leaving.under_way.source_is s) (stamp_is ∙ leaving.stamps stripe inside ∙ ap (stamp z v.history) (sym stripe_is)) t.within t.taken
 
-pub leaf_took : (layers : Layers) (leaf : Layer) (disk : Disk) (answer : Result (Unit {0}) StoreFault) (piece : Piece) (stripe : ℕ) → layers.leaf ≡ Some leaf → is_some layers.retiring ≡ true → AreReady layers disk
+leaf_took : (layers : Layers) (leaf : Layer) (disk : Disk) (answer : Result (Unit {0}) StoreFault) (piece : Piece) (stripe : ℕ) → layers.leaf ≡ Some leaf → is_some layers.retiring ≡ true → AreReady layers disk
     → stripe < stripe_count layers.geometry.sector layers.geometry.sectors → piece.stripe ≡ stripe → piece.stamp ≡ stamp_of layers stripe
     → OnOk answer ((file : Placed) → WhereTold disk.told (λ trace. Serves leaf trace file → IsTaken layers.geometry.sector file.member.layer piece))
     → OnOk answer (WhereTold disk.told (λ trace. (v : State) → IsServing layers v trace → IsTruePiece v piece))
 leaf_took layers leaf disk answer piece stripe is some ready there stripe_is stamp_is taken =
     let r = some_kept layers.retiring some in
     leaf_taken layers leaf r.0 disk answer piece stripe is r.1 ready.sector there stripe_is (stamp_is ∙ ap (λ o. stamp_in o stripe) r.1) taken
+
+-- all that a take of the leaf says
+pub leaf_takes : (old new : Layers) (leaf next : Layer) (before after : Disk) (answer : Result (Unit {0}) StoreFault) (piece : KeptPiece) (stripe : ℕ) → LeafStep old new leaf next → new.retiring ≡ old.retiring → old.merge ≡ None
+    → is_some old.retiring ≡ true → AreReady old before → stripe < stripe_count old.geometry.sector old.geometry.sectors → OnOk answer (piece.filled ≡ true) → OnErr answer (piece.filled ≡ false) → FitsDisk old.geometry piece → piece.stripe ≡ stripe
+    → piece.stamp ≡ stamp_of old stripe → OnOk answer ((file : Placed) → WhereTold before.told (λ trace. Serves leaf trace file → IsTaken old.geometry.sector file.member.layer (piece_of piece))) → IsSame leaf next before
+    → OnOk answer (after ≡ before) → IfErr answer (ReadFailed (own_file leaf) before after) → TakesStripe stripe old new before after piece answer
+leaf_takes old new leaf next before after answer piece stripe step kept none some ready there filled empty fits stripe_is stamp_is taken same stays failed = record {
+  reads = leaf_reads old new leaf next (own_file leaf) before after answer step kept same stays failed ready;
+  filled = filled;
+  empty = empty;
+  fits = fits;
+  stripe_is = stripe_is;
+  stamp_is = stamp_is;
+  taken = leaf_took old leaf before answer (piece_of piece) stripe step.was some ready there stripe_is stamp_is taken;
+  stays = stays;
+  err = some_failed (Session leaf) before after answer (leaf_of old leaf before step.was ready).ready.readable failed;
+  whose = its answer failed;
+}
+  where
+    its : (answer : Result (Unit {0}) StoreFault) → IfErr answer (ReadFailed (own_file leaf) before after) → IfErr answer (λ fault. fault.file ≡ source_number old)
+    its (Ok done) failed = tt
+    its (Err fault) failed = failed.of_file ∙ sym (ap number_of_leaf step.was) ∙ sym (ap (number_at_source old) none)
 
 -- ---- a put
 
@@ -156,7 +180,7 @@ module _ (old new : Layers) (r0 : Retiring) (piece : KeptPiece) (before after : 
       by_answer (Err (Write fault)) put_on kept quiet marked =
           piece_failed v target below first initial old the_leaf.0 put.was put.below x serving the_leaf.1 was_items r0 (piece_of piece) y kept_is true_piece stamp_now (record { moments = moments.over target serves })
 
-  pub behind_told : new.merge ≡ None → piece.stamp ≡ stamps_of r0.stamps piece.stripe → piece.stripe < stripe_count old.geometry.sector old.geometry.sectors → HasMarked piece.stripe old new r → PutTold (piece_of piece) old new before after r
+  behind_told : new.merge ≡ None → piece.stamp ≡ stamps_of r0.stamps piece.stripe → piece.stripe < stripe_count old.geometry.sector old.geometry.sectors → HasMarked piece.stripe old new r → PutTold (piece_of piece) old new before after r
   behind_told none_now taken_at there marked = by_told before.told after.told r put.moments put.put put.kept put.quiet marked
     where
       by_told : (o p : Option Trace) (r : Result (Unit {0}) LayerFault) → WhereBothTold (PutsPiece put.was piece) o p → OnOk r (WhereBothTold (HasPutPiece put.was put.now piece) o p) → OnRefused r (WhereBothTold (HasKept put.was put.now) o p)
@@ -185,25 +209,25 @@ module _ (old new : Layers) (r0 : Retiring) (piece : KeptPiece) (before after : 
   pub behind_number : target_number old ≡ own_file put.was
   behind_number = ap (number_below (file_numbers old.below.items)) none ∙ ap (λ (c : List FileLayer). get_or (file_numbers c) 0 0) was_items
 
-  pub behind_fails : IfErr r (Fails (target_number old) before after)
+  behind_fails : IfErr r (Fails (target_number old) before after)
   behind_fails = subst (λ n. IfErr r (Fails n before after)) (sym behind_number) put.err
 
-  pub behind_within : target_number old < before.files
+  behind_within : target_number old < before.files
   behind_within = subst (λ n. n < before.files) (sym behind_number) own.ready.readable.there
 
-  pub behind_room : IfSome (target_layer old) (λ l. PutRoomIs piece l before r)
+  behind_room : IfSome (target_layer old) (λ l. PutRoomIs piece l before r)
   behind_room =
       let is : target_layer old ≡ Some put.was = ap (session_below old.below.items) none ∙ ap (λ (c : List FileLayer). session_in (get_or (map (λ l. Some l) c) 0 None)) was_items in
       subst (λ o. IfSome o (λ l. PutRoomIs piece l before r)) (sym is) put.room
 
-  pub behind_low : (most : ℕ) → IsLow most old → IsLow (most + 1) new
+  behind_low : (most : ℕ) → IsLow most old → IsLow (most + 1) new
   behind_low most low = (
     subst (λ (o : Option Layer). IfSome (option_map (λ (k : Layer). k.log.number) o) (λ n. n ≤ most + 1)) (sym leaf_is) (more_low most (option_map (λ (k : Layer). k.log.number) old.leaf) low.0),
     subst (λ (c : List FileLayer). AllByRecursion (λ number. IfSome number (λ n. n ≤ most + 1)) (map log_number c)) (sym now_items)
         (low_at put.was put.now put.parts most [] put.below put.number (subst (λ (c : List FileLayer). AllByRecursion (λ number. IfSome number (λ n. n ≤ most)) (map log_number c)) was_items low.1)),
   )
 
-  pub behind_ready : new.merge ≡ None → HasMarked piece.stripe old new r → UnlessBroken r (AreReady new after)
+  behind_ready : new.merge ≡ None → HasMarked piece.stripe old new r → UnlessBroken r (AreReady new after)
   behind_ready none_now marked = by_answer r put.counts put.err put.ready put.refused marked (piece_ties put.was put.now piece before.told after.told r put.put put.kept)
     where
       parts_was : AreParts old.geometry old.leaf (Session put.was ∷ put.below) before
@@ -243,6 +267,21 @@ module _ (old new : Layers) (r0 : Retiring) (piece : KeptPiece) (before after : 
       by_answer (Err (Read fault)) counts fails is refused marked keeps = made (same_files (own_file put.was) before after (Err (Read fault)) counts fails) refused keeps (alike_same old.retiring new.retiring marked.1)
       by_answer (Err (FileFull n)) counts fails is refused marked keeps = made (same_files (own_file put.was) before after (Err (FileFull n)) counts fails) refused keeps (alike_same old.retiring new.retiring marked.1)
       by_answer (Err (Write fault)) counts fails is refused marked keeps = tt
+
+  pub behind_put : new.merge ≡ None → piece.stamp ≡ stamps_of r0.stamps piece.stripe → piece.stripe < stripe_count old.geometry.sector old.geometry.sectors → HasMarked piece.stripe old new r → PutsInTarget piece old new before after r
+  behind_put none_now taken_at there marked = record {
+    told = behind_told none_now taken_at there marked;
+    ready = behind_ready none_now marked;
+    low = behind_low;
+    session = ap is_some leaf_is;
+    leaf = ap number_of_leaf leaf_is;
+    geometry = geometry;
+    marked = marked;
+    counts = put.counts;
+    err = behind_fails;
+    within = behind_within;
+    room = behind_room;
+  }
 
 -- ---- the stripes of a call
 

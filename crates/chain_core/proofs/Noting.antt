@@ -1,20 +1,20 @@
 -- What a call that reached the layers leaves of the history, and of a session, by the answer of its layers.
 use Rattle.std.proofs.Common.{◌≡◌, ℕ, ◌+◌, ◌-◌, ◌≤◌, ◌^◌, List, [], ◌∷◌, ◌++◌, length, take, refl, sym, ap, subst, ◌∙◌, arith, length-append, Bool, true, is_some, ◌||◌, map}
 use Rattle.std.proofs.lemmas.List.{take_at}
-use Rattle.std.specs.Prelude.{Option, Some, None, option_map, Result, Ok, Err, IfSome, IsErrAnd, OnOk, OnErr}
+use Rattle.std.specs.Prelude.{Option, Some, None, option_map, Result, Ok, Err, IfErr, IfSome, IsErrAnd, OnOk, OnErr}
 use Rattle.std.specs.List.{AllByRecursion}
 use Rattle.store_model.specs.Disk.{Disk}
+use Rattle.store_model.specs.Plans.{FailsToChange}
+use Rattle.store_model.specs.declared.fault.StoreFault.{StoreFault}
 use Rattle.guest_model.specs.declared.call.Call.{Call}
 use Rattle.guest_model.specs.declared.call.Entry.{Entry}
 use Rattle.guest_model.specs.declared.refusal.ChainRefusal.{ChainRefusal}
 use Rattle.layer_session.specs.declared.file.LayerFault.{LayerFault}
 use Rattle.layer_session.specs.declared.file.Layer.{Layer}
+use Rattle.layer_session.specs.Calls.{Fails}
 use Rattle.layer_session.specs.FileLayers.{log_number}
 use Rattle.chain_core.specs.declared.layers.Layers.{Layers}
-use Rattle.chain_core.specs.declared.answer.Answer.{Answer}
-use Rattle.guest_model.specs.declared.call.Reply.{Reply}
-use Rattle.chain_core.specs.Answering.{HasCause, IsCausedBy, IsNoted, answer_of, breaks}
-use Rattle.chain_core.specs.Events.{answer_by, placed}
+use Rattle.chain_core.specs.Answering.{IsNoted, answer_of, as_change, breaks}
 use Rattle.chain_core.specs.Reading.{HasOnlyRead}
 use Rattle.chain_core.specs.Refusing.{IfRefused, refused}
 use Rattle.chain_core.specs.Sessions.{AreReady, IsLow, IsSound, Session, has_merge, slack}
@@ -66,14 +66,6 @@ sound_looked s t old new before after done sound whole one few noted first then 
     (always done ((most : ℕ) → IsLow most s.layers → IsLow (most + 1) t.layers)
     (λ most low. low_on most (most + 1) t.layers (omega arith) (subst (AllByRecursion (λ number. IfSome number (λ n. n ≤ most))) (sym r.numbers) low))) fault
 
--- of a guest's call, once its answer has its reply
-pub caused_so : (call : Call) (old new : Session) (done : Result ℕ ChainRefusal) (r : Reply) (answer : Answer) → answer ≡ answer_by done r → HasCause call old new done → HasCause call old new (placed answer)
-caused_so call old new done r answer is cause fit = subst (IsCausedBy old new) (sym (ap placed is ∙ by_answer done)) (cause fit)
-  where
-    by_answer : (done : Result ℕ ChainRefusal) → placed (answer_by done r) ≡ done
-    by_answer (Ok place) = refl
-    by_answer (Err refusal) = refl
-
 -- with a merge of the leaf, and no event yet
 pub sound_leaf_started : (s : Session) → s.events ≡ 0 → s.noted ≡ 0 → AreReady s.layers s.disk → s.layers.merge ≡ None → is_some s.layers.retiring ≡ true → IsLow 2 s.layers → IsSound s
 sound_leaf_started s none empty ready only leaf low = record {
@@ -93,3 +85,12 @@ low_stepped old new leaf next was now below step most low =
       subst (λ o. IfSome (option_map (λ (l : Layer). l.log.number) o) (λ n. n ≤ most + 1)) (sym now) (omega (arith, first, step)),
       subst (λ b. AllByRecursion (λ number. IfSome number (λ n. n ≤ most + 1)) (map log_number b.items)) (sym below) (low_on most (most + 1) old (omega arith) low).1,
     )
+
+-- a commit's one fault is a failed change
+pub change_counts : (done : Result (Unit {0}) StoreFault) (P : Type 0) → OnOk done P → OnOk (as_change done) P
+change_counts (Ok t) P p = p
+change_counts (Err f) P p = tt
+
+pub change_fails : (file : ℕ) (old new : Disk) (done : Result (Unit {0}) StoreFault) → IfErr done (FailsToChange file old new) → IfErr (as_change done) (Fails file old new)
+change_fails file old new (Ok t) failed = tt
+change_fails file old new (Err f) failed = failed

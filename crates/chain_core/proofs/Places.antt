@@ -1,6 +1,6 @@
 -- A file at its place among others.
-use Rattle.std.proofs.Common.{◌≡◌, ℕ, zero, suc, ◌<◌, List, [], ◌∷◌, ◌++◌, length, map, get_or, set, refl, sym, ap, subst, ◌∙◌, arith, is_some, true}
-use Rattle.std.specs.Prelude.{Option, Some, None, Result, Ok, Err, IfErr, IfSome, OnOk}
+use Rattle.std.proofs.Common.{◌≡◌, ℕ, zero, suc, ◌<◌, List, [], ◌∷◌, ◌++◌, length, map, get_or, set, refl, sym, ap, subst, ◌∙◌, arith, is_some, false, true}
+use Rattle.std.specs.Prelude.{Option, Some, None, Result, Ok, Err, IfErr, IfSome, OnErr, OnOk}
 use Rattle.std.specs.List.{AllByRecursion}
 use Rattle.vx_base.specs.declared.parts.Geometry.{Geometry}
 use Rattle.store_model.specs.Disk.{Disk, ReadFailed, WhereTold}
@@ -19,10 +19,11 @@ use Rattle.layer_session.specs.declared.file_layer.FileLayer.TheVariants.{Read, 
 use Rattle.layer_session.specs.ReadOnly.{SomeReadFailed}
 use Rattle.layer_session.proofs.FileLayers.{others_stand}
 use Rattle.layer_session.specs.FileLayers.{AreReadableFiles, AreReadyFiles, AreSameFiles, FileCanBeRead, HasFile, HaveFiles, HaveSameNumbers, Hold, IsReadableFile, IsReadyFile, IsSameFile, file_numbers, log_number, number_of, table_parts, log_header}
-use Rattle.merge_core.specs.Pieces.{IsTaken}
+use Rattle.merge_core.specs.Pieces.{IsTaken, piece_of}
+use Rattle.merge_core.specs.declared.piece.Piece.{Piece as KeptPiece}
 use Rattle.chain_core.specs.declared.layers.Layers.{Layers}
 use Rattle.chain_core.specs.declared.layers.Underway.{Underway}
-use Rattle.chain_core.specs.Copying.{Takes, number_at_source, source_number}
+use Rattle.chain_core.specs.Copying.{FitsDisk, Takes, TakesStripe, number_at_source, source_number, stamp_in}
 use Rattle.chain_core.specs.Merging.{IsTruePiece}
 use Rattle.chain_core.specs.Reading.{HasOnlyRead}
 use Rattle.chain_core.specs.Sessions.{AreReady, AtMostOne, IsMergeOf}
@@ -126,7 +127,7 @@ pub some_failed : (x : FileLayer) (before after : Disk) (answer : Result (Unit {
 some_failed x before after (Ok done) can failed = tt
 some_failed x before after (Err fault) can failed = (subst (λ (n : ℕ). n < before.files) (sym failed.of_file) (file_there x before can), subst (λ (n : ℕ). ReadFailed n before after fault) (sym failed.of_file) failed)
 
-pub source_reads : (old new : Layers) (u : Underway) (x next : FileLayer) (before after : Disk) (answer : Result (Unit {0}) StoreFault) → AreReady old before → IsAt old.below.items u.source x
+source_reads : (old new : Layers) (u : Underway) (x next : FileLayer) (before after : Disk) (answer : Result (Unit {0}) StoreFault) → AreReady old before → IsAt old.below.items u.source x
     → new.geometry ≡ old.geometry → new.leaf ≡ old.leaf → new.merge ≡ old.merge → new.retiring ≡ old.retiring → new.below.items ≡ set old.below.items u.source next → IsSameFile x next before → OnOk answer (after ≡ before) → IfErr answer (ReadFailed (number_of x) before after)
     → HasOnlyRead old new before after
 source_reads old new u x next before after answer ready at g l m q items same done failed =
@@ -139,7 +140,7 @@ number_in [] x b = refl
 number_in (l ∷ a) x b = number_in a x b
 
 -- a read that fails is one of its file
-pub whose : (layers : Layers) (u : Underway) (x : FileLayer) (before after : Disk) (answer : Result (Unit {0}) StoreFault) → layers.merge ≡ Some u → IsAt layers.below.items u.source x → IfErr answer (ReadFailed (number_of x) before after)
+whose : (layers : Layers) (u : Underway) (x : FileLayer) (before after : Disk) (answer : Result (Unit {0}) StoreFault) → layers.merge ≡ Some u → IsAt layers.below.items u.source x → IfErr answer (ReadFailed (number_of x) before after)
     → IfErr answer (λ fault. fault.file ≡ source_number layers)
 whose layers u x before after (Ok done) merge_is at failed = tt
 whose layers u x before after (Err fault) merge_is at failed =
@@ -167,7 +168,7 @@ pub some_leaf : (o : Option Layer) → is_some o ≡ true → (leaf : Layer) × 
 some_leaf None some = cc
 some_leaf (Some leaf) some = (leaf, refl)
 
-pub takes : (layers : Layers) (u : Underway) (x : FileLayer) (disk : Disk) (answer : Result (Unit {0}) StoreFault) (piece : Piece) → layers.merge ≡ Some u → IsAt layers.below.items u.source x → AreReady layers disk → piece.stamp ≡ 0
+takes : (layers : Layers) (u : Underway) (x : FileLayer) (disk : Disk) (answer : Result (Unit {0}) StoreFault) (piece : Piece) → layers.merge ≡ Some u → IsAt layers.below.items u.source x → AreReady layers disk → piece.stamp ≡ 0
     → OnOk answer ((file : Placed) → WhereTold disk.told (λ trace. HasFile x trace file → IsTaken layers.geometry.sector file.member.layer piece)) → OnOk answer (Takes layers disk piece)
 takes layers u x disk (Err fault) piece merge_is at ready stamp taken = tt
 takes layers u x disk (Ok done) piece merge_is at ready stamp taken = λ trace told v serving.
@@ -176,3 +177,21 @@ takes layers u x disk (Ok done) piece merge_is at ready stamp taken = λ trace t
     let size : layers.geometry.sector ≡ sector_of v = ap (λ (k : Geometry). k.sector) serving.geometry in
     let stripes : 0 < per_stripe (sector_of v) = subst (λ (z : ℕ). 0 < per_stripe z) (sym ready.sector ∙ size) (omega arith) in
     source_taken v v.rest layers leaf.0 u x trace piece leaf.1 merge_is at serving stripes stamp (λ file own. subst (λ (z : ℕ). IsTaken z file.member.layer piece) size (taken file trace told own))
+
+-- all that a take of the source says
+pub below_takes : (old new : Layers) (u : Underway) (x next : FileLayer) (before after : Disk) (answer : Result (Unit {0}) StoreFault) (piece : KeptPiece) (stripe : ℕ) → old.merge ≡ Some u → AreReady old before → IsAt old.below.items u.source x
+    → new.geometry ≡ old.geometry → new.leaf ≡ old.leaf → new.merge ≡ old.merge → new.retiring ≡ old.retiring → new.below.items ≡ set old.below.items u.source next → OnOk answer (piece.filled ≡ true) → OnErr answer (piece.filled ≡ false)
+    → FitsDisk old.geometry piece → piece.stripe ≡ stripe → piece.stamp ≡ 0 → OnOk answer ((file : Placed) → WhereTold before.told (λ trace. HasFile x trace file → IsTaken old.geometry.sector file.member.layer (piece_of piece)))
+    → IsSameFile x next before → OnOk answer (after ≡ before) → IfErr answer (ReadFailed (number_of x) before after) → TakesStripe stripe old new before after piece answer
+below_takes old new u x next before after answer piece stripe is ready at g l m q items filled empty fits stripe_is stamp_is taken same stays failed = record {
+  reads = source_reads old new u x next before after answer ready at g l m q items same stays failed;
+  filled = filled;
+  empty = empty;
+  fits = fits;
+  stripe_is = stripe_is;
+  stamp_is = stamp_is ∙ sym (ap (λ o. stamp_in o stripe) (alone old u before is ready));
+  taken = takes old u x before answer (piece_of piece) is at ready stamp_is taken;
+  stays = stays;
+  err = some_failed x before after answer (readable_of old u before x ready at).can failed;
+  whose = whose old u x before after answer is at failed;
+}

@@ -27,7 +27,10 @@ use Rattle.chain_core.proofs.Replaced.{AreParts}
 use Rattle.chain_core.proofs.RetireStays.{Stays, all_ready, handed_leaf_ready, handed_parts, identifying_leaves, leaf_fails, leaf_ready, leaf_turns, leaf_was_ready, stays_first, stays_leaf, stays_number, stays_target, target_fails, target_ready, target_was, target_was_ready}
 use Rattle.chain_core.proofs.Retires.{AtFifth, AtFourth, AtThird, Breaks, LeafChange, Reaches, StandsIn, TargetChange, broken_fifth, broken_first, broken_fourth, broken_second, broken_sixth, broken_third, broken_told, leaf_change, reached_fifth, reached_first, reached_fourth, reached_second, reached_sixth, reached_third, reached_told, reached_unchanged, some_is, target_change}
 
-module _ (L0 : Layers) (r : Retiring) (d0 : Disk) (none : L0.merge ≡ None) (kept_is : L0.retiring ≡ Some r) (marked : IsAllMarked r.marks) (ready : AreReady L0 d0) where
+module _ (L0 : Layers) (r : Retiring) (d0 : Disk) (none : L0.merge ≡ None) (kept_is : L0.retiring ≡ Some r) (copied : IfSome L0.retiring (λ (k : Retiring). IsAllMarked k.marks)) (ready : AreReady L0 d0) where
+  marked : IsAllMarked r.marks
+  marked = subst (λ o. IfSome o (λ (k : Retiring). IsAllMarked k.marks)) kept_is copied
+
   of_retiring : IsRetiringOf L0.geometry L0.leaf L0.below.items r
   of_retiring = subst (λ o. IfSome o (IsRetiringOf L0.geometry L0.leaf L0.below.items)) kept_is ready.retiring
 
@@ -68,8 +71,11 @@ module _ (L0 : Layers) (r : Retiring) (d0 : Disk) (none : L0.merge ≡ None) (ke
       pub first_ready : AreReady L1 d1
       first_ready = target_ready L0 L1 d0 d1 none ready t1
 
-      pub first_low : (most : ℕ) → IsLow most L0 → IsLow (most + 1) L1
+      first_low : (most : ℕ) → IsLow most L0 → IsLow (most + 1) L1
       first_low = exchanged_low 1 c1.was c1.now L0 L1 c1.exchanged c1.changed.parts c1.changed.number
+
+      pub settle_low : IsLow (2 ^ 63 + 3) L0 → IsLow (2 ^ 63 + 5) L1
+      settle_low low = low_on (2 ^ 63 + 3 + 1) (2 ^ 63 + 5) L1 (omega arith) (first_low (2 ^ 63 + 3) low)
 
       s1 : Stays L0 L1 d0 d1
       s1 = stays_target L0 L0 d0 d0 s0 L1 d1 Settles (Ok tt) t1 t1.changed.parts (others_stand.kept t1.was d0 d1 (target_was_ready L0 L0 d0 d0 s0 L1 d1 Settles (Ok tt) t1) t1.changed.moments) t1.changed.counts t1.changed.ready
@@ -96,8 +102,11 @@ module _ (L0 : Layers) (r : Retiring) (d0 : Disk) (none : L0.merge ≡ None) (ke
           pub second_ready : AreReady L2 d2
           second_ready = leaf_ready L1 L2 d1 d2 none1 first_ready t2
 
-          pub second_low : (most : ℕ) → IsLow most L0 → IsLow (most + 1 + 1) L2
+          second_low : (most : ℕ) → IsLow most L0 → IsLow (most + 1 + 1) L2
           second_low most low = exchanged_low 0 c2.was c2.now L1 L2 c2.exchanged c2.changed.parts c2.changed.number (most + 1) (first_low most low)
+
+          pub clear_low : IsLow (2 ^ 63 + 3) L0 → IsLow (2 ^ 63 + 5) L2
+          clear_low low = low_on (2 ^ 63 + 3 + 1 + 1) (2 ^ 63 + 5) L2 (omega arith) (second_low (2 ^ 63 + 3) low)
 
           s2 : Stays L0 L2 d0 d2
           s2 = stays_leaf L0 L1 d0 d1 s1 L2 d2 Settles (Ok tt) t2 t2.changed.parts (others_stand.kept t2.was d1 d2 (leaf_was_ready L0 L1 d0 d1 s1 L2 d2 Settles (Ok tt) t2) t2.changed.moments) t2.changed.counts t2.changed.ready
@@ -124,8 +133,11 @@ module _ (L0 : Layers) (r : Retiring) (d0 : Disk) (none : L0.merge ≡ None) (ke
                 stopped L3 d3 fault (broken_third L0 r L2 L3 d0 d2 d3 reached2 t2.now t2.now_there pages is (Err fault) t s2.lower_by) (ap is_some (t.leaf ∙ t2.now_there) ∙ sym of_retiring.session) (t.geometry ∙ s2.geometry)
                 (t.merge ∙ s2.merge, t.retiring ∙ s2.retiring) (target_fails L0 L2 d0 d2 s2 L3 d3 (UpdatesBy pages) (Err fault) t none t.changed.err)
 
-            pub stopped_third : (fault : StoreFault) → Clears r.clear L2 L3 d2 d3 (Err fault) → Finishes L0 L3 d0 d3 (Err fault)
-            stopped_third fault c = stopped_clear fault r.clear refl c
+            clears_own : (a : Result (Unit {0}) StoreFault) → IfSome L2.retiring (λ (k : Retiring). Clears k.clear L2 L3 d2 d3 a) → Clears r.clear L2 L3 d2 d3 a
+            clears_own a = subst (λ o. IfSome o (λ (k : Retiring). Clears k.clear L2 L3 d2 d3 a)) (s2.retiring ∙ kept_is)
+
+            pub stopped_third : (fault : StoreFault) → IfSome L2.retiring (λ (k : Retiring). Clears k.clear L2 L3 d2 d3 (Err fault)) → Finishes L0 L3 d0 d3 (Err fault)
+            stopped_third fault k = stopped_clear fault r.clear refl (clears_own (Err fault) k)
 
             -- what it leaves
             record IsCleared : Type 0 where
@@ -166,11 +178,11 @@ module _ (L0 : Layers) (r : Retiring) (d0 : Disk) (none : L0.merge ≡ None) (ke
                   items = t.now_there ∙ ap (λ (b : List FileLayer). Session t.now ∷ b) rest;
                 }
 
-            module _ (c3 : Clears r.clear L2 L3 d2 d3 (Ok tt)) where
+            module _ (k3 : IfSome L2.retiring (λ (k : Retiring). Clears k.clear L2 L3 d2 d3 (Ok tt))) where
               t3 : IsCleared
-              t3 = cleared_by r.clear refl c3
+              t3 = cleared_by r.clear refl (clears_own (Ok tt) k3)
 
-              pub retiring3 : L3.retiring ≡ Some r
+              retiring3 : L3.retiring ≡ Some r
               retiring3 = t3.stays.retiring ∙ kept_is
 
               third_low : (most : ℕ) → IsLow most L0 → IsLow (most + 3) L3
@@ -196,17 +208,20 @@ module _ (L0 : Layers) (r : Retiring) (d0 : Disk) (none : L0.merge ≡ None) (ke
               -- ---- the leaf is retired
 
               module _ (L4 : Layers) (d4 : Disk) where
-                pub stopped_fourth : (fault : StoreFault) → ChangesFile (UpdatesBy r.retire) 0 L3 L4 d3 d4 (Err fault) → Finishes L0 L4 d0 d4 (Err fault)
-                stopped_fourth fault c =
-                    let t = leaf_change (UpdatesBy r.retire) L3 L4 d3 d4 (Err fault) c in
+                retires_own : (a : Result (Unit {0}) StoreFault) → IfSome L3.retiring (λ (k : Retiring). ChangesFile (UpdatesBy k.retire) 0 L3 L4 d3 d4 a) → ChangesFile (UpdatesBy r.retire) 0 L3 L4 d3 d4 a
+                retires_own a = subst (λ o. IfSome o (λ (k : Retiring). ChangesFile (UpdatesBy k.retire) 0 L3 L4 d3 d4 a)) retiring3
+
+                pub stopped_fourth : (fault : StoreFault) → IfSome L3.retiring (λ (k : Retiring). ChangesFile (UpdatesBy k.retire) 0 L3 L4 d3 d4 (Err fault)) → Finishes L0 L4 d0 d4 (Err fault)
+                stopped_fourth fault k =
+                    let t = leaf_change (UpdatesBy r.retire) L3 L4 d3 d4 (Err fault) (retires_own (Err fault) k) in
                     stopped L4 d4 fault (broken_fourth L0 r L3 L4 d0 d3 d4 t3.reached (Err fault) t t3.first t1.rest t3.items t3.stays.leaf_by) (ap is_some t.now_there ∙ sym of_retiring.session) (t.geometry ∙ t3.stays.geometry)
                     (t.merge ∙ t3.stays.merge, t.retiring ∙ t3.stays.retiring) (leaf_fails L0 L3 d0 d3 t3.stays L4 d4 (UpdatesBy r.retire) (Err fault) t none t.changed.err)
 
-                module _ (c4 : ChangesFile (UpdatesBy r.retire) 0 L3 L4 d3 d4 (Ok tt)) where
+                module _ (k4 : IfSome L3.retiring (λ (k : Retiring). ChangesFile (UpdatesBy k.retire) 0 L3 L4 d3 d4 (Ok tt))) where
                   t4 : LeafChange (UpdatesBy r.retire) L3 L4 d3 d4 (Ok tt)
-                  t4 = leaf_change (UpdatesBy r.retire) L3 L4 d3 d4 (Ok tt) c4
+                  t4 = leaf_change (UpdatesBy r.retire) L3 L4 d3 d4 (Ok tt) (retires_own (Ok tt) k4)
 
-                  pub retiring4 : L4.retiring ≡ Some r
+                  retiring4 : L4.retiring ≡ Some r
                   retiring4 = t4.retiring ∙ retiring3
 
                   same_leaf : t2.now ≡ t4.was
@@ -239,15 +254,18 @@ module _ (L0 : Layers) (r : Retiring) (d0 : Disk) (none : L0.merge ≡ None) (ke
                   -- ---- the target's last identifier
 
                   module _ (L5 : Layers) (d5 : Disk) where
-                    pub stopped_fifth : (fault : StoreFault) → ChangesFile (Identifies r.third) 1 L4 L5 d4 d5 (Err fault) → Finishes L0 L5 d0 d5 (Err fault)
-                    stopped_fifth fault c =
-                        let t = target_change (Identifies r.third) L4 L5 d4 d5 (Err fault) c in
+                    identifies_own : (a : Result (Unit {0}) StoreFault) → IfSome L4.retiring (λ (k : Retiring). ChangesFile (Identifies k.third) 1 L4 L5 d4 d5 a) → ChangesFile (Identifies r.third) 1 L4 L5 d4 d5 a
+                    identifies_own a = subst (λ o. IfSome o (λ (k : Retiring). ChangesFile (Identifies k.third) 1 L4 L5 d4 d5 a)) retiring4
+
+                    pub stopped_fifth : (fault : StoreFault) → IfSome L4.retiring (λ (k : Retiring). ChangesFile (Identifies k.third) 1 L4 L5 d4 d5 (Err fault)) → Finishes L0 L5 d0 d5 (Err fault)
+                    stopped_fifth fault k =
+                        let t = target_change (Identifies r.third) L4 L5 d4 d5 (Err fault) (identifies_own (Err fault) k) in
                         stopped L5 d5 fault (broken_fifth L0 r L4 L5 d0 d4 d5 reached4 (Err fault) t t4.now t4.now_there) (ap is_some (t.leaf ∙ t4.now_there) ∙ sym of_retiring.session) (t.geometry ∙ s4.geometry) (t.merge ∙ s4.merge, t.retiring ∙ s4.retiring)
                         (target_fails L0 L4 d0 d4 s4 L5 d5 (Identifies r.third) (Err fault) t none t.changed.err)
 
-                    module _ (c5 : ChangesFile (Identifies r.third) 1 L4 L5 d4 d5 (Ok tt)) where
+                    module _ (k5 : IfSome L4.retiring (λ (k : Retiring). ChangesFile (Identifies k.third) 1 L4 L5 d4 d5 (Ok tt))) where
                       t5 : TargetChange (Identifies r.third) L4 L5 d4 d5 (Ok tt)
-                      t5 = target_change (Identifies r.third) L4 L5 d4 d5 (Ok tt) c5
+                      t5 = target_change (Identifies r.third) L4 L5 d4 d5 (Ok tt) (identifies_own (Ok tt) k5)
 
                       s5 : Stays L0 L5 d0 d5
                       s5 = stays_target L0 L4 d0 d4 s4 L5 d5 (Identifies r.third) (Ok tt) t5 t5.changed.parts (identifying_leaves t5.was r.third d4 d5 (target_was_ready L0 L4 d0 d4 s4 L5 d5 (Identifies r.third) (Ok tt) t5) t5.changed.moments) t5.changed.counts t5.changed.ready

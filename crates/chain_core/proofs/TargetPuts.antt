@@ -1,5 +1,5 @@
 -- A piece is put into the target: what the session keeps of it.
-use Rattle.std.proofs.Common.{◌≡◌, ℕ, ◌+◌, ◌<◌, true, false, List, [], ◌∷◌, ◌++◌, length, map, get_or, refl, sym, ap, subst, ◌∙◌, arith}
+use Rattle.std.proofs.Common.{◌≡◌, ℕ, ◌+◌, ◌<◌, true, false, List, [], ◌∷◌, ◌++◌, length, map, get_or, is_some, refl, sym, ap, subst, ◌∙◌, arith}
 use Rattle.std.specs.Prelude.{Option, Some, None, slice_index_or, Result, Ok, Err, IfErr, IfSome, OnOk}
 use Rattle.std.specs.Result.{is_ok}
 use Rattle.vx_base.specs.declared.parts.Geometry.{Geometry}
@@ -27,9 +27,9 @@ use Rattle.chain_core.specs.declared.layers.Layers.{Layers}
 use Rattle.chain_core.specs.declared.layers.Underway.{Underway}
 use Rattle.chain_core.specs.declared.layers.Retiring.{Retiring}
 use Rattle.chain_core.specs.Answering.{UnlessBroken}
-use Rattle.chain_core.specs.Copying.{HasMarked, IsMarked, stamp_in, stamp_of, MarksIn, MarksToo, PutRoomIs, PutTold, PutsAt, number_below, session_below, session_in, target_layer, target_number}
+use Rattle.chain_core.specs.Copying.{HasMarked, IsMarked, stamp_in, stamp_of, MarksIn, MarksToo, PutRoomIs, PutTold, PutsAt, PutsInTarget, number_below, session_below, session_in, target_layer, target_number}
 use Rattle.chain_core.specs.Merging.{IsTruePiece, PutAnswers}
-use Rattle.chain_core.specs.Sessions.{AreReady, IsLow, IsMergeOf}
+use Rattle.chain_core.specs.Sessions.{AreReady, IsLow, IsMergeOf, number_of_leaf}
 use Rattle.chain_core.specs.States.{AreWritten, IsCourse, IsServing, IsUnder, Rest, State, merging, plain, retiring, sector_of}
 use Rattle.chain_core.proofs.Places.{alone, merge_of, some_leaf}
 use Rattle.chain_core.proofs.Putting.{copied, put_failed, put_refused, serves_target}
@@ -165,17 +165,17 @@ marked_err stripe old new (Err fault) is same kept = (same, kept)
 
 module _ (old new : Layers) (u : Underway) (piece : KeptPiece) (before after : Disk) (r : Result (Unit {0}) LayerFault) (merge_is : old.merge ≡ Some u) (ready : AreReady old before) (geometry : new.geometry ≡ old.geometry) (leaf_is : new.leaf ≡ old.leaf)
     (put : PutsAt (u.source + 1) piece old.below.items new.below.items before after r) where
-  pub target_told : piece.stamp ≡ 0 → HasMarked piece.stripe old new r → PutTold (piece_of piece) old new before after r
+  target_told : piece.stamp ≡ 0 → HasMarked piece.stripe old new r → PutTold (piece_of piece) old new before after r
   target_told stamp marked =
       told_by old new u piece before after merge_is ready geometry leaf_is put.above put.below put.was put.now put.was_there put.now_there put.place put.parts stamp before.told after.told r put.moments put.put put.kept put.quiet marked
 
-  pub target_low : (most : ℕ) → IsLow most old → IsLow (most + 1) new
+  target_low : (most : ℕ) → IsLow most old → IsLow (most + 1) new
   target_low = replaced_low old new u before after merge_is ready geometry leaf_is put.above put.below put.was put.now put.was_there put.now_there put.parts put.number
 
-  pub target_fails : IfErr r (Fails (target_number old) before after)
+  target_fails : IfErr r (Fails (target_number old) before after)
   target_fails = subst (λ n. IfErr r (Fails n before after)) (sym (put_number old new u piece before after merge_is ready geometry leaf_is put.above put.below put.was put.now put.was_there put.now_there put.place put.parts)) put.err
 
-  pub target_within : target_number old < before.files
+  target_within : target_number old < before.files
   target_within =
       subst (λ n. n < before.files) (sym (put_number old new u piece before after merge_is ready geometry leaf_is put.above put.below put.was put.now put.was_there put.now_there put.place put.parts))
       (own old new u piece before after merge_is ready geometry leaf_is put.above put.below put.was put.now put.was_there put.now_there put.place put.parts).ready.readable.there
@@ -185,10 +185,10 @@ module _ (old new : Layers) (u : Underway) (piece : KeptPiece) (before after : D
       ap (λ o. session_below old.below.items o) merge_is ∙ ap (λ (c : List FileLayer). session_in (slice_index_or (map (λ l. Some l) c) (u.source + 1) None)) put.was_there
       ∙ ap (λ n. session_in (slice_index_or (map (λ l. Some l) (put.above ++ Session put.was ∷ put.below)) n None)) (sym put.place) ∙ ap session_in (item_at put.above (Session put.was) put.below)
 
-  pub target_room : IfSome (target_layer old) (λ l. PutRoomIs piece l before r)
+  target_room : IfSome (target_layer old) (λ l. PutRoomIs piece l before r)
   target_room = subst (λ o. IfSome o (λ l. PutRoomIs piece l before r)) (sym target_is) put.room
 
-  pub target_ready : HasMarked piece.stripe old new r → UnlessBroken r (AreReady new after)
+  target_ready : HasMarked piece.stripe old new r → UnlessBroken r (AreReady new after)
   target_ready marked = by_answer r put.counts put.err put.ready put.refused marked (piece_ties put.was put.now piece before.told after.told r put.put put.kept)
     where
       made_ready : after.files ≡ before.files → IsReady put.now after → WhereBothTold (KeepsTies put.was put.now) before.told after.told → (w : Underway) → new.merge ≡ Some w → w.source ≡ u.source → w.relink ≡ u.relink → w.marks.stripes ≡ u.marks.stripes → new.retiring ≡ None → AreReady new after
@@ -204,3 +204,18 @@ module _ (old new : Layers) (u : Underway) (piece : KeptPiece) (before after : D
       by_answer (Err (Read fault)) counts fails is refused marked keeps = made_ready (same_files (own_file put.was) before after (Err (Read fault)) counts fails) refused keeps u (marked.0 ∙ merge_is) refl refl refl (marked.1 ∙ alone old u before merge_is ready)
       by_answer (Err (FileFull n)) counts fails is refused marked keeps = made_ready (same_files (own_file put.was) before after (Err (FileFull n)) counts fails) refused keeps u (marked.0 ∙ merge_is) refl refl refl (marked.1 ∙ alone old u before merge_is ready)
       by_answer (Err (Write fault)) counts fails is refused marked keeps = tt
+
+  pub target_put : piece.stamp ≡ 0 → HasMarked piece.stripe old new r → PutsInTarget piece old new before after r
+  target_put stamp marked = record {
+    told = target_told stamp marked;
+    ready = target_ready marked;
+    low = target_low;
+    session = ap is_some leaf_is;
+    leaf = ap number_of_leaf leaf_is;
+    geometry = geometry;
+    marked = marked;
+    counts = put.counts;
+    err = target_fails;
+    within = target_within;
+    room = target_room;
+  }

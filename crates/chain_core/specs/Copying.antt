@@ -1,9 +1,10 @@
 -- What is copied, of a merge that is under way.
-use Rattle.std.specs.Prelude.{◌≡◌, ⊤, ℕ, is_some, true, false, nat_lt, ◌==◌, if◌then◌else◌, MatchOption, ◌+◌, ◌*◌, ◌^◌, ◌<◌, ◌≤◌, Bool, List, slice_index, slice_index_or, map, length, ◌++◌, ◌∷◌, Option, Some, None, Result, Ok, Err, IfErr, IfSome, OnOk}
+use Rattle.std.specs.Prelude.{◌≡◌, ⊤, ℕ, is_some, true, false, nat_lt, ◌==◌, if◌then◌else◌, MatchOption, ◌+◌, ◌*◌, ◌^◌, ◌<◌, ◌≤◌, Bool, List, slice_index, slice_index_or, map, length, ◌++◌, ◌∷◌, Option, Some, None, Result, Ok, Err, IfErr, IfSome, OnErr, OnOk}
 use Rattle.std.specs.List.{AllByRecursion}
 use Rattle.vx_base.specs.declared.parts.Geometry.{Geometry}
 use Rattle.store_model.specs.Disk.{Disk, WhereBothTold, WhereTold}
 use Rattle.store_model.specs.Trace.{Trace}
+use Rattle.store_model.specs.declared.fault.StoreFault.{StoreFault}
 use Rattle.guest_model.specs.declared.refusal.ChainRefusal.{ChainRefusal}
 use Rattle.guest_model.specs.declared.refusal.ChainRefusal.TheVariants as refusals
 use Rattle.table_pages.specs.declared.tables.TableParts.{TableParts}
@@ -22,10 +23,11 @@ use Rattle.merge_core.specs.Copied.{IsLowest, marks_of}
 use Rattle.layer_session.specs.Steps.{has_room, is_full}
 use Rattle.merge_core.specs.Pieces.{FitsIn, HasPutPiece, PutsPiece, has_sector, piece_of}
 use Rattle.merge_core.specs.declared.piece.Piece.{Piece as KeptPiece}
-use Rattle.chain_core.specs.Answering.{HasEnded, IsRefused, fault_of, refusal_of}
+use Rattle.chain_core.specs.Answering.{HasEnded, IsRefused, UnlessBroken, fault_of, refusal_of}
 use Rattle.chain_core.specs.Merging.{IsCopied, IsTruePiece, PutAnswers}
 use Rattle.chain_core.specs.Refusing.{or_else, unfit}
-use Rattle.chain_core.specs.Sessions.{KeepsMerge, Session, first_layer, has_merge, kept_marks, leaf_number}
+use Rattle.chain_core.specs.Reading.{HasOnlyRead}
+use Rattle.chain_core.specs.Sessions.{AreReady, IsLow, KeepsMerge, Session, first_layer, has_merge, kept_marks, leaf_number}
 use Rattle.chain_core.specs.States.{IsServing, State}
 use Rattle.chain_core.specs.declared.layers.Layers.{Layers}
 use Rattle.chain_core.specs.declared.layers.Underway.{Underway}
@@ -294,3 +296,31 @@ pub record PutsAt (at : ℕ) (piece : KeptPiece) (old new : List FileLayer) (bef
   pub counts : OnOk result (after ≡ record before { told = after.told })
   pub err : IfErr result (Fails (own_file was) before after)
   pub room : PutRoomIs piece was before result
+
+-- What the source of the merge has of a stripe is taken into a piece, and nothing is changed; after a fault, which is of the source's file,
+-- there is no piece.
+pub record TakesStripe (stripe : ℕ) (old new : Layers) (before after : Disk) (piece : KeptPiece) (result : Result (Unit {0}) StoreFault) : Type 0 where
+  pub reads : HasOnlyRead old new before after
+  pub filled : OnOk result (piece.filled ≡ true)
+  pub empty : OnErr result (piece.filled ≡ false)
+  pub fits : FitsDisk old.geometry piece
+  pub stripe_is : piece.stripe ≡ stripe
+  pub stamp_is : piece.stamp ≡ stamp_of old stripe
+  pub taken : OnOk result (Takes old before (piece_of piece))
+  pub stays : OnOk result (after ≡ before)
+  pub err : IfErr result (SomeReadFailed before after)
+  pub whose : IfErr result (λ fault. fault.file ≡ source_number old)
+
+-- A piece is put into the target of the merge, and its stripe is marked; where it is refused nothing is changed but what failed.
+pub record PutsInTarget (piece : KeptPiece) (old new : Layers) (before after : Disk) (result : Result (Unit {0}) LayerFault) : Type 0 where
+  pub told : PutTold (piece_of piece) old new before after result
+  pub ready : UnlessBroken result (AreReady new after)
+  pub low : (most : ℕ) → IsLow most old → IsLow (most + 1) new
+  pub session : is_some new.leaf ≡ is_some old.leaf
+  pub leaf : leaf_number new ≡ leaf_number old
+  pub geometry : new.geometry ≡ old.geometry
+  pub marked : HasMarked piece.stripe old new result
+  pub counts : OnOk result (after ≡ record before { told = after.told })
+  pub err : IfErr result (Fails (target_number old) before after)
+  pub within : target_number old < before.files
+  pub room : IfSome (target_layer old) (λ l. PutRoomIs piece l before result)

@@ -1,11 +1,12 @@
 -- How a session starts with the merge of the leaf.
-use Rattle.std.specs.Prelude.{◌≡◌, ◌^◌, ◌-◌, ◌≤◌, ◌==◌, ◌||◌, ℕ, Bool, true, false, is_some, List, [], ◌∷◌, length, Option, Some, None, Result, IfErr, IfOk, IfSome}
+use Rattle.std.specs.Prelude.{◌≡◌, ◌^◌, ◌-◌, ◌≤◌, ◌==◌, ◌||◌, ℕ, Bool, true, false, is_some, List, [], ◌∷◌, length, Option, Some, None, Result, Ok, Err, IfErr, IfOk, IfSome}
 use Rattle.std.specs.Option.{option_or}
 use Rattle.vhdx_format.specs.Locators.{locator_bytes}
 use Rattle.vhdx_format.specs.declared.log_entry.Page.{Page}
 use Rattle.store_model.specs.Disk.{Disk, WhereBothTold}
 use Rattle.store_model.specs.File.{seen}
 use Rattle.store_model.specs.declared.fault.SealFault.{SealFault}
+use Rattle.store_model.specs.declared.fault.SealFault.TheVariants as seal
 use Rattle.store_model.specs.Trace.{Trace, file_of}
 use Rattle.chain_model.specs.Images.{Placed}
 use Rattle.chain_model.specs.Members.{Ties}
@@ -13,6 +14,8 @@ use Rattle.chain_model.specs.Stripes.{stripe_count}
 use Rattle.merge_core.specs.Copied.{marks_of}
 use Rattle.merge_core.specs.Stamping.{stamps_of}
 use Rattle.link_rules.specs.declared.linked.LinkedFile.{LinkedFile}
+use Rattle.layer_session.specs.declared.file.Layer.{Layer}
+use Rattle.layer_session.specs.declared.file_layer.FileLayer.TheVariants as kind
 use Rattle.layer_session.specs.Begins.{as_found, in_session}
 use Rattle.layer_session.specs.Updating.{laid_region, turned}
 use Rattle.merge_plan.specs.LeafMerging.{LeafFiles, linked_pairs}
@@ -170,3 +173,21 @@ pub record IsLeafRoom (m : LeafFiles) (room : LeafRoom) : Type 0 where
   pub stamps : (t : ℕ) → stamps_of room.stamps t ≡ 0
   pub words : length room.stamps.words.items ≡ stripe_count m.source.parts.geometry.sector m.source.parts.geometry.sectors
   pub below : AreReadOf 2 m.below room.below.items
+
+-- Layers that are made of the two sessions of such a merge, and of the room that was taken for it.
+pub record AreLeafLayers (m : LeafFiles) (merge : LeafMerge) (room : LeafRoom) (leaf target : Layer) (layers : Layers) (u : Retiring) : Type 0 where
+  pub geometry : layers.geometry ≡ m.source.parts.geometry
+  pub top : layers.leaf ≡ Some leaf
+  pub alone : layers.merge ≡ None
+  pub kept : layers.retiring ≡ Some u
+  pub below : layers.below.items ≡ kind.Session target ∷ room.below.items
+  pub retires : u.retire ≡ merge.retire
+  pub clears : u.clear ≡ merge.clear
+  pub last : u.third ≡ merge.ids.third
+  pub marks : u.marks ≡ room.marks
+  pub stamps : u.stamps ≡ room.stamps
+
+-- Both sessions have begun: the merge begins with whatever layers are made of them, or with none for want of memory.
+pub record HasBegunBoth (m : LeafFiles) (merge : LeafMerge) (old new : Disk) (leaf target : Layer) : Type 0 where
+  pub full : BeginsLeafMerge m merge old new (Err seal.NoRoom)
+  pub made : (room : LeafRoom) → IsLeafRoom m room → (layers : Layers) (u : Retiring) → AreLeafLayers m merge room leaf target layers u → BeginsLeafMerge m merge old new (Ok layers)

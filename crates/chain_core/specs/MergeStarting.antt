@@ -1,5 +1,5 @@
 -- How a session starts with the merge of a file in its middle.
-use Rattle.std.specs.Prelude.{◌≡◌, ⊤, ◌⊎◌, ◌+◌, ◌^◌, ◌-◌, ◌≤◌, ◌==◌, ◌||◌, ℕ, nat_le, Bool, true, false, if◌then◌else◌, is_some, List, [], ◌∷◌, ◌++◌, length, Option, Some, None, Result, IfErr, IfOk}
+use Rattle.std.specs.Prelude.{◌≡◌, ⊤, ◌⊎◌, ◌+◌, ◌^◌, ◌-◌, ◌≤◌, ◌==◌, ◌||◌, ℕ, nat_le, Bool, true, false, if◌then◌else◌, is_some, List, [], ◌∷◌, ◌++◌, length, Option, Some, None, Result, IfErr, IfOk, Ok, Err}
 use Rattle.std.specs.Option.{option_or}
 use Rattle.std.specs.Str.{bytes_eq}
 use Rattle.vx_base.specs.declared.parts.Parts.{Parts}
@@ -22,7 +22,8 @@ use Rattle.link_rules.specs.declared.linked.LinkedFile.{LinkedFile}
 use Rattle.layer_session.specs.Begins.{BeginsOver, HasBegun, as_found, in_session}
 use Rattle.layer_session.specs.declared.file.Layer.{Layer}
 use Rattle.layer_session.specs.declared.file_layer.FileLayer.{FileLayer}
-use Rattle.layer_session.specs.declared.file_layer.FileLayer.TheVariants.{Session}
+use Rattle.layer_session.specs.declared.file_layer.FileLayer.TheVariants.{Read, Session}
+use Rattle.layer_session.specs.declared.read_layer.ReadLayer.{ReadLayer}
 use Rattle.layer_session.specs.Updating.{laid_region, turned}
 use Rattle.merge_plan.specs.Merging.{MergeFiles, child_place, source_place, twice_pairs}
 use Rattle.merge_plan.specs.Planning.{HasPlan, IsBegun, Refuses}
@@ -31,6 +32,7 @@ use Rattle.merge_plan.specs.declared.drawing.MergeIds.{MergeIds}
 use Rattle.merge_plan.specs.declared.drawing.NewIds.{NewIds}
 use Rattle.merge_plan.specs.declared.merge.Merge.{Merge}
 use Rattle.chain_core.specs.declared.layers.Layers.{Layers}
+use Rattle.chain_core.specs.declared.layers.Underway.{Underway}
 use Rattle.chain_core.specs.declared.merge_start.MergeOf.{MergeOf}
 use Rattle.chain_core.specs.declared.merge_start.MergeStartRefusal.{MergeStartRefusal}
 use Rattle.chain_core.specs.declared.merge_start.MergeStartRefusal.TheVariants as start
@@ -270,3 +272,20 @@ InnerFails (Some ids) number old new fault = BeginFails number old new fault
 abbrev pub session_of : Option Layer → List FileLayer
 session_of None = []
 session_of (Some l) = Session l ∷ []
+
+-- Layers that are made of the sessions of such a merge, and of the room that was taken for it.
+pub record AreMergeLayers (m : MergeFiles) (merge : Merge) (room : Room) (leaf target : Layer) (child : Option Layer) (source : ReadLayer) (layers : Layers) (u : Underway) : Type 0 where
+  pub geometry : layers.geometry ≡ (leaf_of m).parts.geometry
+  pub top : layers.leaf ≡ Some leaf
+  pub kept : layers.merge ≡ Some u
+  pub alone : layers.retiring ≡ None
+  pub below : layers.below.items ≡ (room.above.items ++ session_of child) ++ Read source ∷ Session target ∷ room.below.items
+  pub place : u.source ≡ length m.above
+  pub marks : u.marks ≡ room.marks
+  pub relinks : u.relink ≡ merge.relink
+
+-- All sessions have begun, and the source's has ended: the merge begins with whatever layers are made of them, or with none for want of
+-- memory.
+pub record HasBegunAll (m : MergeFiles) (merge : Merge) (old new : Disk) (leaf target : Layer) (child : Option Layer) (source : ReadLayer) : Type 0 where
+  pub full : BeginsMerge m merge old new (Err seal.NoRoom)
+  pub made : (room : Room) → IsRoomFor m room → (layers : Layers) (u : Underway) → AreMergeLayers m merge room leaf target child source layers u → BeginsMerge m merge old new (Ok layers)

@@ -1,9 +1,9 @@
 //! The session of a chain.
 
-ghost use Rattle.std.specs.Prelude.{◌≡◌, ◌+◌, ◌-◌, ◌*◌, ◌/◌, ◌%◌, ◌<◌, ◌≤◌, ◌++◌, ◌∷◌, [], Ok, Err, true, false, None, Some, length, take, is_some, option_map, IfErr, IfNone, IfOk, IfSome, IsTrue, OnErr, OnOk};
+ghost use Rattle.std.specs.Prelude.{◌≡◌, ◌+◌, ◌-◌, ◌*◌, ◌/◌, ◌%◌, ◌^◌, ◌<◌, ◌≤◌, ◌++◌, ◌∷◌, [], Ok, Err, true, false, None, Some, length, take, is_some, option_map, IfErr, IfNone, IfOk, IfSome, IsTrue, OnErr, OnOk};
 ghost use Rattle.guest_model.specs.declared.call.Call.TheVariants as calls;
 ghost use Rattle.guest_model.specs.Calls.{call_of, entry_of};
-ghost use Rattle.chain_core.specs.Answering.{AnswersTold, ClosesTold, HasCause, HasReadCause, HasRoom, IsDurable, Notes, answer_of, as_read, breaking, breaks, refusal_of};
+ghost use Rattle.chain_core.specs.Answering.{AnswersTold, ClosesTold, EndsTold, HasCause, HasReadCause, HasRoom, IsDurable, Notes, answer_of, as_read, breaking, breaks, refusal_of};
 ghost use Rattle.chain_core.specs.Ending.{IsOfSession, SomeChangeFailed};
 ghost use Rattle.chain_core.specs.Copying.{FetchCause, FetchTold, FitsDisk, HasEachStripe, IfStopped, IsMissing, IsOfStripe, MergeFollows, PieceTold, PutCause, TargetRoomIs, fetch_refused, stamp_of, merge_refused, no_piece, no_stripe, put_refused, refused_by};
 ghost use Rattle.chain_core.specs.Finished.{FinishCause, FinishTold, IsJudged};
@@ -14,7 +14,7 @@ ghost use Rattle.merge_plan.specs.Attached.{CanStart};
 ghost use Rattle.chain_core.specs.LeafStarting.{HasStartedLeafMerge, RefusesLeafMerge};
 ghost use Rattle.chain_core.specs.MergeStarting.{HasStartedMerge, RefusesMerge};
 ghost use Rattle.chain_core.specs.Starting.{EachOpensAlike, HasStarted, IsOfDisk, LeavesOthersFrom, RefusesStart};
-ghost use Rattle.chain_core.specs.Sessions.{IsCounted, IsSound, KeepsMerge, kept_marks, leaf_number, seen};
+ghost use Rattle.chain_core.specs.Sessions.{AreReady, IsCounted, IsLow, IsSound, KeepsMerge, kept_marks, leaf_number, seen};
 
 use crate::answer::Answer;
 use crate::layers::{Layers, changed};
@@ -628,11 +628,28 @@ impl<S: Store, R: Recorder> Chain<S, R> {
             events: _,
             broken,
         } = self;
-        if let Some(fault) = broken {
-            return (store, recorder, Err(fault));
-        }
-        let done = layers.end(&mut store);
+        let done = end_unbroken(layers, &mut store, broken);
         (store, recorder, done)
+    }
+}
+
+// Ends the sessions of a chain's files, unless a fault broke its session, which is answered then.
+fn end_unbroken<S: Store>(
+    layers: Layers,
+    store: &mut S,
+    broken: Option<StoreFault>,
+) -> Result<(), StoreFault>
+    requires ready { broken ≡ None → AreReady layers (S.disk store.old) }
+    requires low { broken ≡ None → IsLow (2 ^ 63 + 4) layers }
+    ensures broken { IfSome broken (λ fault. (result ≡ Err fault) × (store.new ≡ store.old)) }
+    ensures read { broken ≡ None → layers.leaf ≡ None → (result ≡ Ok tt) × (store.new ≡ store.old) }
+    ensures counts { broken ≡ None → OnOk result (S.disk store.new ≡ record (S.disk store.old) { told = (S.disk store.new).told }) }
+    ensures err { broken ≡ None → IfErr result (SomeChangeFailed (IsOfSession layers) (S.disk store.old) (S.disk store.new)) }
+    ensures told { broken ≡ None → EndsTold layers (S.disk store.old) (S.disk store.new) result }
+{
+    match broken {
+        Some(fault) => Err(fault),
+        None => layers.end(store),
     }
 }
 

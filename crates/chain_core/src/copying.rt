@@ -1,15 +1,10 @@
 //! Stripes are copied, of a merge that is under way.
 
-ghost use Rattle.std.specs.Prelude.{◌≡◌, ◌<◌, ◌+◌, ◌^◌, ℕ, true, false, None, is_some, length, map, IfErr, IfSome, OnErr, OnOk};
+ghost use Rattle.std.specs.Prelude.{◌≡◌, ◌<◌, ◌+◌, ◌^◌, true, None, is_some, length, map, IfSome};
 ghost use Rattle.chain_model.specs.Stripes.{stripe_count};
-ghost use Rattle.layer_session.specs.Calls.{Fails};
-ghost use Rattle.layer_session.specs.ReadOnly.{SomeReadFailed};
 ghost use Rattle.layer_session.specs.FileLayers.{AreReadyFiles, log_number};
-ghost use Rattle.merge_core.specs.Pieces.{piece_of};
-ghost use Rattle.chain_core.specs.Answering.{UnlessBroken};
-ghost use Rattle.chain_core.specs.Copying.{AreLow, FitsDisk, HasMarked, MarksIn, MarksToo, PutRoomIs, PutTold, PutsAt, Takes, source_number, stamp_of, target_layer, target_number};
-ghost use Rattle.chain_core.specs.Reading.{HasOnlyRead};
-ghost use Rattle.chain_core.specs.Sessions.{AreReady, IsLow, has_merge, leaf_number, is_session_at};
+ghost use Rattle.chain_core.specs.Copying.{AreLow, FitsDisk, MarksIn, MarksToo, PutsAt, PutsInTarget, TakesStripe, stamp_of};
+ghost use Rattle.chain_core.specs.Sessions.{AreReady, IsLow, has_merge, is_session_at};
 
 use crate::layers::{Layers, Retiring, Underway};
 use layer_session::{FileLayer, LayerFault};
@@ -28,16 +23,7 @@ impl Layers {
         requires ready { AreReady self.old (S.disk store.old) }
         requires merge { has_merge self.old ≡ true }
         requires stripe { stripe < stripe_count self.old.geometry.sector self.old.geometry.sectors }
-        ensures reads { HasOnlyRead self.old self.new (S.disk store.old) (S.disk store.new) }
-        ensures filled { OnOk result (piece.new.filled ≡ true) }
-        ensures empty { OnErr result (piece.new.filled ≡ false) }
-        ensures fits { OnOk result (FitsDisk self.old.geometry piece.new) }
-        ensures stripe { OnOk result (piece.new.stripe ≡ stripe) }
-        ensures stamp { OnOk result (piece.new.stamp ≡ stamp_of self.old stripe) }
-        ensures taken { OnOk result (Takes self.old (S.disk store.old) (piece_of piece.new)) }
-        ensures stays { OnOk result (S.disk store.new ≡ S.disk store.old) }
-        ensures err { IfErr result (SomeReadFailed (S.disk store.old) (S.disk store.new)) }
-        ensures whose { IfErr result (λ fault. fault.file ≡ source_number self.old) }
+        ensures { TakesStripe stripe self.old self.new (S.disk store.old) (S.disk store.new) piece.new result }
     {
         match &self.merge {
             Some(_) => self.take_below(store, stripe, piece),
@@ -55,16 +41,7 @@ impl Layers {
         requires ready { AreReady self.old (S.disk store.old) }
         requires merge { is_some self.old.merge ≡ true }
         requires stripe { stripe < stripe_count self.old.geometry.sector self.old.geometry.sectors }
-        ensures reads { HasOnlyRead self.old self.new (S.disk store.old) (S.disk store.new) }
-        ensures filled { OnOk result (piece.new.filled ≡ true) }
-        ensures empty { OnErr result (piece.new.filled ≡ false) }
-        ensures fits { OnOk result (FitsDisk self.old.geometry piece.new) }
-        ensures stripe { OnOk result (piece.new.stripe ≡ stripe) }
-        ensures stamp { OnOk result (piece.new.stamp ≡ stamp_of self.old stripe) }
-        ensures taken { OnOk result (Takes self.old (S.disk store.old) (piece_of piece.new)) }
-        ensures stays { OnOk result (S.disk store.new ≡ S.disk store.old) }
-        ensures err { IfErr result (SomeReadFailed (S.disk store.old) (S.disk store.new)) }
-        ensures whose { IfErr result (λ fault. fault.file ≡ source_number self.old) }
+        ensures { TakesStripe stripe self.old self.new (S.disk store.old) (S.disk store.new) piece.new result }
     {
         let Some(merge) = &self.merge else {
             return Ok(());
@@ -84,16 +61,7 @@ impl Layers {
         requires none { self.old.merge ≡ None }
         requires merge { is_some self.old.retiring ≡ true }
         requires stripe { stripe < stripe_count self.old.geometry.sector self.old.geometry.sectors }
-        ensures reads { HasOnlyRead self.old self.new (S.disk store.old) (S.disk store.new) }
-        ensures filled { OnOk result (piece.new.filled ≡ true) }
-        ensures empty { OnErr result (piece.new.filled ≡ false) }
-        ensures fits { OnOk result (FitsDisk self.old.geometry piece.new) }
-        ensures stripe { OnOk result (piece.new.stripe ≡ stripe) }
-        ensures stamp { OnOk result (piece.new.stamp ≡ stamp_of self.old stripe) }
-        ensures taken { OnOk result (Takes self.old (S.disk store.old) (piece_of piece.new)) }
-        ensures stays { OnOk result (S.disk store.new ≡ S.disk store.old) }
-        ensures err { IfErr result (SomeReadFailed (S.disk store.old) (S.disk store.new)) }
-        ensures whose { IfErr result (λ fault. fault.file ≡ source_number self.old) }
+        ensures { TakesStripe stripe self.old self.new (S.disk store.old) (S.disk store.new) piece.new result }
     {
         let stamp = self.stamp(stripe);
         match &mut self.leaf {
@@ -114,17 +82,7 @@ impl Layers {
         requires fits { FitsDisk self.old.geometry piece.now }
         requires stripe { piece.now.stripe < stripe_count self.old.geometry.sector self.old.geometry.sectors }
         requires stamp { piece.now.stamp ≡ stamp_of self.old piece.now.stripe }
-        ensures told { PutTold (piece_of piece.now) self.old self.new (S.disk store.old) (S.disk store.new) result }
-        ensures ready { UnlessBroken result (AreReady self.new (S.disk store.new)) }
-        ensures low { (most : ℕ) → IsLow most self.old → IsLow (most + 1) self.new }
-        ensures session { is_some self.new.leaf ≡ is_some self.old.leaf }
-        ensures leaf { leaf_number self.new ≡ leaf_number self.old }
-        ensures geometry { self.new.geometry ≡ self.old.geometry }
-        ensures marked { HasMarked piece.now.stripe self.old self.new result }
-        ensures counts { OnOk result (S.disk store.new ≡ record (S.disk store.old) { told = (S.disk store.new).told }) }
-        ensures err { IfErr result (Fails (target_number self.old) (S.disk store.old) (S.disk store.new)) }
-        ensures within { target_number self.old < (S.disk store.old).files }
-        ensures room { IfSome (target_layer self.old) (λ l. PutRoomIs piece.now l (S.disk store.old) result) }
+        ensures { PutsInTarget piece.now self.old self.new (S.disk store.old) (S.disk store.new) result }
     {
         match &self.merge {
             Some(_) => self.put_below(store, piece),
@@ -140,17 +98,7 @@ impl Layers {
         requires fits { FitsDisk self.old.geometry piece.now }
         requires stripe { piece.now.stripe < stripe_count self.old.geometry.sector self.old.geometry.sectors }
         requires stamp { piece.now.stamp ≡ stamp_of self.old piece.now.stripe }
-        ensures told { PutTold (piece_of piece.now) self.old self.new (S.disk store.old) (S.disk store.new) result }
-        ensures ready { UnlessBroken result (AreReady self.new (S.disk store.new)) }
-        ensures low { (most : ℕ) → IsLow most self.old → IsLow (most + 1) self.new }
-        ensures session { is_some self.new.leaf ≡ is_some self.old.leaf }
-        ensures leaf { leaf_number self.new ≡ leaf_number self.old }
-        ensures geometry { self.new.geometry ≡ self.old.geometry }
-        ensures marked { HasMarked piece.now.stripe self.old self.new result }
-        ensures counts { OnOk result (S.disk store.new ≡ record (S.disk store.old) { told = (S.disk store.new).told }) }
-        ensures err { IfErr result (Fails (target_number self.old) (S.disk store.old) (S.disk store.new)) }
-        ensures within { target_number self.old < (S.disk store.old).files }
-        ensures room { IfSome (target_layer self.old) (λ l. PutRoomIs piece.now l (S.disk store.old) result) }
+        ensures { PutsInTarget piece.now self.old self.new (S.disk store.old) (S.disk store.new) result }
     {
         let Some(merge) = &self.merge else {
             return Ok(());
@@ -173,17 +121,7 @@ impl Layers {
         requires fits { FitsDisk self.old.geometry piece.now }
         requires stripe { piece.now.stripe < stripe_count self.old.geometry.sector self.old.geometry.sectors }
         requires stamp { piece.now.stamp ≡ stamp_of self.old piece.now.stripe }
-        ensures told { PutTold (piece_of piece.now) self.old self.new (S.disk store.old) (S.disk store.new) result }
-        ensures ready { UnlessBroken result (AreReady self.new (S.disk store.new)) }
-        ensures low { (most : ℕ) → IsLow most self.old → IsLow (most + 1) self.new }
-        ensures session { is_some self.new.leaf ≡ is_some self.old.leaf }
-        ensures leaf { leaf_number self.new ≡ leaf_number self.old }
-        ensures geometry { self.new.geometry ≡ self.old.geometry }
-        ensures marked { HasMarked piece.now.stripe self.old self.new result }
-        ensures counts { OnOk result (S.disk store.new ≡ record (S.disk store.old) { told = (S.disk store.new).told }) }
-        ensures err { IfErr result (Fails (target_number self.old) (S.disk store.old) (S.disk store.new)) }
-        ensures within { target_number self.old < (S.disk store.old).files }
-        ensures room { IfSome (target_layer self.old) (λ l. PutRoomIs piece.now l (S.disk store.old) result) }
+        ensures { PutsInTarget piece.now self.old self.new (S.disk store.old) (S.disk store.new) result }
     {
         let below = self.below.as_mut_slice();
         let done = put_at(below, store, 0, self.geometry, piece);

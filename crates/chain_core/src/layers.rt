@@ -297,13 +297,7 @@ impl Layers {
         ensures counts { OnOk result (S.disk store.new ≡ record (S.disk store.old) { told = (S.disk store.new).told }) }
         ensures err { IfErr result (SomeChangeFailed (IsOfSession self) (S.disk store.old) (S.disk store.new)) }
     {
-        let Layers {
-            geometry: _,
-            leaf,
-            below,
-            merge: _,
-            retiring: _,
-        } = self;
+        let (leaf, below) = self.into_files();
         match leaf {
             Some(leaf) => {
                 end_files(below, store)?;
@@ -311,6 +305,14 @@ impl Layers {
             }
             None => Ok(()),
         }
+    }
+
+    // The leaf's session, if it has one, and the other files.
+    fn into_files(self) -> (Option<Layer>, Vec<FileLayer>)
+        ensures leaf { result.0 ≡ self.leaf }
+        ensures below { result.1 ≡ self.below }
+    {
+        (self.leaf, self.below)
     }
 }
 

@@ -1,6 +1,6 @@
 //! How a session starts with the merge of its leaf.
 
-ghost use Rattle.std.specs.Prelude.{◌≡◌, ◌≤◌, ◌+◌, ◌*◌, ◌^◌, ◌∷◌, ℕ, false, All, length, IfOk};
+ghost use Rattle.std.specs.Prelude.{◌≡◌, ◌≤◌, ◌+◌, ◌*◌, ◌^◌, ◌∷◌, ℕ, false, All, Err, length, IfErr, IfOk};
 ghost use Rattle.vhdx_format.specs.AllocationTables.{IsSectorSize};
 ghost use Rattle.chain_model.specs.Stripes as stripes;
 ghost use Rattle.link_rules.specs.Effects.{IsServed};
@@ -9,7 +9,7 @@ ghost use Rattle.merge_core.specs.Copied.{marks_of};
 ghost use Rattle.merge_core.specs.Stamping.{stamps_of};
 ghost use Rattle.merge_plan.specs.Attached.{CanStart};
 ghost use Rattle.merge_plan.specs.LeafPlanning.{HasLeafPlan};
-ghost use Rattle.chain_core.specs.LeafStarting.{AreBothLow, BeginsLeafMerge, IsLeafRoom, StartsWithLeafMerge, leaf_chain, leaf_files_in, spent_leaf};
+ghost use Rattle.chain_core.specs.LeafStarting.{AreBothLow, BeginsLeafMerge, HasBegunBoth, IsLeafRoom, StartsWithLeafMerge, leaf_chain, leaf_files_in, spent_leaf};
 ghost use Rattle.chain_core.specs.Starting.{AreReadOf};
 
 use crate::layers::{Layers, Retiring};
@@ -95,9 +95,40 @@ impl LeafRoom {
     }
 }
 
+// The sessions of a leaf and of its parent, into which it is merged.
+#[derive(Drop)]
+struct Both {
+    leaf: Layer,
+    target: Layer,
+}
+
+// They begin: the leaf's session, the leaf is linked to the target by both of the target's identifiers, and then the target's session. So
+// the chain is linked at each moment.
+fn begin_both<S: Store>(
+    alloc: Global,
+    store: &mut S,
+    of: LeafOf<'_>,
+    merge: &LeafMerge,
+) -> Result<Both, SealFault>
+    requires files { CanStart (leaf_chain (leaf_files_in of)) (S.disk store.old) }
+    requires plan { HasLeafPlan (leaf_chain (leaf_files_in of)) (S.disk store.old) (leaf_files_in of) merge.now }
+    requires low { AreBothLow (leaf_files_in of) }
+    ensures begun { IfOk result (λ both. HasBegunBoth (leaf_files_in of.entry) merge.now (S.disk store.old) (S.disk store.new) both.leaf both.target) }
+    ensures err { IfErr result (λ fault. BeginsLeafMerge (leaf_files_in of.entry) merge.now (S.disk store.old) (S.disk store.new) (Err fault)) }
+{
+    let ids = merge.ids;
+    let leaf_ids = data_session(ids.leaf);
+    let parts = &of.source.parts;
+    let mut leaf = Layer::begin(alloc, store, 0, parts, leaf_ids, LEAF_PAGES)?;
+    link_twice(store, &mut leaf, merge.twice.as_slice())?;
+    let target_ids = data_session(ids.target);
+    let parts = &of.target.parts;
+    let target = Layer::begin(alloc, store, 1, parts, target_ids, LEAF_PAGES)?;
+    Ok(Both { leaf, target })
+}
+
 impl Layers {
-    // The layers of a chain the merge of whose leaf is planned: the leaf's session begins, the leaf is linked to the target by both of the
-    // target's identifiers, and then the target's session begins. So the chain is linked at each moment.
+    // The layers of a chain the merge of whose leaf is planned, once the sessions of leaf and target have begun.
     fn begin_leaf_merge<S: Store>(
         alloc: Global,
         store: &mut S,
@@ -111,20 +142,13 @@ impl Layers {
         requires room { IsLeafRoom (leaf_files_in of) room }
         ensures { BeginsLeafMerge (leaf_files_in of.entry) merge (S.disk store.old) (S.disk store.new) result }
     {
-        let ids = merge.ids;
-        let leaf_ids = data_session(ids.leaf);
-        let parts = &of.source.parts;
-        let mut leaf = Layer::begin(alloc, store, 0, parts, leaf_ids, LEAF_PAGES)?;
-        link_twice(store, &mut leaf, merge.twice.as_slice())?;
-        let target_ids = data_session(ids.target);
-        let parts = &of.target.parts;
-        let target = Layer::begin(alloc, store, 1, parts, target_ids, LEAF_PAGES)?;
-        let Ok(below) = with_target(target, room.below) else {
+        let both = begin_both(alloc, store, of, &merge)?;
+        let Ok(below) = with_target(both.target, room.below) else {
             return Err(SealFault::NoRoom);
         };
         Ok(Layers {
             geometry: of.source.parts.geometry,
-            leaf: Some(leaf),
+            leaf: Some(both.leaf),
             below,
             merge: None,
             retiring: Some(Retiring {
@@ -132,7 +156,7 @@ impl Layers {
                 stamps: room.stamps,
                 clear: merge.clear,
                 retire: merge.retire,
-                third: ids.third,
+                third: merge.ids.third,
             }),
         })
     }

@@ -1,6 +1,6 @@
 //! How a session starts with the merge of a file in its middle.
 
-ghost use Rattle.std.specs.Prelude.{◌≡◌, ◌≤◌, ◌<◌, ◌+◌, ◌-◌, ◌*◌, ◌^◌, ◌++◌, ◌∷◌, [], ℕ, true, false, None, Some, All, length, is_some, nat_lt, IfErr, IfOk, IfSome, OnOk};
+ghost use Rattle.std.specs.Prelude.{◌≡◌, ◌≤◌, ◌<◌, ◌+◌, ◌-◌, ◌*◌, ◌^◌, ◌++◌, ◌∷◌, [], ℕ, true, false, None, Some, All, Err, length, is_some, nat_lt, IfErr, IfOk, IfSome, OnOk};
 ghost use Rattle.store_model.specs.Disk.{WhereBothTold, WhereTold};
 ghost use Rattle.vhdx_format.specs.AllocationTables.{IsSectorSize};
 ghost use Rattle.vhdx_format.specs.FileParts.{HasNumbers};
@@ -13,7 +13,7 @@ ghost use Rattle.layer_session.specs.declared.file_layer.FileLayer.TheVariants a
 ghost use Rattle.merge_core.specs.Copied.{marks_of};
 ghost use Rattle.merge_plan.specs.Planning.{HasPlan};
 ghost use Rattle.merge_plan.specs.Merging.{source_place};
-ghost use Rattle.chain_core.specs.MergeStarting.{AreLow, BeginsMerge, ChildBegun, ChildOver, InnerFails, IsRoomFor, StartsWithMerge, chain_files, files_in, high_of, session_of};
+ghost use Rattle.chain_core.specs.MergeStarting.{AreLow, BeginsMerge, ChildBegun, ChildOver, HasBegunAll, InnerFails, IsRoomFor, StartsWithMerge, chain_files, files_in, high_of, session_of};
 ghost use Rattle.log_format.specs.PendingPages.{HasOnePageEach};
 ghost use Rattle.log_write.specs.Writing.{BeginFails};
 ghost use Rattle.layer_session.specs.Calls.{KeepsOver};
@@ -349,8 +349,54 @@ fn split<'a>(files: &'a [LinkedFile], place: usize) -> MergeOf<'a>
     }
 }
 
+// The sessions of a merge; the source's has ended.
+#[derive(Drop)]
+struct Begun {
+    leaf: Layer,
+    child: Option<Layer>,
+    source: ReadLayer,
+    target: Layer,
+}
+
+// They begin, in an order in which the chain is linked at each moment.
+fn begin_all<S: Store>(
+    alloc: Global,
+    store: &mut S,
+    of: MergeOf<'_>,
+    merge: &Merge,
+) -> Result<Begun, SealFault>
+    requires files { CanStart (chain_files (files_in of)) (S.disk store.old) }
+    requires plan { HasPlan (chain_files (files_in of)) (S.disk store.old) (files_in of) merge.now }
+    requires child { is_some merge.now.ids.child ≡ nat_lt 0 (length of.above.now) }
+    requires low { AreLow (files_in of) }
+    ensures begun { IfOk result (λ b. HasBegunAll (files_in of.entry) merge.now (S.disk store.old) (S.disk store.new) b.leaf b.target b.child b.source) }
+    ensures err { IfErr result (λ fault. BeginsMerge (files_in of.entry) merge.now (S.disk store.old) (S.disk store.new) (Err fault)) }
+{
+    let ids = merge.ids;
+    let place = of.above.len() as u32;
+    let top = leaf_of(of.above, of.child);
+    let leaf_ids = data_session(ids.leaf);
+    let leaf = Layer::begin(alloc, store, 0, &top.parts, leaf_ids, LEAF_PAGES)?;
+    let source_ids = log_session(ids.source);
+    let number = place + 1;
+    let parts = &of.source.parts;
+    let mut source = Layer::begin(alloc, store, number, parts, source_ids, OTHER_PAGES)?;
+    link_twice(store, &mut source, merge.twice.as_slice())?;
+    let target_ids = data_session(ids.target);
+    let parts = &of.target.parts;
+    let target = Layer::begin(alloc, store, number + 1, parts, target_ids, OTHER_PAGES)?;
+    let child = begin_child(alloc, store, place, of.child, ids.child)?;
+    let source = close(store, source)?;
+    Ok(Begun {
+        leaf,
+        child,
+        source,
+        target,
+    })
+}
+
 impl Layers {
-    // The layers of a chain whose merge is planned: the sessions begin, in an order in which the chain is linked at each moment.
+    // The layers of a chain whose merge is planned, once its sessions have begun.
     fn begin_merge<S: Store>(
         alloc: Global,
         store: &mut S,
@@ -365,30 +411,24 @@ impl Layers {
         requires room { IsRoomFor (files_in of) room }
         ensures { BeginsMerge (files_in of.entry) merge (S.disk store.old) (S.disk store.new) result }
     {
-        let ids = merge.ids;
-        let place = of.above.len() as u32;
-        let top = leaf_of(of.above, of.child);
-        let leaf_ids = data_session(ids.leaf);
-        let leaf = Layer::begin(alloc, store, 0, &top.parts, leaf_ids, LEAF_PAGES)?;
-        let source_ids = log_session(ids.source);
-        let number = place + 1;
-        let parts = &of.source.parts;
-        let mut source = Layer::begin(alloc, store, number, parts, source_ids, OTHER_PAGES)?;
-        link_twice(store, &mut source, merge.twice.as_slice())?;
-        let target_ids = data_session(ids.target);
-        let parts = &of.target.parts;
-        let target = Layer::begin(alloc, store, number + 1, parts, target_ids, OTHER_PAGES)?;
-        let child = begin_child(alloc, store, place, of.child, ids.child)?;
-        let source = close(store, source)?;
-        let Ok(below) = assemble(room.above, child, source, target, room.below) else {
+        let begun = begin_all(alloc, store, of, &merge)?;
+        let below = assemble(
+            room.above,
+            begun.child,
+            begun.source,
+            begun.target,
+            room.below,
+        );
+        let Ok(below) = below else {
             return Err(SealFault::NoRoom);
         };
+        let top = leaf_of(of.above, of.child);
         Ok(Layers {
             geometry: top.parts.geometry,
-            leaf: Some(leaf),
+            leaf: Some(begun.leaf),
             below,
             merge: Some(Underway {
-                source: place as usize,
+                source: of.above.len(),
                 marks: room.marks,
                 relink: merge.relink,
             }),

@@ -1,75 +1,92 @@
-use Rattle.chain_core.proofs.Noting.{notes_so, refused_first}
-use Rattle.std.proofs.Common.{ap, subst, sym, ℕ, ◌+◌, ◌^◌, ◌∙◌, ◌≡◌}
-use Rattle.guest_model.specs.declared.call.Call.TheVariants as calls
-use Rattle.chain_core.specs.States.{entry}
-use Rattle.chain_core.proofs.Concluding.{answered, flush_room, refused_told}
-use Rattle.chain_core.proofs.Holding.{flush_durable}
-use Rattle.chain_core.proofs.chain.Chain.flush.Goals as goal
+use Rattle.std.proofs.Common.{ap, is_some, refl, subst, sym, ℕ, ◌+◌, ◌^◌, ◌∙◌, ◌≡◌}
 use Rattle.guest_model.specs.declared.call.Call.{Call}
+use Rattle.guest_model.specs.declared.call.Call.TheVariants as calls
 use Rattle.chain_core.specs.declared.layers.Layers.{Layers}
 use Rattle.chain_core.specs.Answering.{UnlessBroken}
-use Rattle.chain_core.specs.Sessions.{AreReady, IsLow, Session, has_merge, seen, IsCounted}
-use Rattle.chain_core.proofs.Copied.{always, follows_has, has_merge_same, noted_most, ok_map, room_accepted, sound_behind, sound_low, sound_refused}
+use Rattle.chain_core.specs.Copying.{LayerFollows}
+use Rattle.chain_core.specs.Sessions.{AreReady, IsCounted, IsLow, Session, has_merge, leaf_number, seen}
+use Rattle.chain_core.specs.States.{entry}
+use Rattle.chain_core.proofs.Called.{caused, declined, followed, flush_follows, never_no_room, not_refused, nothing_done, still_room, still_whole}
+use Rattle.chain_core.proofs.Concluding.{answered, flush_room}
+use Rattle.chain_core.proofs.Copied.{follows_has, noted_most, ok_map, room_accepted, sound_behind, sound_low}
+use Rattle.chain_core.proofs.Holding.{flush_durable}
+use Rattle.chain_core.proofs.Noting.{notes_so, refused_first}
+use Rattle.chain_core.proofs.chain.Chain.flush.Goals as goal
 
-pub returns-in_err-accept-clause-told : goal.returns-in_err-accept-clause-told
-returns-in_err-accept-clause-told g c =
-    refused_told (g.R.Recorder.noted c.args.self.now.recorder + 1) (entry c.args.who calls.Flush) c.args.self.now.layers c.accept.new.self.layers (g.S.Store.disk c.args.self.now.store) (g.S.Store.disk c.accept.new.self.store) c.from_residual.result c.from_residual.ensures.0
-    (ap (λ k. k.layers) c.accept.ensures.only) (ap (λ k. g.S.Store.disk k.store) c.accept.ensures.only)
-
-pub returns-clause-told : goal.returns-clause-told
-returns-clause-told g c =
-    answered c.args.who calls.Flush (g.R.Recorder.noted c.args.self.now.recorder + 1) (g.R.Recorder.noted c.accept.new.self.recorder) c.args.self.now.layers c.accept.new.self.layers c.commit-done.new.self c.conclude.new.self.layers
-    (g.S.Store.disk c.args.self.now.store) (g.S.Store.disk c.accept.new.self.store) (g.S.Store.disk c.commit-done.new.store) (g.S.Store.disk c.conclude.new.self.store) c.commit-done.result c.conclude.result
-    (ap (λ k. k.layers) c.in_ok-accept.ensures.only) (ap (λ k. g.S.Store.disk k.store) c.in_ok-accept.ensures.only)
-    (ap (λ k. k.layers) c.conclude.ensures.only) (ap (λ k. g.S.Store.disk k.store) c.conclude.ensures.only) c.conclude.ensures.answer (c.commit-done.ensures.told (g.R.Recorder.noted c.args.self.now.recorder + 1))
-
-pub returns-clause-durable : goal.returns-clause-durable
-returns-clause-durable g c =
-    flush_durable c.args.who c.args.self.now.layers c.conclude.new.self.layers (g.S.Store.disk c.args.self.now.store) (g.S.Store.disk c.conclude.new.self.store) c.conclude.result
-    (λ place. answered c.args.who calls.Flush place (g.R.Recorder.noted c.accept.new.self.recorder) c.args.self.now.layers c.accept.new.self.layers c.commit-done.new.self c.conclude.new.self.layers
-    (g.S.Store.disk c.args.self.now.store) (g.S.Store.disk c.accept.new.self.store) (g.S.Store.disk c.commit-done.new.store) (g.S.Store.disk c.conclude.new.self.store) c.commit-done.result c.conclude.result
-    (ap (λ k. k.layers) c.in_ok-accept.ensures.only) (ap (λ k. g.S.Store.disk k.store) c.in_ok-accept.ensures.only)
-    (ap (λ k. k.layers) c.conclude.ensures.only) (ap (λ k. g.S.Store.disk k.store) c.conclude.ensures.only) c.conclude.ensures.answer (c.commit-done.ensures.told place))
-
-pub returns-clause-room : goal.returns-clause-room
-returns-clause-room g c fit = flush_room (g.R.Recorder.noted c.accept.new.self.recorder) c.commit-done.result c.conclude.result c.conclude.ensures.answer c.commit-done.ensures.change
-
-pub returns-clause-sound : goal.returns-clause-sound
-returns-clause-sound g c =
+pub returns-in_err-accept : goal.returns-in_err-accept
+returns-in_err-accept g c =
     let before : Session = seen g.S.Store.disk g.R.Recorder.noted g.R.Recorder.told c.args.self.now in
-    let layers_is = ap (λ k. k.layers) c.in_ok-accept.ensures.only in
-    let after : Session = seen g.S.Store.disk g.R.Recorder.noted g.R.Recorder.told c.conclude.new.self in
-    let done = c.commit-done.result in
-    let follows : has_merge c.commit-done.new.self ≡ has_merge c.accept.new.self.layers = has_merge_same c.accept.new.self.layers c.commit-done.new.self c.commit-done.ensures.merge in
-    let events : after.events ≡ before.events + 1 = ap (λ k. k.events) c.conclude.ensures.only ∙ c.in_ok-accept.ensures.fits in
-    let noted = noted_most done before.noted (g.R.Recorder.noted c.accept.new.self.recorder) after.noted c.in_ok-accept.ensures.noted (ok_map done (λ e. ap (λ k. g.R.Recorder.noted k) e) c.conclude.ensures.kept) c.conclude.ensures.noted in
-    let layers_then = ap (λ k. k.layers) c.conclude.ensures.only in
-    sound_behind before after done c.requires.sound c.in_ok-accept.ensures.whole events (room_accepted calls.Flush before after.events c.in_ok-accept.ensures.fit events) noted
-    (ap (λ (l : Layers). l.geometry) layers_then ∙ c.commit-done.ensures.geometry ∙ ap (λ (l : Layers). l.geometry) layers_is) (ap has_merge layers_then ∙ follows ∙ ap has_merge layers_is)
-    (subst (λ (k : Session). UnlessBroken done (AreReady k.layers k.disk)) (sym (ap (λ k. seen g.S.Store.disk g.R.Recorder.noted g.R.Recorder.told k) c.conclude.ensures.only)) c.commit-done.ensures.ready)
-    (subst (λ (l : Layers). UnlessBroken done ((most : ℕ) → IsLow most l → IsLow (most + 1) after.layers)) layers_is
-    (subst (λ (l : Layers). UnlessBroken done ((most : ℕ) → IsLow most c.accept.new.self.layers → IsLow (most + 1) l)) (sym layers_then) c.commit-done.ensures.low)) c.conclude.ensures.broken
+    let after : Session = seen g.S.Store.disk g.R.Recorder.noted g.R.Recorder.told c.accept.new.self in
+    let call : Call = calls.Flush in
+    let e = c.accept.ensures in
+    let f = c.in_err-accept.ensures in
+    let x = c.in_err-accept.field-0.0 in
+    let r = c.from_residual.result in
+    let same = c.from_residual.ensures in
+    let layers = ap (λ k. k.layers) e.only in
+    let d = declined c.args.who call before after x r same c.requires.sound e.events f.err_noted f.err_told layers (ap (λ k. g.S.Store.disk k.store) e.only) (ap (λ k. k.broken) e.only) f.room e.healthy in
+    record {
+      sound = d.sound;
+      events = e.events;
+      geometry = ap (λ (l : Layers). l.geometry) layers;
+      session = ap (λ (l : Layers). is_some l.leaf) layers;
+      leaf = ap leaf_number layers;
+      merge = d.merge;
+      early = refused_first call before x r (IsCounted c.args.self.now c.accept.new.self) same.1 f.early;
+      notes = d.notes;
+      cause = d.cause;
+      free = λ takes none. f.free takes (still_room x r same.1 none);
+      room = d.room;
+      durable = nothing_done r _ same.0;
+      told = d.told;
+    }
 
 pub commit-done-requires-clause-low : goal.commit-done-requires-clause-low
 commit-done-requires-clause-low g c =
     let before : Session = seen g.S.Store.disk g.R.Recorder.noted g.R.Recorder.told c.args.self.now in
     subst (λ (l : Layers). IsLow (2 ^ 63 + 4) l) (sym (ap (λ k. k.layers) c.in_ok-accept.ensures.only)) (sound_low before c.requires.sound c.in_ok-accept.ensures.whole)
 
-pub returns-in_err-accept-clause-sound : goal.returns-in_err-accept-clause-sound
-returns-in_err-accept-clause-sound g c =
-    let before : Session = seen g.S.Store.disk g.R.Recorder.noted g.R.Recorder.told c.args.self.now in
-    let after : Session = seen g.S.Store.disk g.R.Recorder.noted g.R.Recorder.told c.accept.new.self in
-    let layers_is = ap (λ k. k.layers) c.accept.ensures.only in
-    sound_refused before after c.requires.sound c.accept.ensures.events c.in_err-accept.ensures.err_noted layers_is (ap (λ k. g.S.Store.disk k.store) c.accept.ensures.only) (ap (λ k. k.broken) c.accept.ensures.only)
-
-pub returns-in_err-accept-clause-early : goal.returns-in_err-accept-clause-early
-returns-in_err-accept-clause-early g c =
-    refused_first (calls.Flush) (seen g.S.Store.disk g.R.Recorder.noted g.R.Recorder.told c.args.self.now) c.in_err-accept.field-0.0 c.from_residual.result (IsCounted c.args.self.now c.accept.new.self) c.from_residual.ensures.1 c.in_err-accept.ensures.early
-
-pub returns-clause-notes : goal.returns-clause-notes
-returns-clause-notes g c fit =
+pub returns : goal.returns
+returns g c =
     let before : Session = seen g.S.Store.disk g.R.Recorder.noted g.R.Recorder.told c.args.self.now in
     let after : Session = seen g.S.Store.disk g.R.Recorder.noted g.R.Recorder.told c.conclude.new.self in
+    let call : Call = calls.Flush in
+    let a = c.in_ok-accept.ensures in
+    let p = c.commit-done.ensures in
+    let e = c.conclude.ensures in
+    let mid = c.accept.new.self in
     let done = c.commit-done.result in
-    notes_so (entry c.args.who (calls.Flush)) before after (g.R.Recorder.noted c.accept.new.self.recorder) (g.R.Recorder.told c.accept.new.self.recorder) done c.conclude.result c.conclude.ensures.answer c.in_ok-accept.ensures.told c.in_ok-accept.ensures.noted
-    (ok_map done (λ e. ap (λ k. g.R.Recorder.told k) e) c.conclude.ensures.kept) (ok_map done (λ e. ap (λ k. g.R.Recorder.noted k) e) c.conclude.ensures.kept) c.conclude.ensures.told c.conclude.ensures.noted
+    let r = c.conclude.result in
+    let new = c.commit-done.new.self in
+    let disk1 = g.S.Store.disk mid.store in
+    let disk2 = g.S.Store.disk c.commit-done.new.store in
+    let place = g.R.Recorder.noted mid.recorder in
+    let layers_is = ap (λ k. k.layers) a.only in
+    let disk_is = ap (λ k. g.S.Store.disk k.store) a.only in
+    let layers_then = ap (λ k. k.layers) e.only in
+    let disk_then = ap (λ k. g.S.Store.disk k.store) e.only in
+    let follows : LayerFollows place call mid.layers new done = flush_follows place mid.layers new done p.merge in
+    let events : after.events ≡ before.events + 1 = ap (λ k. k.events) e.only ∙ a.fits in
+    let kept = ok_map done (λ e. ap (λ k. g.R.Recorder.noted k) e) e.kept in
+    let geometry = ap (λ (l : Layers). l.geometry) layers_then ∙ p.geometry ∙ ap (λ (l : Layers). l.geometry) layers_is in
+    record {
+      sound = sound_behind before after done c.requires.sound a.whole events (room_accepted call before after.events a.fit events) (noted_most done before.noted place after.noted a.noted kept e.noted)
+          geometry (ap has_merge layers_then ∙ follows_has place call mid.layers new done follows ∙ ap has_merge layers_is)
+          (subst (λ (k : Session). UnlessBroken done (AreReady k.layers k.disk)) (sym (ap (λ k. seen g.S.Store.disk g.R.Recorder.noted g.R.Recorder.told k) e.only)) p.ready)
+          (subst (λ (l : Layers). UnlessBroken done ((most : ℕ) → IsLow most l → IsLow (most + 1) after.layers)) layers_is
+          (subst (λ (l : Layers). UnlessBroken done ((most : ℕ) → IsLow most mid.layers → IsLow (most + 1) l)) (sym layers_then) p.low)) e.broken;
+      events = ap (λ k. k.events) e.only ∙ c.accept.ensures.events;
+      geometry = geometry;
+      session = ap (λ (l : Layers). is_some l.leaf) layers_then ∙ p.session ∙ sym (a.session refl);
+      leaf = ap leaf_number layers_then ∙ p.leaf ∙ ap leaf_number layers_is;
+      merge = followed call before after mid.layers new disk1 disk2 place r layers_is disk_is layers_then disk_then done e.answer follows;
+      early = not_refused call before r (IsCounted c.args.self.now c.conclude.new.self) a.fit;
+      notes = λ fit. notes_so (entry c.args.who call) before after place (g.R.Recorder.told mid.recorder) done r e.answer a.told a.noted (ok_map done (λ e. ap (λ k. g.R.Recorder.told k) e) e.kept) kept e.told e.noted;
+      cause = caused call before after mid.layers new disk1 disk2 place r layers_is disk_is layers_then disk_then done e.answer p.counts p.err (still_whole done mid.broken after.broken e.fault (ap (λ k. k.broken) a.only ∙ a.whole)) e.broken;
+      free = λ takes none. never_no_room place done r e.answer none;
+      room = λ fit. flush_room place done r e.answer p.change;
+      durable = flush_durable c.args.who before.layers after.layers before.disk after.disk r
+          (λ n. answered c.args.who call n place before.layers mid.layers new after.layers before.disk disk1 disk2 after.disk done r layers_is disk_is layers_then disk_then e.answer (p.told n));
+      told = answered c.args.who call (before.noted + 1) place before.layers mid.layers new after.layers before.disk disk1 disk2 after.disk done r layers_is disk_is layers_then disk_then e.answer
+          (p.told (before.noted + 1));
+    }

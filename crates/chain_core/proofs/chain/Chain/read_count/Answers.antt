@@ -1,76 +1,107 @@
-use Rattle.chain_core.proofs.Copied.{ok_map, noted_most, room_accepted, sound_refused}
-use Rattle.chain_core.specs.Sessions.{seen, Session}
-use Rattle.chain_core.proofs.Noting.{back, count_back, notes_so, sound_looked}
-use Rattle.std.proofs.Common.{◌+◌, ap, ◌∙◌, rules, ◌≡◌}
+use Rattle.std.proofs.Common.{ap, is_some, refl, rules, subst, ℕ, ◌+◌, ◌∙◌, ◌≡◌}
+use Rattle.std.specs.Prelude.{IfNone, Result}
 use Rattle.std.proofs.lemmas.List.{places, with_items_is}
 use Rattle.std.specs.Vec.{with_items}
+use Rattle.guest_model.specs.declared.call.Call.{Call}
 use Rattle.guest_model.specs.declared.call.Call.TheVariants as calls
-use Rattle.guest_model.specs.declared.refusal.ChainRefusal.TheVariants.{NoRoom}
-use Rattle.chain_core.specs.Answering.{answer_of, as_read}
+use Rattle.layer_session.specs.declared.file.LayerFault.{LayerFault}
+use Rattle.chain_core.specs.declared.layers.Layers.{Layers}
+use Rattle.chain_core.specs.Answering.{answer_of, as_read, breaks}
+use Rattle.chain_core.specs.Sessions.{IsCounted, Session, leaf_number, seen}
 use Rattle.chain_core.specs.States.{entry}
-use Rattle.chain_core.proofs.Concluding.{answered, refused_told, unanswered}
+use Rattle.chain_core.proofs.Called.{declined, not_refused, nothing_done, out_of_memory, read_caused, read_followed, read_session, read_whole}
+use Rattle.chain_core.proofs.Concluding.{answered}
+use Rattle.chain_core.proofs.Copied.{noted_most, ok_map, room_accepted}
 use Rattle.chain_core.proofs.Looking.{found_before, looked}
+use Rattle.chain_core.proofs.Noting.{back, count_back, notes_so, refused_first, sound_looked}
 use Rattle.chain_core.proofs.chain.Chain.read_count.Goals as goal
 
-pub returns-in_err-accept-clause-told : goal.returns-in_err-accept-clause-told
-returns-in_err-accept-clause-told g c =
-    refused_told (g.R.Recorder.noted c.args.self.now.recorder + 1) (entry c.args.who (calls.Read c.args.first c.args.count)) c.args.self.now.layers c.accept.new.self.layers (g.S.Store.disk c.args.self.now.store) (g.S.Store.disk c.accept.new.self.store) c.from_residual.result
-    c.from_residual.ensures.0 (ap (λ k. k.layers) c.accept.ensures.only) (ap (λ k. g.S.Store.disk k.store) c.accept.ensures.only)
-
-pub returns-in-Err-clause-told : goal.returns-in-Err-clause-told
-returns-in-Err-clause-told g c =
-    unanswered (g.R.Recorder.noted c.args.self.now.recorder + 1) (entry c.args.who (calls.Read c.args.first c.args.count)) c.args.self.now.layers c.accept.new.self.layers (g.S.Store.disk c.args.self.now.store) (g.S.Store.disk c.accept.new.self.store) NoRoom
-    (ap (λ k. k.layers) c.accept.ensures.only) (ap (λ k. g.S.Store.disk k.store) c.accept.ensures.only)
-
-pub returns-clause-finds : goal.returns-clause-finds
-returns-clause-finds g c =
-    found_before c.args.first c.args.count (g.R.Recorder.noted c.accept.new.self.recorder) c.find.new.out (with_items c.in-Ok.bytes c.find.new.out).items c.args.self.now.layers c.accept.new.self.layers
-    (g.S.Store.disk c.args.self.now.store) (g.S.Store.disk c.accept.new.self.store) c.find.result c.conclude.result (with_items_is c.in-Ok.bytes c.find.new.out (search (rules, places)))
-    (ap (λ k. k.layers) c.in_ok-accept.ensures.only) (ap (λ k. g.S.Store.disk k.store) c.in_ok-accept.ensures.only)
-    (c.conclude.ensures.answer ∙ ap (answer_of (g.R.Recorder.noted c.accept.new.self.recorder)) c.unread-done.ensures) c.find.ensures.finds
-
-pub returns-clause-told : goal.returns-clause-told
-returns-clause-told g c =
-    answered c.args.who (calls.Read c.args.first c.args.count) (g.R.Recorder.noted c.args.self.now.recorder + 1) (g.R.Recorder.noted c.accept.new.self.recorder) c.args.self.now.layers c.accept.new.self.layers c.find.new.self c.conclude.new.self.layers
-    (g.S.Store.disk c.args.self.now.store) (g.S.Store.disk c.accept.new.self.store) (g.S.Store.disk c.find.new.store) (g.S.Store.disk c.conclude.new.self.store) (as_read c.find.result) c.conclude.result
-    (ap (λ k. k.layers) c.in_ok-accept.ensures.only) (ap (λ k. g.S.Store.disk k.store) c.in_ok-accept.ensures.only)
-    (ap (λ k. k.layers) c.conclude.ensures.only) (ap (λ k. g.S.Store.disk k.store) c.conclude.ensures.only)
-    (c.conclude.ensures.answer ∙ ap (answer_of (g.R.Recorder.noted c.accept.new.self.recorder)) c.unread-done.ensures)
-    (looked c.args.first c.args.count c.accept.new.self.layers c.find.new.self (g.S.Store.disk c.accept.new.self.store) (g.S.Store.disk c.find.new.store) c.find.result c.find.ensures.reads (g.R.Recorder.noted c.args.self.now.recorder + 1))
-
-pub returns-in_err-accept-clause-sound : goal.returns-in_err-accept-clause-sound
-returns-in_err-accept-clause-sound g c =
+pub returns-in_err-accept : goal.returns-in_err-accept
+returns-in_err-accept g c =
     let before : Session = seen g.S.Store.disk g.R.Recorder.noted g.R.Recorder.told c.args.self.now in
     let after : Session = seen g.S.Store.disk g.R.Recorder.noted g.R.Recorder.told c.accept.new.self in
-    sound_refused before after c.requires.sound c.accept.ensures.events c.in_err-accept.ensures.err_noted (ap (λ k. k.layers) c.accept.ensures.only) (ap (λ k. g.S.Store.disk k.store) c.accept.ensures.only) (ap (λ k. k.broken) c.accept.ensures.only)
+    let call : Call = calls.Read c.args.first c.args.count in
+    let e = c.accept.ensures in
+    let f = c.in_err-accept.ensures in
+    let x = c.in_err-accept.field-0.0 in
+    let r = c.from_residual.result in
+    let same = c.from_residual.ensures in
+    let layers = ap (λ k. k.layers) e.only in
+    let d = declined c.args.who call before after x r same c.requires.sound e.events f.err_noted f.err_told layers (ap (λ k. g.S.Store.disk k.store) e.only) (ap (λ k. k.broken) e.only) f.room e.healthy in
+    record {
+      sound = d.sound;
+      events = e.events;
+      geometry = ap (λ (l : Layers). l.geometry) layers;
+      session = ap (λ (l : Layers). is_some l.leaf) layers;
+      leaf = ap leaf_number layers;
+      merge = d.merge;
+      early = refused_first call before x r (IsCounted c.args.self.now c.accept.new.self) same.1 f.early;
+      notes = d.notes;
+      cause = d.read;
+      finds = nothing_done r _ same.0;
+      told = d.told;
+    }
 
-pub returns-in-Err-clause-sound : goal.returns-in-Err-clause-sound
-returns-in-Err-clause-sound g c =
+pub returns-in-Err : goal.returns-in-Err
+returns-in-Err g c =
     let before : Session = seen g.S.Store.disk g.R.Recorder.noted g.R.Recorder.told c.args.self.now in
     let after : Session = record (seen g.S.Store.disk g.R.Recorder.noted g.R.Recorder.told c.accept.new.self) { noted = g.R.Recorder.noted c.drop_last.new.self; told = g.R.Recorder.told c.drop_last.new.self } in
-    sound_refused before after c.requires.sound c.accept.ensures.events (count_back before.noted (g.R.Recorder.noted c.accept.new.self.recorder) after.noted c.in_ok-accept.ensures.noted c.drop_last.ensures.count)
-    (ap (λ k. k.layers) c.accept.ensures.only) (ap (λ k. g.S.Store.disk k.store) c.accept.ensures.only) (ap (λ k. k.broken) c.accept.ensures.only)
+    let call : Call = calls.Read c.args.first c.args.count in
+    let a = c.in_ok-accept.ensures in
+    let layers = ap (λ k. k.layers) a.only in
+    let d = out_of_memory c.args.who call before after c.requires.sound c.accept.ensures.events (count_back before.noted (g.R.Recorder.noted c.accept.new.self.recorder) after.noted a.noted c.drop_last.ensures.count)
+    (back (entry c.args.who call) before.told (g.R.Recorder.told c.accept.new.self.recorder) after.told a.told c.drop_last.ensures.told) layers (ap (λ k. g.S.Store.disk k.store) a.only) (ap (λ k. k.broken) a.only) a.whole in
+    record {
+      sound = d.sound;
+      events = c.accept.ensures.events;
+      geometry = ap (λ (l : Layers). l.geometry) layers;
+      session = ap (λ (l : Layers). is_some l.leaf) layers;
+      leaf = ap leaf_number layers;
+      merge = d.merge;
+      early = not_refused call before _ _ a.fit;
+      notes = d.notes;
+      cause = d.read;
+      finds = tt;
+      told = d.told;
+    }
 
-pub returns-in-Err-clause-notes : goal.returns-in-Err-clause-notes
-returns-in-Err-clause-notes g c fit = (
-  back (entry c.args.who (calls.Read c.args.first c.args.count)) (g.R.Recorder.told c.args.self.now.recorder) (g.R.Recorder.told c.accept.new.self.recorder) (g.R.Recorder.told c.drop_last.new.self) c.in_ok-accept.ensures.told c.drop_last.ensures.told,
-  count_back (g.R.Recorder.noted c.args.self.now.recorder) (g.R.Recorder.noted c.accept.new.self.recorder) (g.R.Recorder.noted c.drop_last.new.self) c.in_ok-accept.ensures.noted c.drop_last.ensures.count,
-)
-
-pub returns-clause-sound : goal.returns-clause-sound
-returns-clause-sound g c =
+pub returns : goal.returns
+returns g c =
     let before : Session = seen g.S.Store.disk g.R.Recorder.noted g.R.Recorder.told c.args.self.now in
     let after : Session = seen g.S.Store.disk g.R.Recorder.noted g.R.Recorder.told c.conclude.new.self in
+    let count : ℕ = c.args.count in
+    let call : Call = calls.Read c.args.first count in
+    let a = c.in_ok-accept.ensures in
+    let p = c.find.ensures in
+    let e = c.conclude.ensures in
+    let mid = c.accept.new.self in
     let done = c.unread-done.result in
-    let events : after.events ≡ before.events + 1 = ap (λ k. k.events) c.conclude.ensures.only ∙ c.in_ok-accept.ensures.fits in
-    let noted = noted_most done before.noted (g.R.Recorder.noted c.accept.new.self.recorder) after.noted c.in_ok-accept.ensures.noted (ok_map done (λ e. ap (λ k. g.R.Recorder.noted k) e) c.conclude.ensures.kept) c.conclude.ensures.noted in
-    sound_looked before after c.accept.new.self.layers c.find.new.self (g.S.Store.disk c.accept.new.self.store) (g.S.Store.disk c.find.new.store) done c.requires.sound c.in_ok-accept.ensures.whole events
-    (room_accepted (calls.Read c.args.first c.args.count) before after.events c.in_ok-accept.ensures.fit events) noted (ap (λ k. k.layers) c.in_ok-accept.ensures.only) (ap (λ k. k.layers) c.conclude.ensures.only) (ap (λ k. g.S.Store.disk k.store) c.conclude.ensures.only) c.find.ensures.reads c.conclude.ensures.broken
-
-pub returns-clause-notes : goal.returns-clause-notes
-returns-clause-notes g c fit =
-    let before : Session = seen g.S.Store.disk g.R.Recorder.noted g.R.Recorder.told c.args.self.now in
-    let after : Session = seen g.S.Store.disk g.R.Recorder.noted g.R.Recorder.told c.conclude.new.self in
-    let done = c.unread-done.result in
-    notes_so (entry c.args.who (calls.Read c.args.first c.args.count)) before after (g.R.Recorder.noted c.accept.new.self.recorder) (g.R.Recorder.told c.accept.new.self.recorder) done c.conclude.result c.conclude.ensures.answer c.in_ok-accept.ensures.told c.in_ok-accept.ensures.noted
-    (ok_map done (λ e. ap (λ k. g.R.Recorder.told k) e) c.conclude.ensures.kept) (ok_map done (λ e. ap (λ k. g.R.Recorder.noted k) e) c.conclude.ensures.kept) c.conclude.ensures.told c.conclude.ensures.noted
+    let found = c.find.result in
+    let r = c.conclude.result in
+    let new = c.find.new.self in
+    let disk1 = g.S.Store.disk mid.store in
+    let disk2 = g.S.Store.disk c.find.new.store in
+    let place = g.R.Recorder.noted mid.recorder in
+    let fit = a.fit in
+    let layers_is = ap (λ k. k.layers) a.only in
+    let disk_is = ap (λ k. g.S.Store.disk k.store) a.only in
+    let layers_then = ap (λ k. k.layers) e.only in
+    let disk_then = ap (λ k. g.S.Store.disk k.store) e.only in
+    let events : after.events ≡ before.events + 1 = ap (λ k. k.events) e.only ∙ a.fits in
+    let kept = ok_map done (λ e. ap (λ k. g.R.Recorder.noted k) e) e.kept in
+    let answer = e.answer ∙ ap (answer_of place) c.unread-done.ensures in
+    record {
+      sound = sound_looked before after mid.layers new disk1 disk2 done c.requires.sound a.whole events (room_accepted call before after.events fit events) (noted_most done before.noted place after.noted a.noted kept e.noted) layers_is layers_then disk_then p.reads e.broken;
+      events = ap (λ k. k.events) e.only ∙ c.accept.ensures.events;
+      geometry = ap (λ (l : Layers). l.geometry) layers_then ∙ p.reads.geometry ∙ ap (λ (l : Layers). l.geometry) layers_is;
+      session = ap (λ (l : Layers). is_some l.leaf) layers_then ∙ read_session mid.layers new p.reads.numbers ∙ ap (λ (l : Layers). is_some l.leaf) layers_is;
+      leaf = ap leaf_number layers_then ∙ p.reads.leaf ∙ ap leaf_number layers_is;
+      merge = read_followed call before after mid.layers new disk1 disk2 place r layers_is disk_is layers_then disk_then c.args.first count refl p.reads done e.answer;
+      early = not_refused call before r (IsCounted c.args.self.now c.conclude.new.self) fit;
+      notes = λ fit. notes_so (entry c.args.who call) before after place (g.R.Recorder.told mid.recorder) done r e.answer a.told a.noted (ok_map done (λ e. ap (λ k. g.R.Recorder.told k) e) e.kept) kept e.told e.noted;
+      cause = read_caused call before after mid.layers new disk1 disk2 place r layers_is disk_is layers_then disk_then found answer p.stays p.err
+          (read_whole found mid.broken after.broken (subst (λ (d : Result (Unit {0}) LayerFault). IfNone (breaks d) (after.broken ≡ mid.broken)) c.unread-done.ensures e.fault) (ap (λ k. k.broken) a.only ∙ a.whole));
+      finds = found_before c.args.first count place c.find.new.out (with_items c.in-Ok.bytes c.find.new.out).items before.layers mid.layers before.disk disk1 found r (with_items_is c.in-Ok.bytes c.find.new.out (search (rules, places))) layers_is disk_is answer p.finds;
+      told = answered c.args.who call (before.noted + 1) place before.layers mid.layers new after.layers before.disk disk1 disk2 after.disk (as_read found) r layers_is disk_is layers_then disk_then answer
+          (looked c.args.first count mid.layers new disk1 disk2 found p.reads (before.noted + 1));
+    }

@@ -1,14 +1,14 @@
 use Rattle.std.proofs.Common.{refl, rules, sym, subst, ap, arith, ◌∙◌, ◌≡◌, ◌+◌, ◌<◌, ◌^◌, length}
-use Rattle.std.specs.Prelude.{Err, IfSome, Ok, Result}
+use Rattle.std.specs.Prelude.{Err, IfSome, Ok}
 use Rattle.std.proofs.lemmas.List.{length-map, places}
 use Rattle.std.specs.Vec.{vec_len}
-use Rattle.store_model.specs.declared.fault.StoreFault.{StoreFault}
 use Rattle.layer_session.specs.FileLayers.{number_of}
-use Rattle.chain_core.specs.Finished.{ChangesFile, Finishes, IsAllMarked, Settles, UpdatesBy}
+use Rattle.chain_core.specs.Finished.{ChangesFile, Finishes, IsAllMarked, UpdatesBy}
 use Rattle.chain_core.specs.declared.layers.Layers.{Layers}
 use Rattle.chain_core.proofs.Copied.{low_on}
 use Rattle.chain_core.proofs.Exchanged.{child_session, child_waits, exchanged_low, exchanged_numbers}
 use Rattle.chain_core.proofs.Finishes.{finish_done, finish_stopped_first, finish_stopped_second, finish_stopped_third, settled_ready}
+use Rattle.chain_core.proofs.Handing.{handed}
 use Rattle.chain_core.proofs.Places.{alone, merge_of}
 use Rattle.chain_core.proofs.layers.Layers.drop_source.Goals as goal
 
@@ -17,34 +17,31 @@ returns-in_err-settle g c =
     let L0 : Layers = c.args.self.now in
     let L1 : Layers = c.settle.new.self in
     let u = c.in-Some.merge in
+    let is = c.in-Some.is in
     let d0 = g.S.Store.disk c.args.store.now in
     let d1 = g.S.Store.disk c.settle.new.store in
-    let fault = c.in_err-settle.field-0.0 in
-    let e : c.from_residual.result ≡ Err fault = search rules in
-    let failed : c.settle.result ≡ Err fault = search rules in
-    let first : ChangesFile Settles (u.source + 2) L0 L1 d0 d1 (Err fault) = subst (λ (r : Result (Unit {0}) StoreFault). ChangesFile Settles (u.source + 2) L0 L1 d0 d1 r) failed c.settle.ensures in
-    subst (λ (r : Result (Unit {0}) StoreFault). Finishes L0 L1 d0 d1 r) (sym e) (finish_stopped_first L0 L1 u d0 d1 c.in-Some.is c.requires.ready fault first)
+    handed (Finishes L0 L1 d0 d1) c.from_residual.result c.in_err-settle.field-0.0 c.from_residual.ensures (finish_stopped_first L0 L1 u d0 d1 is c.requires.ready c.in_err-settle.field-0.0 c.in_err-settle.ensures)
 
 pub settle-requires-2-clause-session : goal.settle-requires-2-clause-session
 settle-requires-2-clause-session g c =
     let L0 : Layers = c.args.self.now in
     let L1 : Layers = c.settle.new.self in
     let u = c.in-Some.merge in
+    let is = c.in-Some.is in
     let d0 = g.S.Store.disk c.args.store.now in
     let d1 = g.S.Store.disk c.settle.new.store in
-    let done : c.settle.result ≡ Ok tt = search rules in
-    let first : ChangesFile Settles (u.source + 2) L0 L1 d0 d1 (Ok tt) = subst (λ (r : Result (Unit {0}) StoreFault). ChangesFile Settles (u.source + 2) L0 L1 d0 d1 r) done c.settle.ensures in
-    child_session L1 u d1 (first.merge ∙ c.in-Some.is) (settled_ready (u.source + 2) L0 L1 u d0 d1 c.in-Some.is c.requires.ready first)
+    let first = c.in_ok-settle.ensures in
+    child_session L1 u d1 (first.merge ∙ is) (settled_ready (u.source + 2) L0 L1 u d0 d1 is c.requires.ready first)
 
 pub settle-requires-2-clause-ready : goal.settle-requires-2-clause-ready
 settle-requires-2-clause-ready g c =
     let L0 : Layers = c.args.self.now in
     let L1 : Layers = c.settle.new.self in
     let u = c.in-Some.merge in
+    let is = c.in-Some.is in
     let d0 = g.S.Store.disk c.args.store.now in
     let d1 = g.S.Store.disk c.settle.new.store in
-    let done : c.settle.result ≡ Ok tt = search rules in
-    settled_ready (u.source + 2) L0 L1 u d0 d1 c.in-Some.is c.requires.ready (subst (λ (r : Result (Unit {0}) StoreFault). ChangesFile Settles (u.source + 2) L0 L1 d0 d1 r) done c.settle.ensures)
+    settled_ready (u.source + 2) L0 L1 u d0 d1 is c.requires.ready c.in_ok-settle.ensures
 
 pub settle-requires-2-clause-low : goal.settle-requires-2-clause-low
 settle-requires-2-clause-low g c =
@@ -59,16 +56,12 @@ returns-in_err-settle-2 g c =
     let L1 : Layers = c.settle.new.self in
     let L2 : Layers = c.settle-2.new.self in
     let u = c.in-Some.merge in
+    let is = c.in-Some.is in
     let d0 = g.S.Store.disk c.args.store.now in
     let d1 = g.S.Store.disk c.settle.new.store in
     let d2 = g.S.Store.disk c.settle-2.new.store in
-    let done : c.settle.result ≡ Ok tt = search rules in
-    let first : ChangesFile Settles (u.source + 2) L0 L1 d0 d1 (Ok tt) = subst (λ (r : Result (Unit {0}) StoreFault). ChangesFile Settles (u.source + 2) L0 L1 d0 d1 r) done c.settle.ensures in
-    let fault = c.in_err-settle-2.field-0.0 in
-    let e : c.from_residual-in_err-settle-2.result ≡ Err fault = search rules in
-    let failed : c.settle-2.result ≡ Err fault = search rules in
-    let second : ChangesFile Settles u.source L1 L2 d1 d2 (Err fault) = subst (λ (r : Result (Unit {0}) StoreFault). ChangesFile Settles u.source L1 L2 d1 d2 r) failed c.settle-2.ensures in
-    subst (λ (r : Result (Unit {0}) StoreFault). Finishes L0 L2 d0 d2 r) (sym e) (finish_stopped_second L0 L1 u d0 d1 c.in-Some.is c.requires.ready L2 d2 first fault second)
+    handed (Finishes L0 L2 d0 d2) c.from_residual-in_err-settle-2.result c.in_err-settle-2.field-0.0 c.from_residual-in_err-settle-2.ensures
+    (finish_stopped_second L0 L1 u d0 d1 is c.requires.ready L2 d2 c.in_ok-settle.ensures c.in_err-settle-2.field-0.0 c.in_err-settle-2.ensures)
 
 pub relink-requires-clause-ready : goal.relink-requires-clause-ready
 relink-requires-clause-ready g c =
@@ -76,14 +69,12 @@ relink-requires-clause-ready g c =
     let L1 : Layers = c.settle.new.self in
     let L2 : Layers = c.settle-2.new.self in
     let u = c.in-Some.merge in
+    let is = c.in-Some.is in
     let d0 = g.S.Store.disk c.args.store.now in
     let d1 = g.S.Store.disk c.settle.new.store in
     let d2 = g.S.Store.disk c.settle-2.new.store in
-    let done : c.settle.result ≡ Ok tt = search rules in
-    let first : ChangesFile Settles (u.source + 2) L0 L1 d0 d1 (Ok tt) = subst (λ (r : Result (Unit {0}) StoreFault). ChangesFile Settles (u.source + 2) L0 L1 d0 d1 r) done c.settle.ensures in
-    let then : c.settle-2.result ≡ Ok tt = search rules in
-    let second : ChangesFile Settles u.source L1 L2 d1 d2 (Ok tt) = subst (λ (r : Result (Unit {0}) StoreFault). ChangesFile Settles u.source L1 L2 d1 d2 r) then c.settle-2.ensures in
-    settled_ready u.source L1 L2 u d1 d2 (first.merge ∙ c.in-Some.is) (settled_ready (u.source + 2) L0 L1 u d0 d1 c.in-Some.is c.requires.ready first) second
+    let first = c.in_ok-settle.ensures in
+    settled_ready u.source L1 L2 u d1 d2 (first.merge ∙ is) (settled_ready (u.source + 2) L0 L1 u d0 d1 is c.requires.ready first) c.in_ok-settle-2.ensures
 
 pub relink-requires-clause-low : goal.relink-requires-clause-low
 relink-requires-clause-low g c =
@@ -100,12 +91,8 @@ pub relink-requires-clause-settled : goal.relink-requires-clause-settled
 relink-requires-clause-settled g c =
     let L1 : Layers = c.settle.new.self in
     let L2 : Layers = c.settle-2.new.self in
-    let u = c.in-Some.merge in
-    let d1 = g.S.Store.disk c.settle.new.store in
-    let d2 = g.S.Store.disk c.settle-2.new.store in
-    let then : c.settle-2.result ≡ Ok tt = search rules in
-    let second : ChangesFile Settles u.source L1 L2 d1 d2 (Ok tt) = subst (λ (r : Result (Unit {0}) StoreFault). ChangesFile Settles u.source L1 L2 d1 d2 r) then c.settle-2.ensures in
-    child_waits second.was second.now L1 L2 u (c.settle-2.ensures.merge ∙ c.settle.ensures.merge ∙ c.in-Some.is) second.exchanged second.changed.empty
+    let second = c.in_ok-settle-2.ensures in
+    child_waits second.was second.now L1 L2 c.in-Some.merge (second.merge ∙ c.settle.ensures.merge ∙ c.in-Some.is) second.exchanged second.changed.empty
 
 pub returns-in_err-relink : goal.returns-in_err-relink
 returns-in_err-relink g c =
@@ -114,22 +101,17 @@ returns-in_err-relink g c =
     let L2 : Layers = c.settle-2.new.self in
     let L3 : Layers = c.relink.new.self in
     let u = c.in-Some.merge in
+    let is = c.in-Some.is in
     let d0 = g.S.Store.disk c.args.store.now in
     let d1 = g.S.Store.disk c.settle.new.store in
     let d2 = g.S.Store.disk c.settle-2.new.store in
     let d3 = g.S.Store.disk c.relink.new.store in
-    let done : c.settle.result ≡ Ok tt = search rules in
-    let first : ChangesFile Settles (u.source + 2) L0 L1 d0 d1 (Ok tt) = subst (λ (r : Result (Unit {0}) StoreFault). ChangesFile Settles (u.source + 2) L0 L1 d0 d1 r) done c.settle.ensures in
-    let then : c.settle-2.result ≡ Ok tt = search rules in
-    let second : ChangesFile Settles u.source L1 L2 d1 d2 (Ok tt) = subst (λ (r : Result (Unit {0}) StoreFault). ChangesFile Settles u.source L1 L2 d1 d2 r) then c.settle-2.ensures in
+    let first = c.in_ok-settle.ensures in
+    let second = c.in_ok-settle-2.ensures in
     let fault = c.in_err-relink.field-0.0 in
-    let e : c.from_residual-in_err-relink.result ≡ Err fault = search rules in
-    let failed : c.relink.result ≡ Err fault = search rules in
-    let changed : ChangesFile (UpdatesBy u.relink) u.source L2 L3 d2 d3 c.relink.result =
-    subst (λ o. IfSome o (λ w. ChangesFile (UpdatesBy w.relink) w.source L2 L3 d2 d3 c.relink.result)) (second.merge ∙ first.merge ∙ c.in-Some.is) c.relink.ensures in
-    let third : ChangesFile (UpdatesBy u.relink) u.source L2 L3 d2 d3 (Err fault) = subst (λ (r : Result (Unit {0}) StoreFault). ChangesFile (UpdatesBy u.relink) u.source L2 L3 d2 d3 r) failed changed in
-    let marked = subst (λ o. IfSome o (λ w. IsAllMarked w.marks)) c.in-Some.is c.requires.copied in
-    subst (λ (r : Result (Unit {0}) StoreFault). Finishes L0 L3 d0 d3 r) (sym e) (finish_stopped_third L0 L1 u d0 d1 c.in-Some.is c.requires.ready L2 d2 first L3 d3 second marked fault third)
+    let third : ChangesFile (UpdatesBy u.relink) u.source L2 L3 d2 d3 (Err fault) = subst (λ o. IfSome o (λ w. ChangesFile (UpdatesBy w.relink) w.source L2 L3 d2 d3 (Err fault))) (second.merge ∙ first.merge ∙ is) c.in_err-relink.ensures in
+    handed (Finishes L0 L3 d0 d3) c.from_residual-in_err-relink.result fault c.from_residual-in_err-relink.ensures
+    (finish_stopped_third L0 L1 u d0 d1 is c.requires.ready L2 d2 first L3 d3 second (subst (λ o. IfSome o (λ w. IsAllMarked w.marks)) is c.requires.copied) fault third)
 
 pub remove-requires : goal.remove-requires
 remove-requires g c =
@@ -158,17 +140,12 @@ returns g c =
     let L2 : Layers = c.settle-2.new.self in
     let L3 : Layers = c.relink.new.self in
     let u = c.in-Some.merge in
+    let is = c.in-Some.is in
     let d0 = g.S.Store.disk c.args.store.now in
     let d1 = g.S.Store.disk c.settle.new.store in
     let d2 = g.S.Store.disk c.settle-2.new.store in
     let d3 = g.S.Store.disk c.relink.new.store in
-    let done : c.settle.result ≡ Ok tt = search rules in
-    let first : ChangesFile Settles (u.source + 2) L0 L1 d0 d1 (Ok tt) = subst (λ (r : Result (Unit {0}) StoreFault). ChangesFile Settles (u.source + 2) L0 L1 d0 d1 r) done c.settle.ensures in
-    let then : c.settle-2.result ≡ Ok tt = search rules in
-    let second : ChangesFile Settles u.source L1 L2 d1 d2 (Ok tt) = subst (λ (r : Result (Unit {0}) StoreFault). ChangesFile Settles u.source L1 L2 d1 d2 r) then c.settle-2.ensures in
-    let linked : c.relink.result ≡ Ok tt = search rules in
-    let changed : ChangesFile (UpdatesBy u.relink) u.source L2 L3 d2 d3 c.relink.result =
-    subst (λ o. IfSome o (λ w. ChangesFile (UpdatesBy w.relink) w.source L2 L3 d2 d3 c.relink.result)) (second.merge ∙ first.merge ∙ c.in-Some.is) c.relink.ensures in
-    let third : ChangesFile (UpdatesBy u.relink) u.source L2 L3 d2 d3 (Ok tt) = subst (λ (r : Result (Unit {0}) StoreFault). ChangesFile (UpdatesBy u.relink) u.source L2 L3 d2 d3 r) linked changed in
-    let marked = subst (λ o. IfSome o (λ w. IsAllMarked w.marks)) c.in-Some.is c.requires.copied in
-    finish_done L0 L1 u d0 d1 c.in-Some.is c.requires.ready L2 d2 first L3 d3 second marked _ third refl refl refl (third.retiring ∙ second.retiring ∙ first.retiring ∙ alone L0 u d0 c.in-Some.is c.requires.ready) c.remove.ensures.items
+    let first = c.in_ok-settle.ensures in
+    let second = c.in_ok-settle-2.ensures in
+    let third : ChangesFile (UpdatesBy u.relink) u.source L2 L3 d2 d3 (Ok tt) = subst (λ o. IfSome o (λ w. ChangesFile (UpdatesBy w.relink) w.source L2 L3 d2 d3 (Ok tt))) (second.merge ∙ first.merge ∙ is) c.in_ok-relink.ensures in
+    finish_done L0 L1 u d0 d1 is c.requires.ready L2 d2 first L3 d3 second (subst (λ o. IfSome o (λ w. IsAllMarked w.marks)) is c.requires.copied) _ third refl refl refl (third.retiring ∙ second.retiring ∙ first.retiring ∙ alone L0 u d0 is c.requires.ready) c.remove.ensures.items

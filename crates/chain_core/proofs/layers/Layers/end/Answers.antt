@@ -1,39 +1,56 @@
-use Rattle.std.proofs.Common.{rules, ◌≡◌, ap, subst, sym}
-use Rattle.std.specs.Prelude.{Err, Ok, Result}
+use Rattle.std.proofs.Common.{List, ap, subst, sym, ◌∙◌}
+use Rattle.std.specs.Prelude.{Err, Ok}
 use Rattle.store_model.specs.Disk.{Disk}
-use Rattle.store_model.specs.declared.fault.StoreFault.{StoreFault}
+use Rattle.layer_session.specs.FileLayers.{AreOthers, file_numbers}
+use Rattle.layer_session.specs.declared.file_layer.FileLayer.{FileLayer}
 use Rattle.chain_core.specs.Answering.{EndsTold}
-use Rattle.chain_core.specs.Ending.{EndsOnTold}
+use Rattle.chain_core.specs.Ending.{AreAllReady, AreNumbered, EndsOnTold}
+use Rattle.chain_core.specs.Sessions.{AreApart}
 use Rattle.chain_core.proofs.Ending.{below_failed, below_numbered, ends_told, leaf_apart, leaf_ready}
+use Rattle.chain_core.proofs.Handing.{handed}
 use Rattle.chain_core.proofs.Holding.{rest_told}
+use Rattle.chain_core.proofs.RetireStays.{all_ready}
 use Rattle.chain_core.proofs.layers.Layers.end.Goals as goal
 
+pub end_files-requires-clause-ready : goal.end_files-requires-clause-ready
+end_files-requires-clause-ready g c =
+    let disk = g.S.Store.disk c.args.store.now in
+    subst (λ (items : List FileLayer). AreAllReady disk items) (sym (ap (λ b. b.items) c.into_files-leaf.ensures.below)) (all_ready c.args.self.geometry disk c.args.self.below.items c.requires.ready.below)
+
 pub end_files-requires-clause-low : goal.end_files-requires-clause-low
-end_files-requires-clause-low g c = below_numbered c.args.self c.requires.low
+end_files-requires-clause-low g c = subst (λ (items : List FileLayer). AreNumbered items) (sym (ap (λ b. b.items) c.into_files-leaf.ensures.below)) (below_numbered c.args.self c.requires.low)
+
+pub end_files-requires-clause-apart : goal.end_files-requires-clause-apart
+end_files-requires-clause-apart g c = subst (λ (items : List FileLayer). AreApart (file_numbers items)) (sym (ap (λ b. b.items) c.into_files-leaf.ensures.below)) c.requires.ready.apart
 
 pub returns-in_err-end_files-in-Some-clause-told : goal.returns-in_err-end_files-in-Some-clause-told
 returns-in_err-end_files-in-Some-clause-told g c =
     let old = g.S.Store.disk c.args.store.now in
     let mid = g.S.Store.disk c.end_files.new.store in
-    let e : c.from_residual.result ≡ Err c.in_err-end_files-in-Some.field-0.0 = search rules in
-    let failed : c.end_files.result ≡ Err c.in_err-end_files-in-Some.field-0.0 = search rules in
-    subst (λ (r : Result (Unit {0}) StoreFault). EndsTold c.args.self old mid r) (sym e)
-    (below_failed c.args.self c.in-Some.leaf c.in-Some.is c.in_err-end_files-in-Some.field-0.0 old mid (subst (λ (r : Result (Unit {0}) StoreFault). EndsOnTold c.args.self.below.items old mid r) failed c.end_files.ensures.told))
+    let w = c.into_files-leaf.ensures in
+    let fault = c.in_err-end_files-in-Some.field-0.0 in
+    handed (EndsTold c.args.self old mid) c.from_residual.result fault c.from_residual.ensures
+    (below_failed c.args.self c.in-Some.leaf (sym w.leaf ∙ c.in-Some.is) fault old mid (subst (λ (items : List FileLayer). EndsOnTold items old mid (Err fault)) (ap (λ b. b.items) w.below) c.in_err-end_files-in-Some.ensures.told))
 
 pub end-requires-clause-ready : goal.end-requires-clause-ready
 end-requires-clause-ready g c =
     let old = g.S.Store.disk c.args.store.now in
     let mid = g.S.Store.disk c.end_files.new.store in
-    leaf_ready c.args.self c.in-Some.leaf old c.in-Some.is c.requires.ready mid (ap (λ (d : Disk). d.files) c.in_ok-end_files-in-Some.ensures.counts)
-    (c.end_files.ensures.beside c.in-Some.leaf.tables.parts.file (leaf_apart c.args.self c.in-Some.leaf old c.in-Some.is c.requires.ready))
+    let w = c.into_files-leaf.ensures in
+    let is = sym w.leaf ∙ c.in-Some.is in
+    let leaf = c.in-Some.leaf in
+    leaf_ready c.args.self leaf old is c.requires.ready mid (ap (λ (d : Disk). d.files) c.in_ok-end_files-in-Some.ensures.counts)
+    (c.end_files.ensures.beside leaf.tables.parts.file (subst (λ (items : List FileLayer). AreOthers leaf.tables.parts.file items) (sym (ap (λ b. b.items) w.below)) (leaf_apart c.args.self leaf old is c.requires.ready)))
 
-pub returns-in-Some-clause-told : goal.returns-in-Some-clause-told
-returns-in-Some-clause-told g c =
+pub returns-in_ok-end_files-in-Some-clause-told : goal.returns-in_ok-end_files-in-Some-clause-told
+returns-in_ok-end_files-in-Some-clause-told g c =
     let old = g.S.Store.disk c.args.store.now in
     let mid = g.S.Store.disk c.end_files.new.store in
-    let done : c.end_files.result ≡ Ok tt = search rules in
-    ends_told c.args.self c.in-Some.leaf c.in-Some.is c.end.result old mid (g.S.Store.disk c.end.new.store) (subst (λ (r : Result (Unit {0}) StoreFault). EndsOnTold c.args.self.below.items old mid r) done c.end_files.ensures.told)
-    (c.end_files.ensures.beside c.in-Some.leaf.tables.parts.file (leaf_apart c.args.self c.in-Some.leaf old c.in-Some.is c.requires.ready)) c.end.ensures.moments c.end.ensures.ended
+    let w = c.into_files-leaf.ensures in
+    let is = sym w.leaf ∙ c.in-Some.is in
+    let leaf = c.in-Some.leaf in
+    ends_told c.args.self leaf is c.end.result old mid (g.S.Store.disk c.end.new.store) (subst (λ (items : List FileLayer). EndsOnTold items old mid (Ok tt)) (ap (λ b. b.items) w.below) c.in_ok-end_files-in-Some.ensures.told)
+    (c.end_files.ensures.beside leaf.tables.parts.file (subst (λ (items : List FileLayer). AreOthers leaf.tables.parts.file items) (sym (ap (λ b. b.items) w.below)) (leaf_apart c.args.self leaf old is c.requires.ready))) c.end.ensures.moments c.end.ensures.ended
 
-pub returns-clause-told : goal.returns-clause-told
-returns-clause-told g c = rest_told c.args.self (g.S.Store.disk c.args.store.now) c.in-None.is
+pub returns-in-None-clause-told : goal.returns-in-None-clause-told
+returns-in-None-clause-told g c = rest_told c.args.self (g.S.Store.disk c.args.store.now) (sym c.into_files-leaf.ensures.leaf ∙ c.in-None.is)
