@@ -1,15 +1,9 @@
 //! Streams in memory, whose listed calls fail and no other, and stores that come back.
 
-use mem_store::{Crash, MemHost, MemIds, MemSink, MemSource, MemStore, Pick, Room};
+use mem_store::{Calls, Crash, MemHost, MemIds, MemSink, MemSource, MemStore, Pick};
 use std::test::Fail;
 use store_model::{Ids, Sink, Source};
 use vx_base::Name;
-
-const ROOM: Room = Room {
-    bytes: 64,
-    changes: 16,
-    written: 64,
-};
 
 #[test]
 fn listed_reads_fail(rt: HostRuntime) -> Result<(), Fail> {
@@ -18,8 +12,7 @@ fn listed_reads_fail(rt: HostRuntime) -> Result<(), Fail> {
         at: 0,
         piece: 2,
         faults: 0,
-        calls: 0,
-        failing: [2].to_vec(rt.alloc())?,
+        calls: Calls::failing([2].to_vec(rt.alloc())?),
     };
     let mut out = [0; 4];
     assert_eq!(rt; source.read(&mut out)?, 2);
@@ -35,8 +28,7 @@ fn listed_writes_fail(rt: HostRuntime) -> Result<(), Fail> {
         bytes: Vec::new(rt.alloc()),
         most: 3,
         faults: 0,
-        calls: 0,
-        failing: [1].to_vec(rt.alloc())?,
+        calls: Calls::failing([1].to_vec(rt.alloc())?),
     };
     assert!(rt; sink.write(b"abcd").is_err());
     assert_eq!(rt; sink.write(b"abcd")?, 3);
@@ -55,7 +47,7 @@ fn listed_identifiers_come_first(rt: HostRuntime) -> Result<(), Fail> {
 #[test]
 fn a_store_that_comes_back_is_kept(rt: HostRuntime) -> Result<(), Fail> {
     let alloc = rt.alloc();
-    let mut host = MemHost::new(alloc, ROOM, 1)?;
+    let mut host = MemHost::new(alloc);
     host.put(&Name::new(alloc, "b")?, &[7])?;
     host.crash = Some(Crash {
         store: 0,
@@ -67,8 +59,7 @@ fn a_store_that_comes_back_is_kept(rt: HostRuntime) -> Result<(), Fail> {
         alloc,
         files: Vec::new(alloc),
         order: Vec::new(alloc),
-        calls: 0,
-        failing: Vec::new(alloc),
+        calls: Calls::failing(Vec::new(alloc)),
         tears: false,
         failing_reader: None,
     };
@@ -76,7 +67,7 @@ fn a_store_that_comes_back_is_kept(rt: HostRuntime) -> Result<(), Fail> {
     host.keep_crash(&store);
     let past = host.past.as_ref().ok_or("none is kept")?;
     assert_eq!(rt; past.len(), 1);
-    let crashed = host.take_crashed()?.ok_or("none was kept")?;
+    let crashed = host.take_crashed().ok_or("none was kept")?;
     for slot in &crashed.slots {
         let file = slot.file.as_ref().ok_or("no file")?;
         assert_eq!(rt; file.now.as_slice(), [7].as_slice());

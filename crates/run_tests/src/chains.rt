@@ -9,7 +9,7 @@ use crate::common::{
     Patch, add, bytes_of, empty_host, host_with, ids_of, line_of, prepare, run_done, run_line,
 };
 use crate::files::{FIXED, file_of, place};
-use mem_store::{MemHost, MemIds, Room};
+use mem_store::{MemHost, MemIds};
 use parent_locator::{Locator, Pair, build, fits};
 use std::alloc::Global;
 use std::sync::Wait;
@@ -220,12 +220,7 @@ fn make_chain<R: Threads + Wait>(
 #[test]
 fn sixty_five_files(rt: HostRuntime) -> Result<(), Fail> {
     let alloc = rt.alloc();
-    let room = Room {
-        bytes: 4_194_304,
-        changes: 8,
-        written: 1_200_000,
-    };
-    let mut host = MemHost::new(alloc, room, 65)?;
+    let mut host = MemHost::new(alloc);
     let mut ids = ids_of(alloc, &[])?;
     make_chain(&rt, alloc, 64, &mut host, &mut ids)?;
     let out = run_done(&rt, alloc, "dump 63 0 1", &mut host, &mut ids)?;

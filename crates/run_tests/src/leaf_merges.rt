@@ -1,13 +1,9 @@
 //! The merge of the leaf of a chain in memory: what its lines are told, what stands in the files behind it, and what a crash at
 //! each moment or a failing call leaves, from which the merge goes on to its end.
 
-ghost use Rattle.std.specs.Prelude.{IfOk};
-ghost use Rattle.link_rules.specs.Folders.{AllIdle};
-ghost use Rattle.mem_store.specs.HostTold.{hosted_by};
-ghost use Rattle.store_model.specs.Disk.{WhereTold};
-
 use crate::common::{
-    Case, PLAIN, Patch, bytes_of, ids_of, is_told, line_of, prepare, run_done, script_done, stands,
+    Case, PLAIN, Patch, bytes_of, empty_host, ids_of, is_told, line_of, prepare, run_done,
+    script_done, stands,
 };
 use crate::files::place;
 use crate::merge_crashes::{
@@ -15,7 +11,7 @@ use crate::merge_crashes::{
     host_of, is_refused,
 };
 use crate::merges::MIDDLE;
-use mem_store::{MemHost, Pick, Room};
+use mem_store::Pick;
 use std::alloc::Global;
 use std::test::Fail;
 use vhdx_app::Status;
@@ -233,20 +229,6 @@ fn unfit_identifiers_of_a_leaf_merge(rt: HostRuntime) -> Result<(), Fail> {
     Ok(())
 }
 
-// Room for a base with a block of 32 MB, and its child.
-const ROOM: Room = Room {
-    bytes: 37_748_736,
-    changes: 128,
-    written: 1_200_000,
-};
-
-fn roomy_host(alloc: Global) -> Result<MemHost, Fail>
-    ensures { IfOk result (λ host. WhereTold (hosted_by host).folder AllIdle) }
-{
-    let host = MemHost::new(alloc, ROOM, 2)?;
-    Ok(host)
-}
-
 const MADE: [&str; 2] = [
     "make dynamic b.vhdx --sectors 2097152",
     "make child c.vhdx --parent b.vhdx",
@@ -321,7 +303,7 @@ const RETIRED: &str =
 #[test]
 fn files_of_a_leaf_merge(rt: HostRuntime) -> Result<(), Fail> {
     let alloc = rt.alloc();
-    let mut host = roomy_host(alloc)?;
+    let mut host = empty_host(alloc)?;
     let mut ids = ids_of(alloc, &[])?;
     prepare(&rt, alloc, &MADE, &mut host, &mut ids)?;
     let told = script_done(&rt, alloc, MERGE, TOO_SOON, &mut host, &mut ids)?;

@@ -269,7 +269,7 @@ fn crashed<R: Threads + Wait>(
     if out.bytes.as_slice() != of.finished.as_bytes() {
         return Err(Fail::from("not finished"));
     }
-    let Some(left) = host.take_crashed()? else {
+    let Some(left) = host.take_crashed() else {
         return Ok(None);
     };
     Ok(Some(held_bytes(alloc, &left)?))

@@ -250,7 +250,7 @@ fn crashed<R: Threads + Wait>(
     if status != Status::Done {
         return Err(Fail::from("not done"));
     }
-    let Some(left) = host.take_crashed()? else {
+    let Some(left) = host.take_crashed() else {
         return Ok(None);
     };
     let bytes = bytes_of(&left, "d.vhdx").ok_or("no file")?;

@@ -8,11 +8,11 @@ use Rattle.mem_store.proofs.file.MemFile.new.Goals as goal
 
 pub invariant_of-result : goal.invariant_of-result
 invariant_of-result c =
-    let attached : c.in_ok-to_vec.field-0.items ≡ c.args.bytes.now = search rules in
-    let now : c.in_ok-to_vec-2.field-0.items ≡ c.args.bytes.now = search rules in
+    let attached : c.in_ok-from_slice.field-0.items ≡ c.args.bytes.now = search rules in
+    let now : c.in_ok-from_slice-2.field-0.items ≡ c.args.bytes.now = search rules in
     let none : ops_done c.new.result.items ≡ [] = ap ops_done c.new.ensures.items in
     let are_bytes : IsBytes c.args.bytes.now = record { each = λ i. let fits = c.type_inv.bytes i in search (rules, fits) } in
     record {
-      current = now ∙ sym (ap (seen_after c.in_ok-to_vec.field-0.items) none ∙ attached);
-      lawful = ap (is_lawful c.in_ok-to_vec.field-0.items) none ∙ lawful-attached _ (subst IsBytes (sym attached) are_bytes);
+      current = now ∙ sym (ap (seen_after c.in_ok-from_slice.field-0.items) none ∙ attached);
+      lawful = ap (is_lawful c.in_ok-from_slice.field-0.items) none ∙ lawful-attached _ (subst IsBytes (sym attached) are_bytes);
     }
