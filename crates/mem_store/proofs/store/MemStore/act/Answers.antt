@@ -1,9 +1,13 @@
-use Rattle.std.proofs.Common.{◌≡◌, ◌∙◌, ◌++◌, ◌∷◌, [], ap, subst, sym, arith, reverse, set}
+use Rattle.std.proofs.Common.{◌≡◌, ◌∙◌, ◌++◌, ◌∷◌, [], ap, subst, sym, arith, reverse, set, length}
 use Rattle.std.proofs.lemmas.List.{length-set}
 use Rattle.mem_store.specs.MemFile.{Contents}
 use Rattle.mem_store.specs.MemStore.{IsTallied, all_contents, disk_of}
-use Rattle.mem_store.proofs.Telling.{same_at, tallied_kept_at, tallied_push_at, changed_at, reverse-push}
+use Rattle.mem_store.specs.Steps.{Fits}
+use Rattle.mem_store.proofs.Telling.{seen_is, same_at, tallied_kept_at, tallied_push_at, changed_at, reverse-push}
 use Rattle.mem_store.proofs.store.MemStore.act.Goals as goal
+
+pub act-requires-clause-fits : goal.act-requires-clause-fits
+act-requires-clause-fits c = subst (λ b. Fits (length b) c.args.step) (sym (seen_is c.args.self.now c.args.file c.index_mut.result.now c.requires.there c.index_mut.ensures.value)) c.requires.fits
 
 pub invariant_of-self-in-Err-1 : goal.invariant_of-self-in-Err-1
 invariant_of-self-in-Err-1 c = record {
