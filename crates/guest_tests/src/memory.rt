@@ -1,16 +1,10 @@
 //! Streams in memory, whose listed calls fail and no other, and stores that come back.
 
-use mem_store::{Crash, MemHost, MemIds, MemSink, MemSource, MemStore, Pick, Room, Slot};
+use mem_store::{Calls, Crash, MemHost, MemIds, MemSink, MemSource, MemStore, Pick, Slot};
 use std::alloc::Global;
 use std::test::Fail;
 use store_model::{Ids, Sink, Source};
 use vx_base::Name;
-
-const ROOM: Room = Room {
-    bytes: 64,
-    changes: 16,
-    written: 64,
-};
 
 // A source of five bytes, two of which are read at once. Its second read fails.
 fn source(alloc: Global) -> Result<MemSource, Fail> {
@@ -19,8 +13,7 @@ fn source(alloc: Global) -> Result<MemSource, Fail> {
         at: 0,
         piece: 2,
         faults: 0,
-        calls: 0,
-        failing: [2].to_vec(alloc)?,
+        calls: Calls::failing([2].to_vec(alloc)?),
     })
 }
 
@@ -48,8 +41,7 @@ fn sink(alloc: Global) -> Result<MemSink, Fail> {
         bytes: Vec::new(alloc),
         most: 3,
         faults: 0,
-        calls: 0,
-        failing: [1].to_vec(alloc)?,
+        calls: Calls::failing([1].to_vec(alloc)?),
     })
 }
 
@@ -78,7 +70,7 @@ fn listed_identifiers_come_first(rt: HostRuntime) -> Result<(), Fail> {
 
 // A host of one file, which keeps the stores that come back, and a crash of the first of them.
 fn keeping_host(alloc: Global) -> Result<MemHost, Fail> {
-    let mut host = MemHost::new(alloc, ROOM, 1)?;
+    let mut host = MemHost::new(alloc);
     let name = Name::new(alloc, "b")?;
     host.put(&name, &[7])?;
     host.crash = Some(Crash {
@@ -96,8 +88,7 @@ fn empty_store(alloc: Global) -> MemStore {
         alloc,
         files: Vec::new(alloc),
         order: Vec::new(alloc),
-        calls: 0,
-        failing: Vec::new(alloc),
+        calls: Calls::failing(Vec::new(alloc)),
         tears: false,
         failing_reader: None,
     }
@@ -105,7 +96,7 @@ fn empty_store(alloc: Global) -> MemStore {
 
 // The host that the crash left.
 fn crashed(host: &mut MemHost) -> Result<MemHost, Fail> {
-    Ok(host.take_crashed()?.ok_or("none was kept")?)
+    Ok(host.take_crashed().ok_or("none was kept")?)
 }
 
 fn has_bytes(slot: &Slot, bytes: &[u8]) -> bool {

@@ -9,7 +9,7 @@ use crate::common::{
     run_done, run_line, says,
 };
 use crate::files::{FIXED, file_of, place};
-use mem_store::{MemHost, MemIds, Room};
+use mem_store::{MemHost, MemIds};
 use parent_locator::{Locator, Pair, build, fits};
 use std::alloc::Global;
 use std::process::Abort;
@@ -174,7 +174,7 @@ fn is_refused<R: Abort + Threads + Wait>(
 #[test]
 fn refused_links(rt: HostRuntime) {
     let alloc = rt.alloc();
-    let mut host = empty_host(&rt, alloc);
+    let mut host = empty_host(alloc);
     let mut ids = ids_of(&rt, alloc, &[[1; 16], [2; 16], [3; 16], [4; 16]]);
     prepare(&rt, alloc, &MAKE_BOTH, &mut host, &mut ids);
     let base = patched_file(&rt, alloc, &host, "b.vhdx", 4_194_304, &[]);
@@ -214,12 +214,7 @@ fn make_chain<R: Abort + Threads + Wait>(
 #[test]
 fn sixty_five_files(rt: HostRuntime) {
     let alloc = rt.alloc();
-    let room = Room {
-        bytes: 4_194_304,
-        changes: 8,
-        written: 1_200_000,
-    };
-    let mut host = MemHost::new(alloc, room, 65).expect(&rt, "no memory");
+    let mut host = MemHost::new(alloc);
     let mut ids = ids_of(&rt, alloc, &[]);
     make_chain(&rt, alloc, 64, &mut host, &mut ids);
     let out = run_done(&rt, alloc, "dump 63 0 1", &mut host, &mut ids);

@@ -6,8 +6,8 @@ ghost use Rattle.mem_store.specs.HostTold.{hosted_by};
 ghost use Rattle.store_model.specs.Disk.{WhereTold};
 
 use crate::common::{
-    Case, PLAIN, Patch, ask_same, ask_text, bytes_of, ids_of, is_told, line_of, prepare, run_done,
-    script_done, stands, stands_wide,
+    Case, PLAIN, Patch, ask_same, ask_text, bytes_of, empty_host, ids_of, is_told, line_of,
+    prepare, run_done, script_done, stands, stands_wide,
 };
 use crate::files::place;
 use crate::merge_crashes::{
@@ -15,7 +15,7 @@ use crate::merge_crashes::{
     each_pick, each_unfit_is_refused, held_bytes, host_of,
 };
 use crate::merges::MIDDLE;
-use mem_store::{MemHost, Pick, Room};
+use mem_store::Pick;
 use std::alloc::Global;
 use std::process::Abort;
 use std::sync::Wait;
@@ -236,19 +236,6 @@ fn unfit_identifiers_of_a_leaf_merge(rt: HostRuntime) {
     each_unfit_is_refused(&rt, rt.alloc(), &LEAF, &UNFIT);
 }
 
-// Room for a base with a block of 32 MB, and its child.
-const ROOM: Room = Room {
-    bytes: 37_748_736,
-    changes: 128,
-    written: 1_200_000,
-};
-
-fn roomy_host<R: Abort>(rt: &R, alloc: Global) -> MemHost
-    ensures { WhereTold (hosted_by result).folder AllIdle }
-{
-    MemHost::new(alloc, ROOM, 2).expect(rt, "no memory")
-}
-
 const MADE: [&str; 2] = [
     "make dynamic b.vhdx --sectors 2097152",
     "make child c.vhdx --parent b.vhdx",
@@ -313,7 +300,7 @@ const RETIRED: &str =
 #[test]
 fn files_of_a_leaf_merge(rt: HostRuntime) {
     let alloc = rt.alloc();
-    let mut host = roomy_host(&rt, alloc);
+    let mut host = empty_host(alloc);
     let mut ids = ids_of(&rt, alloc, &[]);
     prepare(&rt, alloc, &MADE, &mut host, &mut ids);
     let told = script_done(&rt, alloc, MERGE, TOO_SOON, &mut host, &mut ids);

@@ -5,8 +5,8 @@ ghost use Rattle.mem_store.specs.HostTold.{hosted_by};
 ghost use Rattle.store_model.specs.Disk.{WhereTold};
 
 use crate::common::{
-    Case, ROOM, add, ask_text, bytes_of, empty_host, ids_of, is_told, listed, prepare_scripts,
-    run_done, run_script, says, script_done, stands,
+    Case, add, ask_text, bytes_of, empty_host, ids_of, is_told, listed, prepare_scripts, run_done,
+    run_script, says, script_done, stands,
 };
 use mem_store::{MemHost, MemIds, MemStore, Pick, Returned};
 use std::alloc::Global;
@@ -67,7 +67,7 @@ impl Merging {
 pub fn chain<R: Abort + Threads + Wait>(rt: &R, alloc: Global, of: &Merging) -> MemHost
     ensures { WhereTold (hosted_by result).folder AllIdle }
 {
-    let mut host = empty_host(rt, alloc);
+    let mut host = empty_host(alloc);
     let mut ids = ids_of(rt, alloc, &[]);
     prepare_scripts(rt, alloc, of.made, &mut host, &mut ids);
     host
@@ -111,7 +111,7 @@ fn add_middle<R: Abort>(rt: &R, alloc: Global, host: &mut MemHost, bytes: &[u8])
 pub fn host_of<R: Abort>(rt: &R, alloc: Global, files: &ChainBytes) -> MemHost
     ensures { WhereTold (hosted_by result).folder AllIdle }
 {
-    let mut host = empty_host(rt, alloc);
+    let mut host = empty_host(alloc);
     add(rt, alloc, &mut host, "b.vhdx", &files.base);
     add_middle(rt, alloc, &mut host, &files.middle);
     add(rt, alloc, &mut host, "c.vhdx", &files.leaf);
@@ -306,7 +306,7 @@ fn crashed<R: Abort>(
     pick: Pick,
 ) -> ChainBytes {
     assert!(rt; moment <= store.order.len() as u64, "no such moment");
-    let left = store.image(moment, pick, ROOM).expect(rt, "no memory");
+    let left = store.image(moment, pick).expect(rt, "no memory");
     held_bytes(rt, alloc, &left)
 }
 

@@ -251,7 +251,7 @@ fn crashed<R: Abort + Threads + Wait>(
     moment: u64,
     pick: Pick,
 ) -> Option<[u8; 2]> {
-    let mut host = empty_host(rt, alloc);
+    let mut host = empty_host(alloc);
     let mut ids = ids_of(rt, alloc, &[]);
     prepare(rt, alloc, &[SMALL_BLOCKS], &mut host, &mut ids);
     // The opening's store comes back first.
@@ -263,7 +263,7 @@ fn crashed<R: Abort + Threads + Wait>(
     });
     let (status, _out) = run_script(rt, alloc, "steps d.vhdx", FLUSHED, &mut host, &mut ids);
     assert!(rt; status == Status::Done, "not done");
-    let left = host.take_crashed().expect(rt, "no memory")?;
+    let left = host.take_crashed()?;
     let bytes = bytes_of(&left, "d.vhdx").expect(rt, "no file");
     let mut again = host_with(rt, alloc, "d.vhdx", bytes);
     Some(first_sectors(rt, alloc, &mut again, front_of(pick)))
@@ -317,7 +317,7 @@ fn failed<R: Abort + Threads + Wait>(
     alloc: Global,
     call: u64,
 ) -> (MemHost, Status, MemSink) {
-    let mut host = empty_host(rt, alloc);
+    let mut host = empty_host(alloc);
     let mut ids = ids_of(rt, alloc, &[]);
     prepare(rt, alloc, &[SMALL_BLOCKS], &mut host, &mut ids);
     host.failing_in_store = listed(rt, alloc, call);
