@@ -34,7 +34,7 @@ use Rattle.layer_session.proofs.Standing.{layers_stand}
 use Rattle.chain_core.specs.declared.layers.Layers.{Layers}
 use Rattle.chain_core.specs.Reading.{AddsPart, HasOnlyRead, of_read, of_session}
 use Rattle.chain_core.specs.declared.layers.Underway.{Underway}
-use Rattle.chain_core.specs.Sessions.{AreApart, AreReady, AtMostOne, CanRelink, CanRetire, IsMergeOf, IsReadyLeaf, IsRetiringOf, is_session_at, number_of_leaf}
+use Rattle.chain_core.specs.Sessions.{AreApart, AreReady, AtMostOne, CanRelink, CanRetire, IsMergeOf, IsReadyLeaf, IsRetiringOf, number_of_leaf}
 use Rattle.chain_core.specs.States.{AreHeld, State, IsRetiring, IsServing, disk_now, files_of, sector_of, seen_in, others_of, AreWritten, IsCourse, Rest, child_parts, merging, plain, retiring, target_parts}
 use Rattle.chain_core.specs.declared.layers.Retiring.{Retiring}
 use Rattle.layer_session.specs.FileLayers.{AreOthers}

@@ -13,7 +13,7 @@ use Rattle.chain_core.specs.States.{State, IsNextPlace, IsServing, AreHeld, Next
 use Rattle.chain_core.proofs.Links.{served_links}
 use Rattle.chain_core.specs.Answering.{Answers, HasClosed, HasEndedWhole}
 use Rattle.chain_core.proofs.Steps.{at_rest}
-use Rattle.chain_core.proofs.Concluding.{SessionTold, both_told, same_told}
+use Rattle.chain_core.proofs.Concluding.{SessionTold, same_told}
 use Rattle.chain_core.proofs.Rests.{new_top, opens_now}
 
 -- ---- once nothing is loose

@@ -41,10 +41,10 @@ use Rattle.chain_core.specs.States.{AreHeld, IsLeaving, IsRetiring, IsServing, R
 use Rattle.chain_core.proofs.LeafTargets.{piece_copied, piece_failed, piece_refused, serves_target}
 use Rattle.chain_core.proofs.Finding.{leaf_reads}
 use Rattle.chain_core.proofs.Places.{one_of, some_failed, some_leaf}
-use Rattle.chain_core.proofs.Replaced.{AreParts, all_low, both_at, low_at, more_low, parts_of, parts_then, round_apart, top_apart}
+use Rattle.chain_core.proofs.Replaced.{AreParts, both_at, low_at, more_low, parts_of, parts_then, round_apart, top_apart}
 use Rattle.chain_core.proofs.Standing.{leaf_of, same_files}
 use Rattle.chain_core.proofs.Steps.{LeafStep}
-use Rattle.chain_core.proofs.Turning.{Alike, KeepsTies, KeepsUnlessBroken, alike_marked, alike_same, all_but_one, one_alike, piece_ties, retires_alike, retiring_alike, top_beside, turn_kept}
+use Rattle.chain_core.proofs.Turning.{Alike, KeepsTies, KeepsUnlessBroken, alike_marked, alike_same, all_but_one, piece_ties, retires_alike, retiring_alike, top_beside, turn_kept}
 
 -- ---- the layer below the leaf
 

@@ -1,6 +1,6 @@
 -- The target while the leaf is merged into it: its file goes over to another state, under another layer.
-use Rattle.std.proofs.Common.{◌≡◌, ◌≢◌, ◌<◌, ℕ, Bool, true, false, List, [], ◌∷◌, ◌++◌, refl, sym, ap, subst, ◌∙◌, is_some, map, ◌⊎◌, inl, inr, ◌==◌, ◌||◌, ◌+◌}
-use Rattle.std.specs.Prelude.{Option, Some, None, IfSome, option_map, Result, Ok, Err}
+use Rattle.std.proofs.Common.{◌≡◌, ◌≢◌, ℕ, true, false, List, [], ◌∷◌, ◌++◌, refl, sym, ap, subst, ◌∙◌, is_some, ◌⊎◌, inl, inr}
+use Rattle.std.specs.Prelude.{Option, Some, None, IfSome, option_map}
 use Rattle.std.specs.List.{AllByRecursion}
 use Rattle.std.specs.Option.{option_or}
 use Rattle.std.proofs.lemmas.Bool.{or_parts, or_from, cases_eq}
@@ -22,8 +22,7 @@ use Rattle.chain_model.proofs.Serving.{past_goes_on}
 use Rattle.layer_session.specs.declared.file.Layer.{Layer}
 use Rattle.layer_session.specs.declared.file_layer.FileLayer.{FileLayer}
 use Rattle.layer_session.specs.declared.file_layer.FileLayer.TheVariants.{Session}
-use Rattle.layer_session.specs.Calls.{settled}
-use Rattle.layer_session.specs.FileLayers.{HaveFiles, number_of, table_parts}
+use Rattle.layer_session.specs.FileLayers.{HaveFiles}
 use Rattle.layer_session.specs.Keeping.{Serves}
 use Rattle.layer_session.proofs.Crashes.{layers_are_kept}
 use Rattle.layer_session.proofs.Standing.{layers_stand}
@@ -36,8 +35,7 @@ use Rattle.chain_core.specs.declared.layers.Retiring.{Retiring}
 use Rattle.chain_core.specs.Answering.{EachOpensNow, HasEnded, IsRefused}
 use Rattle.chain_core.specs.Copying.{IsMarkedToo}
 use Rattle.chain_core.specs.Merging.{IsCopied, is_in, with_piece}
-use Rattle.chain_core.specs.Sessions.{is_session_at}
-use Rattle.chain_core.specs.States.{AreHeld, AreWritten, IsCleared, IsCourse, IsLeaving, IsRetiring, IsServing, Renames, State, dirty_now, is_session, retiring, sector_of, seen_in, target_parts, WasSynced}
+use Rattle.chain_core.specs.States.{AreHeld, AreWritten, IsCleared, IsCourse, IsLeaving, IsRetiring, IsServing, Renames, State, dirty_now, retiring, sector_of, seen_in, target_parts}
 use Rattle.chain_core.proofs.Children.{ended_by}
 use Rattle.chain_core.proofs.Putting.{HasFailedPut, IsKeptAs, IsPut, apart_around}
 use Rattle.chain_core.proofs.Steps.{all_right, cleared_alike, fewer_marks, goes_over, names_behind, phase_beside, phase_others, still_once, still_read}

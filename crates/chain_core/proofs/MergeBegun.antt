@@ -1,9 +1,8 @@
 -- What the start of a planned merge answers, phase by phase.
 use Rattle.std.proofs.Common.{◌≡◌, ◌==◌, ◌||◌, ℕ, suc, ◌+◌, ◌<◌, ◌≤◌, Bool, true, false, List, [], ◌∷◌, ◌++◌, length, map, refl, sym, ap, subst, ◌∙◌, arith, eq-eqb, ltb-true}
 use Rattle.std.proofs.lemmas.List.{length-append}
-use Rattle.std.specs.Prelude.{Option, Some, None, IfSome, is_some, nat_lt, option_map, Result, Ok, Err}
+use Rattle.std.specs.Prelude.{Option, Some, None, IfSome, is_some, nat_lt, option_map, Ok, Err}
 use Rattle.std.specs.List.{AllByRecursion}
-use Rattle.std.specs.Result.{IsErr, IsErrAnd}
 use Rattle.vx_base.specs.declared.parts.Geometry.{Geometry}
 use Rattle.vx_base.specs.declared.parts.Parts.{Parts}
 use Rattle.vhdx_format.specs.declared.log_entry.Page.{Page}
@@ -65,11 +64,6 @@ or_left false b h = absurd (cc)
 or_right : (a b : Bool) → b ≡ true → (a || b) ≡ true
 or_right true b h = refl
 or_right false b h = h
-
--- a fault that is handed on
-pub handed : (P : Result Layers SealFault → Type 0) (result : Result Layers SealFault) (fault : SealFault) → IsErr result × IsErrAnd result (λ x. x ≡ fault) → P (Err fault) → P result
-handed P (Ok x) fault same h = let never = same.0 in cc
-handed P (Err x) fault same h = subst (λ (f : SealFault). P (Err f)) (sym same.1) h
 
 -- so many files the store has still
 pub files_still : (a b : Disk) (n : ℕ) → b ≡ record a { told = b.told } → n < a.files → n < b.files

@@ -2,7 +2,6 @@
 use Rattle.std.proofs.Common.{◌≡◌, ℕ, zero, suc, ◌<◌, false, List, [], ◌∷◌, length, get_or, refl, sym, ap, subst, ◌∙◌, arith}
 use Rattle.std.specs.Prelude.{Option, Some, None, All, Result, Ok, Err}
 use Rattle.std.specs.List.{AllByRecursion}
-use Rattle.std.specs.Result.{IsErr, IsErrAnd}
 use Rattle.vhdx_format.specs.FileParts.{HasNumbers}
 use Rattle.store_model.specs.Disk.{Disk}
 use Rattle.store_model.specs.Trace.{Trace, file_of}
@@ -19,7 +18,6 @@ use Rattle.merge_plan.specs.declared.refusal.PrepareRefusal.TheVariants as plan
 use Rattle.chain_core.specs.MergeStarting.{AreLow, BeginsMerge, LeavesRest, PlansMerge, StartsWithMerge, behind_first, chain_files, is_changed, leaf_of, spent}
 use Rattle.chain_core.specs.Starting.{EachOpensAlike}
 use Rattle.chain_core.specs.declared.layers.Layers.{Layers}
-use Rattle.chain_core.specs.declared.merge_start.MergeStartRefusal.{MergeStartRefusal}
 use Rattle.chain_core.specs.declared.merge_start.MergeStartRefusal.TheVariants.{Begin, Plan, Spent}
 use Rattle.chain_core.proofs.Beginning.{by_recursion, files_rest}
 use Rattle.chain_core.proofs.MergeFound.{files_split, lower_files}
@@ -38,11 +36,6 @@ by_index P (x ∷ xs) all (suc k) d less = by_index P xs all.1 k d (omega (arith
 pub none_of : (o : Option ℕ) → ((n : ℕ) → o ≡ Some n → ⊥) → o ≡ None
 none_of None not = refl
 none_of (Some n) not = absurd (not n refl)
-
--- a refusal that is handed on
-pub handed : (P : Result Layers MergeStartRefusal → Type 0) (result : Result Layers MergeStartRefusal) (refusal : MergeStartRefusal) → IsErr result × IsErrAnd result (λ x. x ≡ refusal) → P (Err refusal) → P result
-handed P (Ok x) refusal same h = let never = same.0 in cc
-handed P (Err x) refusal same h = subst (λ (f : MergeStartRefusal). P (Err f)) (sym same.1) h
 
 -- the store's content stays
 pub stayed : (files : List LinkedFile) (old new : Disk) → CanStart files old → new.told ≡ old.told → EachOpensAlike files old.told new.told

@@ -3,18 +3,18 @@ use Rattle.std.proofs.Common.{◌⊎◌, ◌≡◌, ◌<◌, ℕ, Bool, true, fa
 use Rattle.std.specs.Prelude.{Option, Some, None, IfSome}
 use Rattle.std.specs.List.{AllByRecursion}
 use Rattle.std.specs.Option.{option_or}
-use Rattle.std.proofs.lemmas.List.{append_assoc, map-append}
+use Rattle.std.proofs.lemmas.List.{append_assoc}
 use Rattle.store_model.specs.Trace.{Trace}
 use Rattle.vhdx_format.specs.declared.log_entry.Page.{Page}
 use Rattle.chain_model.specs.Layers.{Layer as SectorLayer, through}
 use Rattle.chain_model.specs.Merges.{AllMarked, HasAllOf}
 use Rattle.chain_model.specs.Stripes.{per_stripe, stripe_count}
-use Rattle.chain_model.specs.Members.{IsParentOf, LooksAlike, Member, Ties, layers_of, sectors_of}
+use Rattle.chain_model.specs.Members.{IsParentOf, LooksAlike, Ties, layers_of, sectors_of}
 use Rattle.chain_model.specs.Images.{NoneLoose, Placed, members_of}
 use Rattle.chain_model.specs.Sessions.{GoesOver, IsKept, IsServed, LooseAtTop, ShowsFile}
 use Rattle.chain_model.specs.PhaseLaws.{IsNamedOnce, Survives}
 use Rattle.chain_model.proofs.Merging.{marked_is_whole}
-use Rattle.chain_model.proofs.Phasing.{child_is_relinked, members_append}
+use Rattle.chain_model.proofs.Phasing.{child_is_relinked}
 use Rattle.chain_model.proofs.Serving.{loose_moves, past_goes_on}
 use Rattle.layer_session.specs.declared.file.Layer.{Layer}
 use Rattle.layer_session.specs.declared.file_layer.FileLayer.{FileLayer}

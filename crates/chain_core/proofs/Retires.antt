@@ -5,14 +5,12 @@ use Rattle.store_model.specs.Disk.{Disk, WhereBothTold}
 use Rattle.store_model.specs.declared.fault.StoreFault.{StoreFault}
 use Rattle.store_model.specs.File.{is_synced}
 use Rattle.store_model.specs.Trace.{Trace, file_of}
-use Rattle.store_model.proofs.Spans.{EachMoment-join}
 use Rattle.table_pages.specs.declared.tables.TableParts.{TableParts}
 use Rattle.vhdx_format.specs.declared.log_entry.Page.{Page}
 use Rattle.chain_model.specs.Images.{Placed, members_of}
 use Rattle.chain_model.specs.Layers.{Layer as SectorLayer}
 use Rattle.chain_model.specs.Members.{layers_of}
 use Rattle.chain_model.specs.Merges.{AllMarked, HasAllOf}
-use Rattle.chain_model.specs.Moments.{EachOpens}
 use Rattle.chain_model.specs.Sessions.{GoesOver, IsKept}
 use Rattle.chain_model.specs.Stripes.{stripe_count}
 use Rattle.chain_model.proofs.Merging.{marked_is_whole}
@@ -28,7 +26,7 @@ use Rattle.chain_core.specs.declared.layers.Layers.{Layers}
 use Rattle.chain_core.specs.declared.layers.Retiring.{Retiring}
 use Rattle.chain_core.specs.Answering.{EachOpensNow, HasEnded}
 use Rattle.chain_core.specs.Finished.{ChangesFile, FinishesTo, HandsOver, Identifies, IsAllMarked, IsExchanged, IsSucceeded, LeavesBy, Look, Settles, UpdatesBy, at_leaf, at_lower, look_of, named_anew}
-use Rattle.chain_core.specs.States.{AreWritten, IsCleared, IsLeaving, IsRetiring, IsServing, Renames, Rest, State, dirty_now, disk_now, merging, plain, retiring, sector_of, target_parts, with_retired}
+use Rattle.chain_core.specs.States.{AreWritten, IsCleared, IsLeaving, IsRetiring, IsServing, Renames, Rest, State, merging, plain, retiring, sector_of, target_parts, with_retired}
 use Rattle.chain_core.proofs.Concluding.{both_told}
 use Rattle.chain_core.proofs.LeafTargets.{serves_target}
 use Rattle.chain_core.proofs.Relinked.{there_without}

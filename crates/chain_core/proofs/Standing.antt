@@ -17,7 +17,6 @@ use Rattle.chain_core.specs.declared.layers.Layers.{Layers}
 use Rattle.chain_core.specs.declared.layers.Underway.{Underway}
 use Rattle.chain_model.specs.Stripes.{stripe_count}
 use Rattle.chain_core.specs.Sessions.{AreApart, AreReady, AtMostOne, CanRelink, CanRetire, IsMergeOf, IsReadyLeaf, IsRetiringOf, header_at, is_session_at}
-use Rattle.chain_core.specs.declared.layers.Retiring.{Retiring}
 use Rattle.chain_core.specs.Answering.{LayerRoomIs, UnlessBroken, as_change}
 use Rattle.layer_session.proofs.FileLayers.{others_stand}
 use Rattle.chain_core.proofs.Steps.{LeafStep}

@@ -1,5 +1,5 @@
 -- A commit.
-use Rattle.std.proofs.Common.{◌≡◌, ℕ, ◌-◌, ◌^◌, ◌≤◌, ◌⊎◌, Bool, false, le_of_eq, le_refl, le_trans, All, Option, Some, None, [], ◌∷◌, ◌*◌, ◌<◌, List, length, refl, sym, ap, subst, ◌∙◌, arith, inl, inr}
+use Rattle.std.proofs.Common.{◌≡◌, ℕ, ◌-◌, ◌^◌, ◌≤◌, ◌⊎◌, Bool, false, le_of_eq, le_refl, le_trans, All, Option, Some, None, [], ◌∷◌, ◌*◌, ◌<◌, List, length, refl, sym, ap, subst, ◌∙◌, inl, inr}
 use Rattle.vx_base.specs.declared.parts.Header.{Header}
 use Rattle.vx_base.specs.Fields.{zeros}
 use Rattle.vx_base.specs.declared.parts.Parts.{Parts}

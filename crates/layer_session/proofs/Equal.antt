@@ -1,5 +1,5 @@
 -- What equations between answers say. These are lemmas over plain variables: a tactic among a layer's facts reads them all.
-use Rattle.std.proofs.Common.{◌≡◌, Bool, true, false, Option, Some, None, refl}
+use Rattle.std.proofs.Common.{◌≡◌, Bool, true, false, Some, None, refl}
 use Rattle.std.specs.Prelude.{Err, Result, not}
 
 pub false_true : false ≡ true → ⊥

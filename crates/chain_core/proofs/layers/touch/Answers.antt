@@ -1,4 +1,4 @@
-use Rattle.std.proofs.Common.{refl, rules, sym, subst, arith, ◌≡◌, ◌<◌, ℕ, Bool, true, ◌+◌, ◌-◌}
+use Rattle.std.proofs.Common.{refl, rules, sym, subst, arith, ◌≡◌, ◌<◌, ℕ, Bool, true}
 use Rattle.std.specs.Prelude.{Option, Some}
 use Rattle.guest_model.specs.declared.call.Call.TheVariants as calls
 use Rattle.chain_core.specs.Copying.{IsTouched, Touches, TouchesIf}

@@ -1,6 +1,6 @@
 use Rattle.std.specs.Prelude.{Err, IfErr}
 use Rattle.store_model.specs.declared.fault.SealFault.{SealFault}
-use Rattle.std.proofs.Common.{refl, ap, subst, ◌∙◌}
+use Rattle.std.proofs.Common.{ap, subst, ◌∙◌}
 use Rattle.table_pages.specs.declared.tables.TableParts.{TableParts}
 use Rattle.link_rules.specs.declared.linked.LinkedFile.{LinkedFile}
 use Rattle.layer_session.specs.Begins.{IsOf}

@@ -1,4 +1,4 @@
-use Rattle.std.proofs.Common.{Bool, ap, is_some, rules, sym, subst, true, ◌+◌, ◌≡◌, ◌∙◌}
+use Rattle.std.proofs.Common.{Bool, ap, is_some, sym, subst, true, ◌+◌, ◌≡◌, ◌∙◌}
 use Rattle.std.specs.Prelude.{IfNone, IfSome, None, Ok, Some, if◌then◌else◌}
 use Rattle.guest_model.specs.declared.refusal.ChainRefusal.TheVariants.{NoMerge}
 use Rattle.chain_core.specs.Answering.{as_change, breaks}

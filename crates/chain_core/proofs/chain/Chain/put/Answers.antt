@@ -1,4 +1,4 @@
-use Rattle.std.proofs.Common.{ap, arith, is_some, sym, subst, ℕ, ◌+◌, ◌≤◌, ◌≡◌, ◌∙◌}
+use Rattle.std.proofs.Common.{ap, arith, is_some, sym, subst, ℕ, ◌+◌, ◌≡◌, ◌∙◌}
 use Rattle.chain_core.specs.Answering.{UnlessBroken}
 use Rattle.chain_core.specs.Sessions.{AreReady, IsLow, IsSound, Session, has_merge, leaf_number, seen}
 use Rattle.chain_core.specs.declared.layers.Layers.{Layers}

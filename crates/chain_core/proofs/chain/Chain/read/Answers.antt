@@ -1,6 +1,5 @@
 use Rattle.std.proofs.Common.{ap, is_some, length, refl, subst, [], ◌∷◌, ◌++◌, ℕ, ◌+◌, ◌/◌, ◌∙◌, ◌≡◌}
 use Rattle.std.specs.Prelude.{Err, IfNone, None, OnOk, Result, option_map}
-use Rattle.guest_model.specs.declared.refusal.ChainRefusal.{ChainRefusal}
 use Rattle.guest_model.specs.declared.refusal.ChainRefusal.TheVariants.{NoRoom}
 use Rattle.guest_model.specs.declared.call.Call.{Call}
 use Rattle.guest_model.specs.declared.call.Call.TheVariants as calls

@@ -1,11 +1,10 @@
-use Rattle.std.proofs.Common.{rules, ◌/◌, ℕ, false, not, length, refl, ap}
+use Rattle.std.proofs.Common.{rules, ◌/◌, ℕ, false, length, refl, ap}
 use Rattle.std.specs.Prelude.{Some}
 use Rattle.guest_model.specs.declared.call.Call.TheVariants as calls
-use Rattle.layer_session.specs.declared.file.Layer.{Layer}
 use Rattle.layer_session.proofs.FileLayers.{others_stand}
 use Rattle.chain_core.specs.Copying.{LayerFollows}
 use Rattle.chain_core.specs.declared.layers.Layers.{Layers}
-use Rattle.chain_core.proofs.Leafs.{follows_alike, follows_by, write_told, write_touches, zero_told}
+use Rattle.chain_core.proofs.Leafs.{follows_alike, follows_by, write_told, write_touches}
 use Rattle.chain_core.proofs.Standing.{leaf_of, ready_still, room_is}
 use Rattle.chain_core.proofs.Turning.{put_ties}
 use Rattle.chain_core.proofs.Noting.{low_stepped}

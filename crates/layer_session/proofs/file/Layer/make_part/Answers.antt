@@ -1,4 +1,4 @@
-use Rattle.std.proofs.Common.{arith, rules, false, true}
+use Rattle.std.proofs.Common.{rules, false, true}
 use Rattle.layer_session.proofs.Marks.{Marks, marks_rest}
 use Rattle.layer_session.proofs.Parting.{part_broken, part_ends, part_kept, part_made, part_may, part_over, part_ready}
 use Rattle.layer_session.proofs.Resting.{rest_then}
