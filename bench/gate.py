@@ -4,6 +4,7 @@
     bench/gate.py --anew      proves all from nothing, as on a fresh machine
 
 Run it alone on the machine, at the top of a clean clone. The output of `rt ci` goes to gate.log beside the table on standard output.
+Checks that others run meanwhile are not counted, but make those of the run slower.
 """
 import collections
 import os
@@ -15,14 +16,26 @@ import time
 TICKS = os.sysconf("SC_CLK_TCK")
 
 
-def look(pid):
-    """The crate, kind and processor seconds of a process that checks or builds a crate; None of any other."""
+def fields_of(pid):
+    """The fields of a process's status behind its name: its parent is the second."""
+    return (pathlib.Path("/proc") / pid / "stat").read_text().rsplit(")", 1)[1].split()
+
+
+def is_below(pid, run):
+    """Whether a process was started by the run, or by one that was."""
+    while pid not in ("0", "1", run):
+        pid = fields_of(pid)[1]
+    return pid == run
+
+
+def look(pid, run):
+    """The crate, kind and processor seconds of a process of the run that checks or builds a crate; None of any other."""
     try:
         place = pathlib.Path("/proc") / pid
         words = (place / "cmdline").read_bytes().decode(errors="replace").split("\0")
-        if not words[0].endswith("/rattle") or "--crate-name" not in words:
+        if not words[0].endswith("/rattle") or "--crate-name" not in words or not is_below(pid, run):
             return None
-        fields = (place / "stat").read_text().rsplit(")", 1)[1].split()
+        fields = fields_of(pid)
         crate = words[words.index("--crate-name") + 1]
         if os.readlink(place / "cwd").startswith("/tmp/rt-edit-"):
             kind = "edits"
@@ -39,7 +52,7 @@ def main():
         run = subprocess.Popen(["rt", "ci", *sys.argv[1:]], stdout=log, stderr=subprocess.STDOUT)
         while run.poll() is None:
             for pid in filter(str.isdigit, os.listdir("/proc")):
-                found = look(pid)
+                found = look(pid, str(run.pid))
                 if found:
                     crate, kind, seconds, start = found
                     spent[pid, start] = (crate, kind, seconds)

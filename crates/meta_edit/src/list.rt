@@ -4,6 +4,7 @@ ghost use Rattle.std.specs.Prelude.{◌≡◌, ◌<◌, [], OnOk};
 ghost use Rattle.log_format.specs.PendingPages as spec;
 ghost use Rattle.log_format.specs.PendingPages.{HasOnePageEach, with_page};
 
+use log_format::place_of;
 use std::alloc::{AllocError, AllocFailed, Global};
 use std::marker::Model;
 use vhdx_format::Page;
@@ -24,19 +25,6 @@ impl Model for Updates {
     ghost view = { λ u. u.pages.items };
 
     ghost invariant = { λ u. HasOnePageEach u.pages.items };
-}
-
-// Where the page at a place stands among the pages: behind them all if there is none.
-#[tactic(auto, using(log_format::proofs::Putting::no_place))]
-fn place_of(pages: &[Page], at: u64) -> usize
-    ensures { result ≡ spec.place_of at pages.now }
-{
-    for (i, page) in pages.iter().enumerate() {
-        if page.at == at {
-            return i;
-        }
-    }
-    pages.len()
 }
 
 impl Updates {
