@@ -1,0 +1,4 @@
+pub mod Counting
+pub mod Sums
+pub mod Views
+pub mod Families
