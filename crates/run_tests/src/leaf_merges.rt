@@ -1,25 +1,14 @@
 //! The merge of the leaf of a chain in memory: what its lines are told, what stands in the files behind it, and what a crash at
 //! each moment or a failing call leaves, from which the merge goes on to its end.
 
-ghost use Rattle.link_rules.specs.Folders.{AllIdle};
-ghost use Rattle.mem_store.specs.HostTold.{hosted_by};
-ghost use Rattle.store_model.specs.Disk.{WhereTold};
-
-use crate::common::{
-    Case, PLAIN, Patch, ask_same, ask_text, bytes_of, empty_host, ids_of, is_told, line_of,
-    prepare, run_done, script_done, stands, stands_wide,
-};
-use crate::files::place;
+use crate::common::{Case, PLAIN};
 use crate::merge_crashes::{
-    ChainBytes, DRAWN, DRAWN_LATER, Merging, TO_THE_END, chain, each_failing_call, each_is_told,
-    each_pick, each_unfit_is_refused, held_bytes, host_of,
+    DRAWN, DRAWN_LATER, ENDED, Merging, TO_THE_END, UNFIT_FIRST, UNFIT_ZERO, each_failing_call,
+    each_is_told, each_pick, each_unfit_is_refused,
 };
-use crate::merges::MIDDLE;
+use crate::merges::THREE_FILES;
+use crate::stories::{Content, Step, play};
 use mem_store::Pick;
-use std::alloc::Global;
-use std::process::Abort;
-use std::sync::Wait;
-use std::thread::Threads;
 use vhdx_app::Status;
 
 const MERGE: &str = "steps c.vhdx --merge c.vhdx";
@@ -27,13 +16,15 @@ const MERGE: &str = "steps c.vhdx --merge c.vhdx";
 const GONE: &str = "refused 40 NotInChain c.vhdx\n";
 
 // A chain of two files. Sector 3 of its disk stands in the leaf, sector 2,048 in the base.
+const TWO_FILES: &[(&str, &str)] = &[
+    ("make dynamic b.vhdx --sectors 8192 --block 1", ""),
+    ("steps b.vhdx", "write 2048 1 22\n"),
+    ("make child c.vhdx --parent b.vhdx", ""),
+    ("steps c.vhdx", "write 3 1 33\n"),
+];
+
 const LEAF: Merging = Merging {
-    made: &[
-        ("make dynamic b.vhdx --sectors 8192 --block 1", ""),
-        ("steps b.vhdx", "write 2048 1 22\n"),
-        ("make child c.vhdx --parent b.vhdx", ""),
-        ("steps c.vhdx", "write 3 1 33\n"),
-    ],
+    made: TWO_FILES,
     opened: 2,
     line: MERGE,
     gone: GONE,
@@ -80,15 +71,20 @@ const LEAF: Merging = Merging {
     last: (2_097_162, &[6, 0]),
 };
 
-const ROW: Case = Case {
-    line: MERGE,
-    script: "write 0 1 11\nfetch 0\nwrite 1 1 bb\nput\ncopy\nfinish\nread 0 2\nfinish\nput\nfetch 0\n",
-    text: "1 write 0 1 11 = done\n- fetch 0 = stamp 1\n2 write 1 1 bb = done\n- put = refused 46 Stale taken 1 now 2\n- copy = done\n- finish = done\n3 read 0 2 = 512*11 512*bb\n- finish = refused 45 NoMerge\n- put = refused 45 NoMerge\n- fetch 0 = refused 45 NoMerge\n",
-    ..PLAIN
-};
+// A write before the put, which is refused; and the end of the merge.
+const STALE: &str =
+    "write 0 1 11\nfetch 0\nwrite 1 1 bb\nput\ncopy\nfinish\nread 0 2\nfinish\nput\nfetch 0\n";
+
+const STALE_TOLD: &str =
+    "1 write 0 1 11 = done\n- fetch 0 = stamp 1\n2 write 1 1 bb = done\n- put = refused 46 Stale taken 1 now 2\n- copy = done\n- finish = done\n3 read 0 2 = 512*11 512*bb\n- finish = refused 45 NoMerge\n- put = refused 45 NoMerge\n- fetch 0 = refused 45 NoMerge\n";
 
 static TOLD: [Case; 10] = [
-    ROW,
+    Case {
+        line: MERGE,
+        script: STALE,
+        text: STALE_TOLD,
+        ..PLAIN
+    },
     Case {
         line: MERGE,
         script: "finish\nput\nfetch 4\nfetch 3\nfetch 4\nput\n",
@@ -158,76 +154,41 @@ fn what_leaf_merges_are_told(rt: HostRuntime) {
     each_is_told(&rt, rt.alloc(), &LEAF, &TOLD);
 }
 
-// What is done over one chain, line by line: a merge is not finished, begins anew and is finished; then the leaf is retired.
-static IN_TURN: [Case; 4] = [
-    Case {
-        line: MERGE,
-        script: "write 0 1 aa\ncopy\nfetch 0\n",
-        text: "1 write 0 1 aa = done\n- copy = done\n- fetch 0 = stamp 1\n",
-        ..PLAIN
-    },
-    Case {
-        line: MERGE,
-        script: "put\nfinish\nread 0 4\nread 2048 1\ncopy\nfinish\n",
-        text: "- put = refused 50 NoPiece\n- finish = refused 47 NotYet stripe 0\n1 read 0 4 = 512*aa 1024*00 512*33\n2 read 2048 1 = 512*22\n- copy = done\n- finish = done\n",
-        ..PLAIN
-    },
-    Case {
-        line: MERGE,
-        script: TO_THE_END,
-        status: Status::Refused,
-        text: GONE,
-        ..PLAIN
-    },
-    Case {
-        line: "steps c.vhdx",
-        script: "read 0 4\nread 2048 1\nwrite 0 1 bb\nread 0 1\n",
-        text: "1 read 0 4 = 512*aa 1024*00 512*33\n2 read 2048 1 = 512*22\n3 write 0 1 bb = done\n4 read 0 1 = 512*bb\n",
-        ..PLAIN
-    },
+// A merge is not finished, begins anew and is finished; then the leaf is retired.
+static IN_TURN: [Step; 5] = [
+    Step::Prepare(TWO_FILES),
+    Step::Script(
+        MERGE,
+        "write 0 1 aa\ncopy\nfetch 0\n",
+        "1 write 0 1 aa = done\n- copy = done\n- fetch 0 = stamp 1\n",
+    ),
+    Step::Script(
+        MERGE,
+        "put\nfinish\nread 0 4\nread 2048 1\ncopy\nfinish\n",
+        "- put = refused 50 NoPiece\n- finish = refused 47 NotYet stripe 0\n1 read 0 4 = 512*aa 1024*00 512*33\n2 read 2048 1 = 512*22\n- copy = done\n- finish = done\n",
+    ),
+    Step::Refused(&[MERGE], GONE),
+    Step::Script(
+        "steps c.vhdx",
+        "read 0 4\nread 2048 1\nwrite 0 1 bb\nread 0 1\n",
+        "1 read 0 4 = 512*aa 1024*00 512*33\n2 read 2048 1 = 512*22\n3 write 0 1 bb = done\n4 read 0 1 = 512*bb\n",
+    ),
 ];
-
-// The files as the case leaves them, which ends as it says. It draws identifiers that begin with the number.
-fn taken_on<R: Abort + Threads + Wait>(
-    rt: &R,
-    alloc: Global,
-    files: &ChainBytes,
-    number: u8,
-    case: &Case,
-) -> ChainBytes {
-    let mut host = host_of(rt, alloc, files);
-    let mut drawn = DRAWN;
-    for id in &mut drawn {
-        id[0] = number;
-    }
-    let told = is_told(rt, alloc, case, &drawn, &mut host);
-    assert!(rt; told, "{}", case.text);
-    held_bytes(rt, alloc, &host)
-}
 
 #[test]
 fn leaf_merges_in_turn(rt: HostRuntime) {
-    let alloc = rt.alloc();
-    let host = chain(&rt, alloc, &LEAF);
-    let mut files = held_bytes(&rt, alloc, &host);
-    for (number, case) in (1u8..).zip(&IN_TURN) {
-        files = taken_on(&rt, alloc, &files, number, case);
-    }
+    play(&rt, rt.alloc(), &IN_TURN);
 }
-
-const ZERO: &str = "refused 44 IdUnfit {00000000-0000-0000-0000-000000000000}\n";
-
-const FIRST: &str = "refused 44 IdUnfit {11111111-1111-1111-1111-111111111111}\n";
 
 const FIFTH: &str = "refused 44 IdUnfit {15151515-1515-1515-1515-151515151515}\n";
 
 // Which of those drawn is another one, of what byte, and how the merge is refused then.
 static UNFIT: [(usize, u8, &str); 6] = [
-    (0, 0, ZERO),
-    (3, 0, ZERO),
-    (6, 0, ZERO),
-    (1, 0x11, FIRST),
-    (6, 0x11, FIRST),
+    (0, 0, UNFIT_ZERO),
+    (3, 0, UNFIT_ZERO),
+    (6, 0, UNFIT_ZERO),
+    (1, 0x11, UNFIT_FIRST),
+    (6, 0x11, UNFIT_FIRST),
     (6, 0x15, FIFTH),
 ];
 
@@ -236,180 +197,171 @@ fn unfit_identifiers_of_a_leaf_merge(rt: HostRuntime) {
     each_unfit_is_refused(&rt, rt.alloc(), &LEAF, &UNFIT);
 }
 
-const MADE: [&str; 2] = [
-    "make dynamic b.vhdx --sectors 2097152",
-    "make child c.vhdx --parent b.vhdx",
-];
-
-// The parent's first block, and its two sectors.
-const BASE: [Patch<'static>; 3] = [
-    (3_145_728, &[6, 0, 0x40, 0, 0, 0, 0, 0]),
-    (4_194_304, &[0x11; 512]),
-    (4_194_816, &[0xBB; 512]),
-];
-
-// In the leaf's metadata the count of items, the locator's place, its length of 308 and its flags, and the same of the retired item; and
-// the locator's head, and of its entries the lengths.
-const ITEMS: [Patch<'static>; 7] = [
-    (2_097_162, &[7, 0]),
-    (
-        2_097_344,
+static FILES: [Step; 10] = [
+    Step::Prepare(&[
+        ("make dynamic b.vhdx --sectors 2097152", ""),
+        ("make child c.vhdx --parent b.vhdx", ""),
+    ]),
+    Step::Script(
+        MERGE,
+        "finish\nput\nfetch 1024\n",
+        "- finish = refused 47 NotYet stripe 0\n- put = refused 50 NoPiece\n- fetch 1024 = refused 49 NoStripe stripe 1024 stripes 1024\n",
+    ),
+    Step::Ids(&DRAWN),
+    Step::Script(MERGE, STALE, STALE_TOLD),
+    Step::Done(
+        "info c.vhdx",
+        "retired c.vhdx to b.vhdx\nb.vhdx dynamic sectors 2097152 sector 512 block 32 id {17171717-1717-1717-1717-171717171717} parent none\n",
+    ),
+    Step::Dump("dump c.vhdx 0 1", &[(0, 1, "11")]),
+    Step::Length("b.vhdx", 37_748_736),
+    // The parent's first block, and its two sectors.
+    Step::Stands(
+        "b.vhdx",
         &[
-            0x2D, 0x5F, 0xD3, 0xA8, 0x0B, 0xB3, 0x4D, 0x45, 0xAB, 0xF7, 0xD3, 0xD8, 0x48, 0x34,
-            0xAB, 0x0C, 0, 0x10, 1, 0, 0x34, 1, 0, 0, 4, 0, 0, 0,
+            (3_145_728, &[6, 0, 0x40, 0, 0, 0, 0, 0]),
+            (4_194_304, &[0x11; 512]),
+            (4_194_816, &[0xBB; 512]),
         ],
     ),
-    (
-        2_097_376,
+    // In the leaf's metadata the count of items, the locator's place, its length of 308 and its flags, and the same of the retired item;
+    // and the locator's head, and of its entries the lengths.
+    Step::Stands(
+        "c.vhdx",
         &[
-            0x52, 0x0A, 0x3F, 0x7D, 0x1B, 0x6C, 0x0E, 0x4E, 0x9B, 0x1A, 0x2F, 0x4C, 0x8E, 0x6D,
-            0x9A, 0x31, 0, 0x20, 1, 0, 12, 0, 0, 0, 1, 0, 0, 0,
+            (2_097_162, &[7, 0]),
+            (
+                2_097_344,
+                &[
+                    0x2D, 0x5F, 0xD3, 0xA8, 0x0B, 0xB3, 0x4D, 0x45, 0xAB, 0xF7, 0xD3, 0xD8, 0x48,
+                    0x34, 0xAB, 0x0C, 0, 0x10, 1, 0, 0x34, 1, 0, 0, 4, 0, 0, 0,
+                ],
+            ),
+            (
+                2_097_376,
+                &[
+                    0x52, 0x0A, 0x3F, 0x7D, 0x1B, 0x6C, 0x0E, 0x4E, 0x9B, 0x1A, 0x2F, 0x4C, 0x8E,
+                    0x6D, 0x9A, 0x31, 0, 0x20, 1, 0, 12, 0, 0, 0, 1, 0, 0, 0,
+                ],
+            ),
+            (
+                2_166_784,
+                &[
+                    0xB7, 0xEF, 0x4A, 0xB0, 0x9E, 0xD1, 0x81, 0x4A, 0xB7, 0x89, 0x25, 0xB8, 0xE9,
+                    0x44, 0x59, 0x13, 0, 0, 3, 0,
+                ],
+            ),
+            (2_166_812, &[28, 0, 76, 0]),
+            (2_166_824, &[30, 0, 76, 0]),
+            (2_166_836, &[26, 0, 16, 0]),
         ],
     ),
-    (
-        2_166_784,
+    // The texts of the locator, from the first key on, and the name for which the leaf is retired.
+    Step::Wide(
+        "c.vhdx",
         &[
-            0xB7, 0xEF, 0x4A, 0xB0, 0x9E, 0xD1, 0x81, 0x4A, 0xB7, 0x89, 0x25, 0xB8, 0xE9, 0x44,
-            0x59, 0x13, 0, 0, 3, 0,
+            (2_166_840, "parent_linkage"),
+            (2_166_868, "{00000000-0000-0000-0000-00000000000a}"),
+            (2_166_944, "parent_linkage2"),
+            (2_166_974, "{15151515-1515-1515-1515-151515151515}"),
+            (2_167_050, "relative_path"),
+            (2_167_076, ".\\b.vhdx"),
+            (2_170_880, "b.vhdx"),
         ],
     ),
-    (2_166_812, &[28, 0, 76, 0]),
-    (2_166_824, &[30, 0, 76, 0]),
-    (2_166_836, &[26, 0, 16, 0]),
 ];
-
-// The texts of the locator, from the first key on, and the name for which the leaf is retired.
-const TEXTS: [(usize, &str); 7] = [
-    (2_166_840, "parent_linkage"),
-    (2_166_868, "{00000000-0000-0000-0000-00000000000a}"),
-    (2_166_944, "parent_linkage2"),
-    (2_166_974, "{15151515-1515-1515-1515-151515151515}"),
-    (2_167_050, "relative_path"),
-    (2_167_076, ".\\b.vhdx"),
-    (2_170_880, "b.vhdx"),
-];
-
-const TOO_SOON: &str = "finish\nput\nfetch 1024\n";
-
-const REFUSED: &str =
-    "- finish = refused 47 NotYet stripe 0\n- put = refused 50 NoPiece\n- fetch 1024 = refused 49 NoStripe stripe 1024 stripes 1024\n";
-
-const RETIRED: &str =
-    "retired c.vhdx to b.vhdx\nb.vhdx dynamic sectors 2097152 sector 512 block 32 id {17171717-1717-1717-1717-171717171717} parent none\n";
 
 #[test]
 fn files_of_a_leaf_merge(rt: HostRuntime) {
-    let alloc = rt.alloc();
-    let mut host = empty_host(alloc);
-    let mut ids = ids_of(&rt, alloc, &[]);
-    prepare(&rt, alloc, &MADE, &mut host, &mut ids);
-    let told = script_done(&rt, alloc, MERGE, TOO_SOON, &mut host, &mut ids);
-    ask_text(&rt, &told, REFUSED);
-    let mut ids = ids_of(&rt, alloc, &DRAWN);
-    let told = script_done(&rt, alloc, ROW.line, ROW.script, &mut host, &mut ids);
-    ask_text(&rt, &told, ROW.text);
-    let info = run_done(&rt, alloc, "info c.vhdx", &mut host, &mut ids);
-    ask_text(&rt, &info, RETIRED);
-    let dump = run_done(&rt, alloc, "dump c.vhdx 0 1", &mut host, &mut ids);
-    let line = line_of(&rt, alloc, "0", "11");
-    ask_text(&rt, &dump, &line);
-    let base = bytes_of(&host, "b.vhdx").expect(&rt, "no file");
-    ask_same(&rt, &base.len(), &37_748_736, "bytes");
-    assert!(rt; BASE.iter().all(|(at, bytes)| stands(base, *at, bytes)));
-    let leaf = bytes_of(&host, "c.vhdx").expect(&rt, "no file");
-    for (at, bytes) in ITEMS {
-        assert!(rt; stands(leaf, at, bytes), "{at}");
-    }
-    for (at, text) in TEXTS {
-        assert!(rt; stands_wide(&rt, alloc, leaf, at, text), "{text}");
-    }
+    play(&rt, rt.alloc(), &FILES);
 }
 
 // The next session by the leaf's name writes the parent, and the leaf no more.
-#[test]
-fn sessions_behind_a_leaf_merge(rt: HostRuntime) {
-    let alloc = rt.alloc();
-    let mut host = chain(&rt, alloc, &LEAF);
-    let mut ids = ids_of(&rt, alloc, &DRAWN);
-    script_done(&rt, alloc, MERGE, TO_THE_END, &mut host, &mut ids);
-    let before = held_bytes(&rt, alloc, &host);
-    let mut ids = ids_of(&rt, alloc, &DRAWN_LATER);
-    let script = "write 2049 1 cc\nread 2048 2\n";
-    script_done(&rt, alloc, "steps c.vhdx", script, &mut host, &mut ids);
-    let after = held_bytes(&rt, alloc, &host);
-    assert!(rt; after.leaf.as_slice() == before.leaf.as_slice());
-    // Its block of sector 2,048 is the first that was written.
-    assert!(rt; stands(&after.base, 4_194_304, &[0x22; 512]));
-    assert!(rt; stands(&after.base, 4_194_816, &[0xCC; 512]));
-}
-
-// An item in the base's metadata that it is retired, which says nothing in a parent's place: that there are six, its place and length, and
-// the name x.vhdx.
-const RETIRED_BASE: [Patch<'static>; 3] = [
-    (2_097_162, &[6, 0]),
-    (
-        2_097_344,
-        &[
-            0x52, 0x0A, 0x3F, 0x7D, 0x1B, 0x6C, 0x0E, 0x4E, 0x9B, 0x1A, 0x2F, 0x4C, 0x8E, 0x6D,
-            0x9A, 0x31, 0, 0x10, 1, 0, 12, 0, 0, 0, 1, 0, 0, 0,
-        ],
+static SESSIONS: [Step; 8] = [
+    Step::Prepare(TWO_FILES),
+    Step::Ids(&DRAWN),
+    Step::Script(MERGE, TO_THE_END, ENDED),
+    Step::Put("before", Content::Copy("c.vhdx")),
+    Step::Ids(&DRAWN_LATER),
+    Step::Script(
+        "steps c.vhdx",
+        "write 2049 1 cc\nread 2048 2\n",
+        "1 write 2049 1 cc = done\n2 read 2048 2 = 512*22 512*cc\n",
     ),
-    (
-        2_166_784,
-        &[0x78, 0, 0x2E, 0, 0x76, 0, 0x68, 0, 0x64, 0, 0x78, 0],
+    Step::Same("c.vhdx", "before"),
+    // Its block of sector 2,048 is the first that was written.
+    Step::Stands(
+        "b.vhdx",
+        &[(4_194_304, &[0x22; 512]), (4_194_816, &[0xCC; 512])],
     ),
 ];
 
-// A parent that was retired stands for itself once it takes the leaf's place: its item has no place and no length.
 #[test]
-fn a_retired_parent(rt: HostRuntime) {
-    let alloc = rt.alloc();
-    let mut files = held_bytes(&rt, alloc, &chain(&rt, alloc, &LEAF));
-    for (at, bytes) in RETIRED_BASE {
-        place(&mut files.base, at, bytes);
-    }
-    let mut host = host_of(&rt, alloc, &files);
-    let mut ids = ids_of(&rt, alloc, &DRAWN);
-    script_done(&rt, alloc, MERGE, TO_THE_END, &mut host, &mut ids);
-    let base = bytes_of(&host, "b.vhdx").expect(&rt, "no file");
-    assert!(rt; stands(base, 2_097_360, &[0, 0, 0, 0, 0, 0, 0, 0, 1, 0, 0, 0]));
-    let told = script_done(
-        &rt,
-        alloc,
-        "steps c.vhdx",
-        "read 3 1\n",
-        &mut host,
-        &mut ids,
-    );
-    ask_text(&rt, &told, "1 read 3 1 = 512*33\n");
+fn sessions_behind_a_leaf_merge(rt: HostRuntime) {
+    play(&rt, rt.alloc(), &SESSIONS);
 }
 
-const RETIRED_TWICE: &str =
-    "retired c.vhdx to m.vhdx\nretired m.vhdx to b.vhdx\nb.vhdx dynamic sectors 2097152 sector 512 block 1 id {27272727-2727-2727-2727-272727272727} parent none\n";
+// A parent that was retired stands for itself once it takes the leaf's place: its item has no place and no length.
+static RETIRED_PARENT: [Step; 6] = [
+    Step::Prepare(TWO_FILES),
+    // An item in the base's metadata that it is retired, which says nothing in a parent's place: that there are six, its place and
+    // length, and the name x.vhdx.
+    Step::Put(
+        "b.vhdx",
+        Content::Patched(&[
+            (2_097_162, &[6, 0]),
+            (
+                2_097_344,
+                &[
+                    0x52, 0x0A, 0x3F, 0x7D, 0x1B, 0x6C, 0x0E, 0x4E, 0x9B, 0x1A, 0x2F, 0x4C, 0x8E,
+                    0x6D, 0x9A, 0x31, 0, 0x10, 1, 0, 12, 0, 0, 0, 1, 0, 0, 0,
+                ],
+            ),
+            (
+                2_166_784,
+                &[0x78, 0, 0x2E, 0, 0x76, 0, 0x68, 0, 0x64, 0, 0x78, 0],
+            ),
+        ]),
+    ),
+    Step::Ids(&DRAWN),
+    Step::Script(MERGE, TO_THE_END, ENDED),
+    Step::Stands(
+        "b.vhdx",
+        &[(2_097_360, &[0, 0, 0, 0, 0, 0, 0, 0, 1, 0, 0, 0])],
+    ),
+    Step::Script("steps c.vhdx", "read 3 1\n", "1 read 3 1 = 512*33\n"),
+];
+
+#[test]
+fn a_retired_parent(rt: HostRuntime) {
+    play(&rt, rt.alloc(), &RETIRED_PARENT);
+}
 
 // The file between leaf and base takes the leaf's place, and is then merged itself.
-#[test]
-fn one_leaf_behind_another(rt: HostRuntime) {
-    let alloc = rt.alloc();
-    let mut host = chain(&rt, alloc, &MIDDLE);
-    let mut ids = ids_of(&rt, alloc, &DRAWN);
-    let script = "write 6 1 bb\ncopy\nfinish\nwrite 7 1 cc\n";
-    script_done(&rt, alloc, MERGE, script, &mut host, &mut ids);
-    let mut ids = ids_of(&rt, alloc, &DRAWN_LATER);
-    let line = "steps c.vhdx --merge m.vhdx";
-    script_done(&rt, alloc, line, TO_THE_END, &mut host, &mut ids);
-    let info = run_done(&rt, alloc, "info c.vhdx", &mut host, &mut ids);
-    ask_text(&rt, &info, RETIRED_TWICE);
-    let told = script_done(
-        &rt,
-        alloc,
+static TWO_LEAVES: [Step; 7] = [
+    Step::Prepare(THREE_FILES),
+    Step::Ids(&DRAWN),
+    Step::Script(
+        MERGE,
+        "write 6 1 bb\ncopy\nfinish\nwrite 7 1 cc\n",
+        "1 write 6 1 bb = done\n- copy = done\n- finish = done\n2 write 7 1 cc = done\n",
+    ),
+    Step::Ids(&DRAWN_LATER),
+    Step::Script("steps c.vhdx --merge m.vhdx", TO_THE_END, ENDED),
+    Step::Done(
+        "info c.vhdx",
+        "retired c.vhdx to m.vhdx\nretired m.vhdx to b.vhdx\nb.vhdx dynamic sectors 2097152 sector 512 block 1 id {27272727-2727-2727-2727-272727272727} parent none\n",
+    ),
+    Step::Script(
         "steps c.vhdx",
         "read 4 5\n",
-        &mut host,
-        &mut ids,
-    );
-    let text = "1 read 4 5 = 512*00 512*22 512*bb 512*cc 512*00\n";
-    ask_text(&rt, &told, text);
+        "1 read 4 5 = 512*00 512*22 512*bb 512*cc 512*00\n",
+    ),
+];
+
+#[test]
+fn one_leaf_behind_another(rt: HostRuntime) {
+    play(&rt, rt.alloc(), &TWO_LEAVES);
 }
 
 #[test]

@@ -5,8 +5,8 @@ ghost use Rattle.mem_store.specs.HostTold.{hosted_by};
 ghost use Rattle.store_model.specs.Disk.{WhereTold};
 
 use crate::common::{
-    Case, add, ask_text, bytes_of, empty_host, ids_of, is_told, listed, prepare_scripts, run_done,
-    run_script, says, script_done, stands,
+    Case, add, ask_text, bytes_of, empty_host, ids_of, is_told, listed, prepare, run_script, says,
+    script_done, stands,
 };
 use mem_store::{MemHost, MemIds, MemStore, Pick, Returned};
 use std::alloc::Global;
@@ -15,7 +15,10 @@ use std::sync::Wait;
 use std::thread::Threads;
 use vhdx_app::Status;
 
+/// The script of a merge that goes to its end, and what it prints.
 pub const TO_THE_END: &str = "copy\nfinish\n";
+
+pub const ENDED: &str = "- copy = done\n- finish = done\n";
 
 // What a session with a merge draws, at most.
 pub const DRAWN: [[u8; 16]; 8] = [
@@ -26,6 +29,11 @@ pub const DRAWN: [[u8; 16]; 8] = [
 pub const DRAWN_LATER: [[u8; 16]; 8] = [
     [0x21; 16], [0x22; 16], [0x23; 16], [0x24; 16], [0x25; 16], [0x26; 16], [0x27; 16], [0x28; 16],
 ];
+
+/// How a session is refused that draws zeros, or the first one again.
+pub const UNFIT_ZERO: &str = "refused 44 IdUnfit {00000000-0000-0000-0000-000000000000}\n";
+
+pub const UNFIT_FIRST: &str = "refused 44 IdUnfit {11111111-1111-1111-1111-111111111111}\n";
 
 /// What stands around the identifier in a line of a file.
 pub type Line = [&'static str; 2];
@@ -63,33 +71,33 @@ impl Merging {
     }
 }
 
-/// A chain to be merged.
-pub fn chain<R: Abort + Threads + Wait>(rt: &R, alloc: Global, of: &Merging) -> MemHost
+// A chain to be merged.
+fn chain<R: Abort + Threads + Wait>(rt: &R, alloc: Global, of: &Merging) -> MemHost
     ensures { WhereTold (hosted_by result).folder AllIdle }
 {
     let mut host = empty_host(alloc);
     let mut ids = ids_of(rt, alloc, &[]);
-    prepare_scripts(rt, alloc, of.made, &mut host, &mut ids);
+    prepare(rt, alloc, of.made, &mut host, &mut ids);
     host
 }
 
 /// The bytes of the chain's files.
 #[derive(Drop)]
-pub struct ChainBytes {
-    pub base: Vec<u8>,
+struct ChainBytes {
+    base: Vec<u8>,
     /// Nothing where there is no such file.
-    pub middle: Vec<u8>,
-    pub leaf: Vec<u8>,
+    middle: Vec<u8>,
+    leaf: Vec<u8>,
 }
 
-/// A copy of the file of this name; nothing where there is none.
-pub fn copy_of<R: Abort>(rt: &R, alloc: Global, host: &MemHost, name: &str) -> Vec<u8> {
+// A copy of the file of this name; nothing where there is none.
+fn copy_of<R: Abort>(rt: &R, alloc: Global, host: &MemHost, name: &str) -> Vec<u8> {
     let bytes = bytes_of(host, name).unwrap_or(&[]);
     bytes.to_vec(alloc).expect(rt, "no memory")
 }
 
-/// What stands in the host.
-pub fn held_bytes<R: Abort>(rt: &R, alloc: Global, host: &MemHost) -> ChainBytes {
+// What stands in the host.
+fn held_bytes<R: Abort>(rt: &R, alloc: Global, host: &MemHost) -> ChainBytes {
     ChainBytes {
         base: copy_of(rt, alloc, host, "b.vhdx"),
         middle: copy_of(rt, alloc, host, "m.vhdx"),
@@ -107,8 +115,8 @@ fn add_middle<R: Abort>(rt: &R, alloc: Global, host: &mut MemHost, bytes: &[u8])
     }
 }
 
-/// A host of these files.
-pub fn host_of<R: Abort>(rt: &R, alloc: Global, files: &ChainBytes) -> MemHost
+// A host of these files.
+fn host_of<R: Abort>(rt: &R, alloc: Global, files: &ChainBytes) -> MemHost
     ensures { WhereTold (hosted_by result).folder AllIdle }
 {
     let mut host = empty_host(alloc);
@@ -118,7 +126,7 @@ pub fn host_of<R: Abort>(rt: &R, alloc: Global, files: &ChainBytes) -> MemHost
     host
 }
 
-pub fn are_same(files: &ChainBytes, others: &ChainBytes) -> bool {
+fn are_same(files: &ChainBytes, others: &ChainBytes) -> bool {
     files.base.as_slice() == others.base.as_slice()
         && files.middle.as_slice() == others.middle.as_slice()
         && files.leaf.as_slice() == others.leaf.as_slice()
@@ -133,7 +141,8 @@ pub fn each_is_told<R: Abort + Threads + Wait>(
 ) {
     for case in cases {
         let mut host = chain(rt, alloc, of);
-        let told = is_told(rt, alloc, case, &DRAWN, &mut host);
+        let mut ids = ids_of(rt, alloc, &DRAWN);
+        let told = is_told(rt, alloc, case, &mut host, &mut ids);
         assert!(rt; told, "{}", case.text);
     }
 }
@@ -205,10 +214,10 @@ fn merged_in<R: Abort>(rt: &R, of: &Merging, text: &[u8]) -> bool {
 }
 
 /// What an opened chain shows: how many of the session's bytes are written, and whether the source has left it.
-#[derive(Clone, Copy, Debug, PartialEq, Eq)]
-pub struct Shown {
-    pub written: u64,
-    pub merged: bool,
+#[derive(Clone, Copy, PartialEq)]
+struct Shown {
+    written: u64,
+    merged: bool,
 }
 
 const BEGUN: Shown = Shown {
@@ -229,7 +238,7 @@ fn look_at<R: Abort + Threads + Wait>(
     let line = "steps c.vhdx --read-only";
     let script = "read 0 2048\nread 2048 2048\n";
     let disk = script_done(rt, alloc, line, script, host, ids);
-    let info = run_done(rt, alloc, "info c.vhdx", host, ids);
+    let info = script_done(rt, alloc, "info c.vhdx", "", host, ids);
     Shown {
         written: written_in(rt, of, &disk.bytes),
         merged: merged_in(rt, of, &info.bytes),
@@ -250,7 +259,7 @@ fn end_merge<R: Abort + Threads + Wait>(
     let (status, text) = if merged {
         (Status::Refused, of.gone)
     } else {
-        (Status::Done, "- copy = done\n- finish = done\n")
+        (Status::Done, ENDED)
     };
     let (met, out) = run_script(rt, alloc, of.line, TO_THE_END, host, ids);
     assert!(rt; met == status && says(&out, text), "not merged to the end");

@@ -1,29 +1,32 @@
 //! The merge of a file inside a chain in memory: what its lines are told, what stands in the files behind it, and what a crash
 //! at each moment or a failing call leaves, from which the merge goes on to its end.
 
-use crate::common::{
-    Case, PLAIN, ask_same, ask_text, bytes_of, ids_of, is_told, run_done, script_done, stands,
-};
+use crate::common::{Case, PLAIN};
 use crate::merge_crashes::{
-    DRAWN, DRAWN_LATER, Merging, TO_THE_END, chain, each_failing_call, each_is_told, each_pick,
-    each_unfit_is_refused,
+    DRAWN, DRAWN_LATER, ENDED, Merging, TO_THE_END, UNFIT_FIRST, UNFIT_ZERO, each_failing_call,
+    each_is_told, each_pick, each_unfit_is_refused,
 };
+use crate::stories::{Step, play};
 use mem_store::Pick;
 use vhdx_app::Status;
 
 const MERGE: &str = "steps c.vhdx --merge m.vhdx";
 
-// A chain of three files. Sector 5 of its disk stands in the middle one, and nothing in the others.
-pub const MIDDLE: Merging = Merging {
-    made: &[
-        ("make dynamic b.vhdx --sectors 2097152 --block 1", ""),
-        ("make child m.vhdx --parent b.vhdx", ""),
-        ("steps m.vhdx", "write 5 1 22\n"),
-        ("make child c.vhdx --parent m.vhdx", ""),
-    ],
+const GONE: &str = "refused 40 NotInChain m.vhdx\n";
+
+/// A chain of three files. Sector 5 of its disk stands in the middle one, and nothing in the others.
+pub const THREE_FILES: &[(&str, &str)] = &[
+    ("make dynamic b.vhdx --sectors 2097152 --block 1", ""),
+    ("make child m.vhdx --parent b.vhdx", ""),
+    ("steps m.vhdx", "write 5 1 22\n"),
+    ("make child c.vhdx --parent m.vhdx", ""),
+];
+
+const MIDDLE: Merging = Merging {
+    made: THREE_FILES,
     opened: 3,
     line: MERGE,
-    gone: "refused 40 NotInChain m.vhdx\n",
+    gone: GONE,
     script: "write 0 1 aa\nflush\ncopy\nfinish\n",
     flushed: "1 write 0 1 aa = done\n2 flush = done\n",
     finished: "1 write 0 1 aa = done\n2 flush = done\n- copy = done\n- finish = done\n",
@@ -131,43 +134,21 @@ static TOLD: [Case; 9] = [
     },
 ];
 
-const GONE: Case = Case {
-    line: MERGE,
-    script: TO_THE_END,
-    status: Status::Refused,
-    text: "refused 40 NotInChain m.vhdx\n",
-    ..PLAIN
-};
-
 #[test]
 fn what_merges_are_told(rt: HostRuntime) {
     each_is_told(&rt, rt.alloc(), &MIDDLE, &TOLD);
 }
 
-#[test]
-fn what_is_told_behind_a_merge(rt: HostRuntime) {
-    let alloc = rt.alloc();
-    let mut host = chain(&rt, alloc, &MIDDLE);
-    let mut ids = ids_of(&rt, alloc, &DRAWN);
-    script_done(&rt, alloc, MERGE, TO_THE_END, &mut host, &mut ids);
-    let told = is_told(&rt, alloc, &GONE, &DRAWN_LATER, &mut host);
-    assert!(rt; told);
-}
-
-const ZERO: &str = "refused 44 IdUnfit {00000000-0000-0000-0000-000000000000}\n";
-
-const FIRST: &str = "refused 44 IdUnfit {11111111-1111-1111-1111-111111111111}\n";
-
 const SIXTH: &str = "refused 44 IdUnfit {16161616-1616-1616-1616-161616161616}\n";
 
 // Which of those drawn is another one, of what byte, and how the merge is refused then.
 static UNFIT: [(usize, u8, &str); 7] = [
-    (0, 0, ZERO),
-    (3, 0, ZERO),
-    (7, 0, ZERO),
-    (1, 0x11, FIRST),
-    (4, 0x11, FIRST),
-    (7, 0x11, FIRST),
+    (0, 0, UNFIT_ZERO),
+    (3, 0, UNFIT_ZERO),
+    (7, 0, UNFIT_ZERO),
+    (1, 0x11, UNFIT_FIRST),
+    (4, 0x11, UNFIT_FIRST),
+    (7, 0x11, UNFIT_FIRST),
     (7, 0x16, SIXTH),
 ];
 
@@ -176,26 +157,34 @@ fn an_unfit_identifier(rt: HostRuntime) {
     each_unfit_is_refused(&rt, rt.alloc(), &MIDDLE, &UNFIT);
 }
 
-const MERGED_INFO: &str =
-    "c.vhdx child sectors 2097152 sector 512 block 2 id {12121212-1212-1212-1212-121212121212} parent b.vhdx\nb.vhdx dynamic sectors 2097152 sector 512 block 1 id {17171717-1717-1717-1717-171717171717} parent none\n";
+const DUMP: &str = "dump c.vhdx 0 2048";
+
+static FILES: [Step; 10] = [
+    Step::Prepare(THREE_FILES),
+    Step::Ids(&DRAWN),
+    Step::Dump(DUMP, &[(0, 5, "00"), (5, 6, "22"), (6, 2_048, "00")]),
+    Step::Script(MERGE, TO_THE_END, ENDED),
+    Step::Done(
+        "info c.vhdx",
+        "c.vhdx child sectors 2097152 sector 512 block 2 id {12121212-1212-1212-1212-121212121212} parent b.vhdx\nb.vhdx dynamic sectors 2097152 sector 512 block 1 id {17171717-1717-1717-1717-171717171717} parent none\n",
+    ),
+    Step::Dump(DUMP, &[(0, 5, "00"), (5, 6, "22"), (6, 2_048, "00")]),
+    // The base has its first block, at its old end.
+    Step::Length("b.vhdx", 5_242_880),
+    Step::Stands(
+        "b.vhdx",
+        &[
+            (3_145_728, &[6, 0, 0x40, 0, 0, 0, 0, 0]),
+            (4_196_864, &[0x22; 512]),
+        ],
+    ),
+    Step::Ids(&DRAWN_LATER),
+    Step::Refused(&[MERGE], GONE),
+];
 
 #[test]
 fn files_of_a_merge(rt: HostRuntime) {
-    let alloc = rt.alloc();
-    let mut host = chain(&rt, alloc, &MIDDLE);
-    let mut ids = ids_of(&rt, alloc, &DRAWN);
-    let dump = "dump c.vhdx 0 2048";
-    let before = run_done(&rt, alloc, dump, &mut host, &mut ids);
-    script_done(&rt, alloc, MERGE, TO_THE_END, &mut host, &mut ids);
-    let info = run_done(&rt, alloc, "info c.vhdx", &mut host, &mut ids);
-    ask_text(&rt, &info, MERGED_INFO);
-    let after = run_done(&rt, alloc, dump, &mut host, &mut ids);
-    assert!(rt; after.bytes == before.bytes);
-    // The base has its first block, at its old end.
-    let base = bytes_of(&host, "b.vhdx").expect(&rt, "no file");
-    ask_same(&rt, &base.len(), &5_242_880, "bytes");
-    assert!(rt; stands(base, 3_145_728, &[6, 0, 0x40, 0, 0, 0, 0, 0]));
-    assert!(rt; stands(base, 4_196_864, &[0x22; 512]));
+    play(&rt, rt.alloc(), &FILES);
 }
 
 #[test]

@@ -5,9 +5,10 @@ ghost use Rattle.mem_store.specs.HostTold.{hosted_by};
 ghost use Rattle.store_model.specs.Disk.{WhereTold};
 
 use crate::common::{
-    Case, PLAIN, add_text, ask_same, bytes_of, each_ends, empty_host, host_after, host_with,
-    ids_of, line_of, listed, owned, prepare, run_line, run_script, says, stands,
+    Case, PLAIN, add_text, bytes_of, each_ends, empty_host, host_with, ids_of, line_of, listed,
+    owned, run_script, says, script_done,
 };
+use crate::stories::{Step, play};
 use mem_store::{Crash, MemHost, MemSink, Pick};
 use std::alloc::Global;
 use std::process::Abort;
@@ -23,14 +24,14 @@ const CHILD: &str = "make child c.vhdx --parent b.vhdx";
 
 static TOLD: [Case; 9] = [
     Case {
-        before: &[BASE],
+        before: &[(BASE, "")],
         line: "steps b.vhdx",
         script: "read 2095104 2048\nread 0 2049\nread 2097152 1\nread 0 0\n",
         text: "1 read 2095104 2048 = 1048576*00\n- read 0 2049 = refused 33 TooLong count 2049 limit 2048\n- read 2097152 1 = refused 32 OutOfRange first 2097152 count 1 sectors 2097152\n- read 0 0 = refused 31 EmptyRange\n",
         ..PLAIN
     },
     Case {
-        before: &[BASE],
+        before: &[(BASE, "")],
         line: "steps b.vhdx",
         ..PLAIN
     },
@@ -50,21 +51,21 @@ static TOLD: [Case; 9] = [
         ..PLAIN
     },
     Case {
-        before: &[SMALL_BLOCKS],
+        before: &[(SMALL_BLOCKS, "")],
         line: "steps d.vhdx --read-only",
         script: "read 0 1\nwrite 0 1 aa\nflush\n",
         text: "1 read 0 1 = 512*00\n- write 0 1 aa = refused 34 ReadOnly\n- flush = refused 34 ReadOnly\n",
         ..PLAIN
     },
     Case {
-        before: &[BASE, CHILD],
+        before: &[(BASE, ""), (CHILD, "")],
         line: "steps c.vhdx",
         script: "write 4095 2 aa\nread 4094 4\n",
         text: "1 write 4095 2 aa = done\n2 read 4094 4 = 512*00 1024*aa 512*00\n",
         ..PLAIN
     },
     Case {
-        before: &[BASE],
+        before: &[(BASE, "")],
         line: "steps b.vhdx",
         script: "write 0 2049 aa\ntrim 0 524289\ntrim 0 524288\nflush\n",
         text: "- write 0 2049 aa = refused 33 TooLong count 2049 limit 2048\n- trim 0 524289 = refused 33 TooLong count 524289 limit 524288\n1 trim 0 524288 = done\n2 flush = done\n",
@@ -72,7 +73,7 @@ static TOLD: [Case; 9] = [
     },
     // The base's own identifier is drawn again for the session.
     Case {
-        before: &[BASE],
+        before: &[(BASE, "")],
         drawn: &[[1; 16], [2; 16], [3; 16], [2; 16]],
         line: "steps b.vhdx",
         script: "flush\n",
@@ -81,7 +82,7 @@ static TOLD: [Case; 9] = [
         ..PLAIN
     },
     Case {
-        before: &[BASE],
+        before: &[(BASE, "")],
         drawn: &[[1; 16], [2; 16], [3; 16], [0; 16]],
         line: "steps b.vhdx",
         status: Status::Refused,
@@ -95,99 +96,71 @@ fn what_scripts_are_told(rt: HostRuntime) {
     each_ends(&rt, rt.alloc(), &TOLD)
 }
 
-const NO_FLUSH: &str = "write 0 1 aa\ntrim 0 2048\nwrite 2047 1 bb\nread 2046 2\n";
-
-const WITH_FLUSH: &str = "write 0 1 aa\ntrim 0 2048\nflush\nwrite 2047 1 bb\nread 2046 2\n";
-
-/// A case, the file that it leaves of so many bytes, and some of these by their places.
-type Left = (Case, &'static str, usize, &'static [(usize, [u8; 8])]);
-
 // A block that was trimmed leaves its place, which is given again once that is committed.
-static PLACES: [Left; 2] = [
-    (
-        Case {
-            before: &[SMALL_BLOCKS],
-            line: "steps d.vhdx",
-            script: NO_FLUSH,
-            text: "1 write 0 1 aa = done\n2 trim 0 2048 = done\n3 write 2047 1 bb = done\n4 read 2046 2 = 512*00 512*bb\n",
-            ..PLAIN
-        },
-        "d.vhdx",
-        6_291_456,
-        &[(3_145_728, [6, 0, 0x50, 0, 0, 0, 0, 0])],
+static PLACES: [Step; 8] = [
+    Step::Prepare(&[(SMALL_BLOCKS, "")]),
+    Step::Script(
+        "steps d.vhdx",
+        "write 0 1 aa\ntrim 0 2048\nwrite 2047 1 bb\nread 2046 2\n",
+        "1 write 0 1 aa = done\n2 trim 0 2048 = done\n3 write 2047 1 bb = done\n4 read 2046 2 = 512*00 512*bb\n",
     ),
-    (
-        Case {
-            before: &[SMALL_BLOCKS],
-            line: "steps d.vhdx",
-            script: WITH_FLUSH,
-            text: "1 write 0 1 aa = done\n2 trim 0 2048 = done\n3 flush = done\n4 write 2047 1 bb = done\n5 read 2046 2 = 512*00 512*bb\n",
-            ..PLAIN
-        },
-        "d.vhdx",
-        5_242_880,
-        &[(3_145_728, [6, 0, 0x40, 0, 0, 0, 0, 0])],
+    Step::Length("d.vhdx", 6_291_456),
+    Step::Stands("d.vhdx", &[(3_145_728, &[6, 0, 0x50, 0, 0, 0, 0, 0])]),
+    Step::Prepare(&[("make dynamic e.vhdx --sectors 2097152 --block 1", "")]),
+    Step::Script(
+        "steps e.vhdx",
+        "write 0 1 aa\ntrim 0 2048\nflush\nwrite 2047 1 bb\nread 2046 2\n",
+        "1 write 0 1 aa = done\n2 trim 0 2048 = done\n3 flush = done\n4 write 2047 1 bb = done\n5 read 2046 2 = 512*00 512*bb\n",
     ),
+    Step::Length("e.vhdx", 5_242_880),
+    Step::Stands("e.vhdx", &[(3_145_728, &[6, 0, 0x40, 0, 0, 0, 0, 0])]),
 ];
-
-// Asks that a case leaves its file so.
-fn ask_left<R: Abort + Threads + Wait>(rt: &R, alloc: Global, left: &Left) {
-    let (case, name, len, parts) = left;
-    let host = host_after(rt, alloc, case).expect(rt, "not told so");
-    let file = bytes_of(&host, name).expect(rt, "no file");
-    ask_same(rt, &file.len(), len, case.script);
-    let stand = parts.iter().all(|(at, bytes)| stands(file, *at, bytes));
-    assert!(rt; stand, "{}", case.script);
-}
 
 #[test]
 fn places_of_blocks(rt: HostRuntime) {
-    for left in &PLACES {
-        ask_left(&rt, rt.alloc(), left);
-    }
+    play(&rt, rt.alloc(), &PLACES);
 }
 
 // Blocks of a child become partly present, with the bitmap block of their chunk, and bytes that stand then in the file.
-static IN_CHUNKS: [Left; 2] = [
-    (
-        Case {
-            before: &[BASE, CHILD],
-            line: "steps c.vhdx",
-            script: "write 4095 2 aa\nread 4094 4\n",
-            text: "1 write 4095 2 aa = done\n2 read 4094 4 = 512*00 1024*aa 512*00\n",
-            ..PLAIN
-        },
+static IN_CHUNKS: [Step; 8] = [
+    Step::Prepare(&[(BASE, ""), (CHILD, "")]),
+    Step::Script(
+        "steps c.vhdx",
+        "write 4095 2 aa\nread 4094 4\n",
+        "1 write 4095 2 aa = done\n2 read 4094 4 = 512*00 1024*aa 512*00\n",
+    ),
+    Step::Length("c.vhdx", 9_437_184),
+    Step::Stands(
         "c.vhdx",
-        9_437_184,
         &[
-            (3_145_728, [7, 0, 0x50, 0, 0, 0, 0, 0]),
-            (3_145_736, [7, 0, 0x70, 0, 0, 0, 0, 0]),
-            (3_162_112, [6, 0, 0x40, 0, 0, 0, 0, 0]),
+            (3_145_728, &[7, 0, 0x50, 0, 0, 0, 0, 0]),
+            (3_145_736, &[7, 0, 0x70, 0, 0, 0, 0, 0]),
+            (3_162_112, &[6, 0, 0x40, 0, 0, 0, 0, 0]),
         ],
     ),
-    (
-        Case {
-            before: &["make dynamic b.vhdx --sectors 16777216", CHILD],
-            line: "steps c.vhdx",
-            script: "write 8388609 1 aa\nread 8388608 3\n",
-            text: "1 write 8388609 1 aa = done\n2 read 8388608 3 = 512*00 512*aa 512*00\n",
-            ..PLAIN
-        },
-        "c.vhdx",
-        7_340_032,
+    Step::Prepare(&[
+        ("make dynamic d.vhdx --sectors 16777216", ""),
+        ("make child e.vhdx --parent d.vhdx", ""),
+    ]),
+    Step::Script(
+        "steps e.vhdx",
+        "write 8388609 1 aa\nread 8388608 3\n",
+        "1 write 8388609 1 aa = done\n2 read 8388608 3 = 512*00 512*aa 512*00\n",
+    ),
+    Step::Length("e.vhdx", 7_340_032),
+    Step::Stands(
+        "e.vhdx",
         &[
-            (3_162_120, [7, 0, 0x50, 0, 0, 0, 0, 0]),
-            (3_178_504, [6, 0, 0x40, 0, 0, 0, 0, 0]),
-            (4_194_304, [2, 0, 0, 0, 0, 0, 0, 0]),
+            (3_162_120, &[7, 0, 0x50, 0, 0, 0, 0, 0]),
+            (3_178_504, &[6, 0, 0x40, 0, 0, 0, 0, 0]),
+            (4_194_304, &[2, 0, 0, 0, 0, 0, 0, 0]),
         ],
     ),
 ];
 
 #[test]
 fn blocks_of_a_child(rt: HostRuntime) {
-    for left in &IN_CHUNKS {
-        ask_left(&rt, rt.alloc(), left);
-    }
+    play(&rt, rt.alloc(), &IN_CHUNKS);
 }
 
 // A sector's line of a dump: so many bytes bb, then zeros.
@@ -214,8 +187,7 @@ fn first_sectors<R: Abort + Threads + Wait>(
     requires { WhereTold (hosted_by host.old).folder AllIdle }
 {
     let mut ids = ids_of(rt, alloc, &[]);
-    let (status, out) = run_line(rt, alloc, "dump d.vhdx 0 2", host, &mut ids);
-    assert!(rt; status == Status::Done, "not dumped");
+    let out = script_done(rt, alloc, "dump d.vhdx 0 2", "", host, &mut ids);
     for (zero, one, shown) in [
         ("00", 0, [0, 0]),
         ("aa", 0, [0xAA, 0]),
@@ -253,7 +225,7 @@ fn crashed<R: Abort + Threads + Wait>(
 ) -> Option<[u8; 2]> {
     let mut host = empty_host(alloc);
     let mut ids = ids_of(rt, alloc, &[]);
-    prepare(rt, alloc, &[SMALL_BLOCKS], &mut host, &mut ids);
+    script_done(rt, alloc, SMALL_BLOCKS, "", &mut host, &mut ids);
     // The opening's store comes back first.
     let store = host.returned.checked_add(1).expect(rt, "no number");
     host.crash = Some(Crash {
@@ -319,18 +291,26 @@ fn failed<R: Abort + Threads + Wait>(
 ) -> (MemHost, Status, MemSink) {
     let mut host = empty_host(alloc);
     let mut ids = ids_of(rt, alloc, &[]);
-    prepare(rt, alloc, &[SMALL_BLOCKS], &mut host, &mut ids);
+    script_done(rt, alloc, SMALL_BLOCKS, "", &mut host, &mut ids);
     host.failing_in_store = listed(rt, alloc, call);
     let (status, out) = run_script(rt, alloc, "steps d.vhdx", TO_BREAK, &mut host, &mut ids);
     (host, status, out)
 }
 
+// Asks that what the failing call has left opens, and that the same script runs over it.
+fn ask_unbroken<R: Abort + Threads + Wait>(rt: &R, alloc: Global, host: &MemHost, call: u64) {
+    let bytes = bytes_of(host, "d.vhdx").expect(rt, "no file");
+    let mut again = host_with(rt, alloc, "d.vhdx", bytes);
+    let mut ids = ids_of(rt, alloc, &[[7; 16], [8; 16], [9; 16]]);
+    let (status, out) = run_script(rt, alloc, "steps d.vhdx", TO_BREAK, &mut again, &mut ids);
+    assert!(rt; status == Status::Done && says(&out, UNBROKEN), "{call}");
+}
+
 #[test]
 fn failing_calls(rt: HostRuntime) {
-    let alloc = rt.alloc();
     let mut broken = false;
     for call in 1..1000 {
-        let (host, status, out) = failed(&rt, alloc, call);
+        let (host, status, out) = failed(&rt, rt.alloc(), call);
         if status == Status::Done {
             assert!(rt; call > 20);
             break;
@@ -338,12 +318,7 @@ fn failing_calls(rt: HostRuntime) {
         assert!(rt; status == Status::Fault, "{call}");
         // Where a write or a sync of the flush fails it breaks the session, for all calls behind it.
         broken |= says(&out, BROKEN);
-        // The file opens, and the same script runs over it.
-        let bytes = bytes_of(&host, "d.vhdx").expect(&rt, "no file");
-        let mut again = host_with(&rt, alloc, "d.vhdx", bytes);
-        let mut ids = ids_of(&rt, alloc, &[[7; 16], [8; 16], [9; 16]]);
-        let (status, out) = run_script(&rt, alloc, "steps d.vhdx", TO_BREAK, &mut again, &mut ids);
-        assert!(rt; status == Status::Done && says(&out, UNBROKEN), "{call}");
+        ask_unbroken(&rt, rt.alloc(), &host, call);
     }
     assert!(rt; broken);
 }
