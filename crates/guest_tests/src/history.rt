@@ -1,9 +1,7 @@
 //! Ranges at their edges, and entries that are kept.
 
-use crate::asking::{ask, ask_row};
-use guest_model::{
-    Call, CallRef, Caller, ChainRefusal, Entry, KeepAll, KeepMarks, Recorder, check_range,
-};
+use crate::asking::{are_bytes, ask, done};
+use guest_model::{Call, CallRef, Caller, ChainRefusal, KeepAll, KeepMarks, Recorder, check_range};
 use std::process::Abort;
 
 // A disk of 1 GB, in sectors.
@@ -48,7 +46,7 @@ static RANGES: [(u64, u64, Result<(), ChainRefusal>); 6] = [
 fn ranges(rt: HostRuntime) {
     for (row, (first, count, wanted)) in RANGES.iter().enumerate() {
         let found = check_range(*first, *count, 2_048, SECTORS);
-        ask_row(&rt, found == *wanted, row);
+        ask(&rt, row, found == *wanted);
     }
 }
 
@@ -69,16 +67,16 @@ static CALLS: [(u64, CallRef<'static>); 3] = [
 fn note_some<R: Abort, K: Recorder>(rt: &R, recorder: &mut K) {
     for (no, call) in &CALLS {
         let caller = Caller { guest: 7, no: *no };
-        recorder.note(caller, *call).expect(rt, "no room");
+        done(rt, recorder.note(caller, *call));
     }
-    ask(rt, recorder.len() == 3, "noted");
+    ask(rt, 1, recorder.len() == 3);
     recorder.drop_last();
-    ask(rt, recorder.len() == 2, "left");
+    ask(rt, 2, recorder.len() == 2);
 }
 
 fn is_the_write(call: &Call) -> bool {
     match call {
-        Call::Write { first, bytes } => *first == 3 && bytes.as_slice() == b"abcd".as_slice(),
+        Call::Write { first: 3, bytes } => are_bytes(bytes.as_slice(), b"abcd"),
         _ => false,
     }
 }
@@ -87,20 +85,15 @@ fn is_the_trim(call: &Call) -> bool {
     matches!(call, Call::Trim { first: 5, count: 6 })
 }
 
-// Whether these are the two calls that are left, and whose.
-fn are_left(entries: &[Entry]) -> bool {
-    entries.len() == 2
-        && is_the_write(&entries[0].call)
-        && is_the_trim(&entries[1].call)
-        && entries[1].guest == 7
-        && entries[1].no == 2
-}
-
 #[test]
 fn calls_are_kept(rt: HostRuntime) {
     let mut all = KeepAll::new(rt.alloc());
     note_some(&rt, &mut all);
     let entries = all.into_entries();
-    ask(&rt, are_left(&entries), "entries");
+    assert!(rt; entries.len() == 2);
+    ask(&rt, 3, is_the_write(&entries[0].call));
+    ask(&rt, 4, is_the_trim(&entries[1].call));
+    ask(&rt, 5, entries[1].guest == 7);
+    ask(&rt, 6, entries[1].no == 2);
     note_some(&rt, &mut KeepMarks::new());
 }

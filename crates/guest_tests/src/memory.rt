@@ -1,6 +1,6 @@
 //! Streams in memory, whose listed calls fail and no other, and stores that come back.
 
-use crate::asking::{ask, ask_row, name_of};
+use crate::asking::{are_bytes, ask, done, name_of};
 use mem_store::{Calls, Crash, MemHost, MemIds, MemSink, MemSource, MemStore, Pick};
 use std::alloc::Global;
 use std::process::Abort;
@@ -8,7 +8,7 @@ use store_model::{Ids, Sink, Source};
 
 // Calls of which this one fails.
 fn failing<R: Abort>(rt: &R, alloc: Global, call: u64) -> Calls {
-    Calls::failing([call].to_vec(alloc).expect(rt, "no memory"))
+    Calls::failing(done(rt, [call].to_vec(alloc)))
 }
 
 // How many bytes each of three reads gives, if it doesn't fail.
@@ -17,7 +17,7 @@ static READS: [Option<usize>; 3] = [Some(2), None, Some(2)];
 #[test]
 fn listed_reads_fail(rt: HostRuntime) {
     let mut source = MemSource {
-        bytes: b"abcde".to_vec(rt.alloc()).expect(&rt, "no memory"),
+        bytes: done(&rt, b"abcde".to_vec(rt.alloc())),
         at: 0,
         piece: 2,
         faults: 0,
@@ -25,9 +25,9 @@ fn listed_reads_fail(rt: HostRuntime) {
     };
     let mut out = [0; 4];
     for (row, wanted) in READS.iter().enumerate() {
-        ask_row(&rt, source.read(&mut out).ok() == *wanted, row);
+        ask(&rt, row, source.read(&mut out).ok() == *wanted);
     }
-    ask(&rt, out == *b"cd\0\0", "what the reads leave");
+    ask(&rt, 3, out == *b"cd\0\0");
 }
 
 // How many bytes each of two writes takes, if it doesn't fail.
@@ -42,23 +42,22 @@ fn listed_writes_fail(rt: HostRuntime) {
         calls: failing(&rt, rt.alloc(), 1),
     };
     for (row, wanted) in WRITES.iter().enumerate() {
-        ask_row(&rt, sink.write(b"abcd").ok() == *wanted, row);
+        ask(&rt, row, sink.write(b"abcd").ok() == *wanted);
     }
-    ask(&rt, sink.bytes.as_slice() == b"abc".as_slice(), "bytes");
+    ask(&rt, 2, are_bytes(&sink.bytes, b"abc"));
 }
 
 #[test]
 fn listed_identifiers_come_first(rt: HostRuntime) {
-    let listed = [[7; 16]].to_vec(rt.alloc()).expect(&rt, "no memory");
-    let mut ids = MemIds::new(listed);
-    ask(&rt, ids.draw() == [7; 16], "listed");
-    ask(&rt, ids.draw()[15] == 1, "the next");
+    let mut ids = MemIds::new(done(&rt, [[7; 16]].to_vec(rt.alloc())));
+    ask(&rt, 1, ids.draw() == [7; 16]);
+    ask(&rt, 2, ids.draw()[15] == 1);
 }
 
 // Puts one file into the host, which is to keep the stores that come back, and a crash of the first of them.
 fn keep_all<R: Abort>(rt: &R, alloc: Global, host: &mut MemHost) {
     let name = name_of(rt, alloc, "b");
-    host.put(&name, &[7]).expect(rt, "no room");
+    done(rt, host.put(&name, &[7]));
     host.crash = Some(Crash {
         store: 0,
         moment: 0,
@@ -79,13 +78,13 @@ fn empty_store(alloc: Global) -> MemStore {
     }
 }
 
-// Whether the host has one file alone, with these bytes.
-fn has_one(host: &MemHost, bytes: &[u8]) -> bool {
+// Whether the host has one file alone, of a single byte 7.
+fn has_one(host: &MemHost) -> bool {
     if host.slots.len() != 1 {
         return false;
     }
     match &host.slots[0].file {
-        Some(file) => file.now.as_slice() == bytes,
+        Some(file) => are_bytes(&file.now, &[7]),
         None => false,
     }
 }
@@ -105,9 +104,10 @@ fn a_store_that_comes_back_is_kept(rt: HostRuntime) {
     let store = empty_store(rt.alloc());
     host.keep_past(&store);
     host.keep_crash(&store);
-    ask(&rt, kept(&host) == 1, "kept");
-    match host.take_crashed() {
-        Some(left) => ask(&rt, has_one(&left, &[7]), "what the crash left"),
-        None => ask(&rt, false, "none was kept"),
+    ask(&rt, 1, kept(&host) == 1);
+    // what the crash left
+    match &host.take_crashed() {
+        Some(left) => ask(&rt, 2, has_one(left)),
+        None => ask(&rt, 3, false),
     }
 }

@@ -1,6 +1,6 @@
 //! Scripts, with their lines or their first broken line.
 
-use crate::asking::ask_row;
+use crate::asking::ask;
 use script::{Form, Line, ScriptKind, ScriptRefusal, read_script};
 use std::alloc::Global;
 
@@ -90,7 +90,7 @@ static SCRIPTS: [(ScriptKind, &[u8], &[Wanted]); 5] = [
 #[test]
 fn lines_are_read(rt: HostRuntime) {
     for (row, (kind, text, wanted)) in SCRIPTS.iter().enumerate() {
-        ask_row(&rt, is_read(rt.alloc(), *kind, text, wanted), row);
+        ask(&rt, row, is_read(rt.alloc(), *kind, text, wanted));
     }
 }
 
@@ -142,6 +142,6 @@ static BROKEN: [(ScriptKind, &[u8], u64); 29] = [
 #[test]
 fn the_first_broken_line_is_named(rt: HostRuntime) {
     for (row, (kind, text, line)) in BROKEN.iter().enumerate() {
-        ask_row(&rt, is_broken(rt.alloc(), *kind, text, *line), row);
+        ask(&rt, row, is_broken(rt.alloc(), *kind, text, *line));
     }
 }

@@ -2,7 +2,7 @@
 
 ghost use Rattle.std.specs.Prelude.{◌≡◌, length};
 
-use crate::asking::ask;
+use crate::asking::{ask, done, is_text};
 use guest_model::{Call, ChainRefusal, Entry};
 use script::{Answer, Form, Text, ToldCall, ToldCalls, push_answered, serve_text, steps_text};
 use std::alloc::Global;
@@ -16,7 +16,7 @@ type Row = (Option<u64>, Form, Answer<'static>);
 
 fn told<R: Abort>(rt: &R, alloc: Global, row: &Row) -> ToldCall {
     let mut text = String::new(alloc);
-    push_answered(&mut text, &NAMES, row.1, row.2).expect(rt, "no memory");
+    done(rt, push_answered(&mut text, &NAMES, row.1, row.2));
     ToldCall {
         place: row.0,
         text: Text::from_string(text),
@@ -27,10 +27,10 @@ fn told<R: Abort>(rt: &R, alloc: Global, row: &Row) -> ToldCall {
 fn ask_steps<R: Abort>(rt: &R, alloc: Global, rows: &[Row], wanted: &str) {
     let mut all = Vec::new(alloc);
     for row in rows {
-        all.push(told(rt, alloc, row)).expect(rt, "no memory");
+        done(rt, all.push(told(rt, alloc, row)));
     }
-    let text = steps_text(alloc, &all).expect(rt, "no memory");
-    ask(rt, text.as_str() == wanted, text.as_str());
+    let text = done(rt, steps_text(alloc, &all));
+    ask(rt, 1, is_text(&text, wanted));
 }
 
 const WRITE_TWO: Form = Form::Write {
@@ -125,12 +125,8 @@ fn calls<R: Abort>(rt: &R, alloc: Global, rows: &[Row; 2]) -> ToldCalls
     ensures { length result ≡ 2 }
 {
     let mut calls = ToldCalls::new(alloc);
-    calls
-        .push(told(rt, alloc, &rows[0]))
-        .expect(rt, "no memory");
-    calls
-        .push(told(rt, alloc, &rows[1]))
-        .expect(rt, "no memory");
+    done(rt, calls.push(told(rt, alloc, &rows[0])));
+    done(rt, calls.push(told(rt, alloc, &rows[1])));
     calls
 }
 
@@ -164,7 +160,7 @@ fn a_transcript_of_guests(rt: HostRuntime) {
         ToldCalls::new(alloc),
         calls(&rt, alloc, &THIRD),
     ];
-    let bytes = Bytes::from_slice(alloc, &[0xaa]).expect(&rt, "no memory");
+    let bytes = done(&rt, Bytes::from_slice(alloc, &[0xaa]));
     let history = [
         Entry {
             guest: 3,
@@ -181,6 +177,6 @@ fn a_transcript_of_guests(rt: HostRuntime) {
         2 1 1 write 0 1 aa = done\n\
         - 1 2 read 0 0 = refused 31 EmptyRange\n\
         - 3 1 read 9 0 = refused 31 EmptyRange\n";
-    let text = serve_text(alloc, &history, &guests).expect(&rt, "no memory");
-    ask(&rt, text.as_str() == wanted, text.as_str());
+    let text = done(&rt, serve_text(alloc, &history, &guests));
+    ask(&rt, 1, is_text(&text, wanted));
 }
