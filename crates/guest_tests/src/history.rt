@@ -1,87 +1,99 @@
 //! Ranges at their edges, and entries that are kept.
 
-use guest_model::{
-    Call, CallRef, Caller, ChainRefusal, Entry, KeepAll, KeepMarks, Recorder, check_range,
-};
-use std::test::Fail;
-use vx_base::NoRoom;
+use crate::asking::{are_bytes, ask, done};
+use guest_model::{Call, CallRef, Caller, ChainRefusal, KeepAll, KeepMarks, Recorder, check_range};
+use std::process::Abort;
 
 // A disk of 1 GB, in sectors.
 const SECTORS: u64 = 2_097_152;
 
+const EMPTY: ChainRefusal = ChainRefusal::EmptyRange;
+
+const TOO_LONG: ChainRefusal = ChainRefusal::TooLong {
+    count: 2_049,
+    limit: 2_048,
+};
+
+const BEHIND: ChainRefusal = ChainRefusal::OutOfRange {
+    first: SECTORS,
+    count: 1,
+    sectors: SECTORS,
+};
+
+const OVER_THE_END: ChainRefusal = ChainRefusal::OutOfRange {
+    first: 2_095_105,
+    count: 2_048,
+    sectors: SECTORS,
+};
+
+const FAR_BEHIND: ChainRefusal = ChainRefusal::OutOfRange {
+    first: u64::MAX,
+    count: 1,
+    sectors: SECTORS,
+};
+
+// Ranges with what they are answered.
+static RANGES: [(u64, u64, Result<(), ChainRefusal>); 6] = [
+    (2_095_104, 2_048, Ok(())),
+    (u64::MAX, 0, Err(EMPTY)),
+    (u64::MAX, 2_049, Err(TOO_LONG)),
+    (SECTORS, 1, Err(BEHIND)),
+    (2_095_105, 2_048, Err(OVER_THE_END)),
+    (u64::MAX, 1, Err(FAR_BEHIND)),
+];
+
 #[test]
 fn ranges(rt: HostRuntime) {
-    let empty = Err(ChainRefusal::EmptyRange);
-    let cases = [
-        (2_095_104, 2_048, Ok(())),
-        (u64::MAX, 0, empty),
-        (u64::MAX, 2_049, too_long(2_049)),
-        (SECTORS, 1, out_of_range(SECTORS, 1)),
-        (2_095_105, 2_048, out_of_range(2_095_105, 2_048)),
-        (u64::MAX, 1, out_of_range(u64::MAX, 1)),
-    ];
-    for (first, count, wanted) in cases {
-        assert!(rt;
-            check_range(first, count, 2_048, SECTORS) == wanted,
-            "{first} {count}"
-        );
+    for (row, (first, count, wanted)) in RANGES.iter().enumerate() {
+        let found = check_range(*first, *count, 2_048, SECTORS);
+        ask(&rt, row, found == *wanted);
     }
 }
 
-fn too_long(count: u64) -> Result<(), ChainRefusal> {
-    Err(ChainRefusal::TooLong {
-        count,
-        limit: 2_048,
-    })
-}
-
-fn out_of_range(first: u64, count: u64) -> Result<(), ChainRefusal> {
-    Err(ChainRefusal::OutOfRange {
-        first,
-        count,
-        sectors: SECTORS,
-    })
-}
-
-// Notes three calls of guest 7, a write of four bytes first, and takes the last back. The count before and after that.
-fn note_some<R: Recorder>(recorder: &mut R) -> Result<(u64, u64), NoRoom> {
-    let calls = [
+// Calls with their numbers, a write of four bytes first.
+static CALLS: [(u64, CallRef<'static>); 3] = [
+    (
+        1,
         CallRef::Write {
             first: 3,
             bytes: b"abcd",
         },
-        CallRef::Trim { first: 5, count: 6 },
-        CallRef::Flush,
-    ];
-    for (k, call) in calls.into_iter().enumerate() {
-        let no = k as u64 + 1;
-        recorder.note(Caller { guest: 7, no }, call)?;
+    ),
+    (2, CallRef::Trim { first: 5, count: 6 }),
+    (3, CallRef::Flush),
+];
+
+// Notes the calls of guest 7, and takes the last back.
+fn note_some<R: Abort, K: Recorder>(rt: &R, recorder: &mut K) {
+    for (no, call) in &CALLS {
+        let caller = Caller { guest: 7, no: *no };
+        done(rt, recorder.note(caller, *call));
     }
-    let before = recorder.len();
+    ask(rt, 1, recorder.len() == 3);
     recorder.drop_last();
-    Ok((before, recorder.len()))
+    ask(rt, 2, recorder.len() == 2);
 }
 
-// Whether these are the two calls that are left, and whose.
-fn are_left(entries: &[Entry]) -> bool {
-    match entries {
-        [first, second] => {
-            let wrote =
-                matches!(&first.call, Call::Write { first: 3, bytes } if bytes.as_slice() == b"abcd".as_slice());
-            let trimmed = matches!(second.call, Call::Trim { first: 5, count: 6 });
-            wrote && trimmed && second.guest == 7 && second.no == 2
-        }
+fn is_the_write(call: &Call) -> bool {
+    match call {
+        Call::Write { first: 3, bytes } => are_bytes(bytes.as_slice(), b"abcd"),
         _ => false,
     }
 }
 
+fn is_the_trim(call: &Call) -> bool {
+    matches!(call, Call::Trim { first: 5, count: 6 })
+}
+
 #[test]
-fn calls_are_kept(rt: HostRuntime) -> Result<(), Fail> {
+fn calls_are_kept(rt: HostRuntime) {
     let mut all = KeepAll::new(rt.alloc());
-    assert!(rt; note_some(&mut all)? == (3, 2));
+    note_some(&rt, &mut all);
     let entries = all.into_entries();
-    assert!(rt; are_left(&entries));
-    let mut marks = KeepMarks::new();
-    assert!(rt; note_some(&mut marks)? == (3, 2));
-    Ok(())
+    assert!(rt; entries.len() == 2);
+    ask(&rt, 3, is_the_write(&entries[0].call));
+    ask(&rt, 4, is_the_trim(&entries[1].call));
+    ask(&rt, 5, entries[1].guest == 7);
+    ask(&rt, 6, entries[1].no == 2);
+    note_some(&rt, &mut KeepMarks::new());
 }

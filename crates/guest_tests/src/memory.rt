@@ -1,85 +1,69 @@
 //! Streams in memory, whose listed calls fail and no other, and stores that come back.
 
-use mem_store::{Calls, Crash, MemHost, MemIds, MemSink, MemSource, MemStore, Pick, Slot};
+use crate::asking::{are_bytes, ask, done, name_of};
+use mem_store::{Calls, Crash, MemHost, MemIds, MemSink, MemSource, MemStore, Pick};
 use std::alloc::Global;
-use std::test::Fail;
+use std::process::Abort;
 use store_model::{Ids, Sink, Source};
-use vx_base::Name;
 
-// A source of five bytes, two of which are read at once. Its second read fails.
-fn source(alloc: Global) -> Result<MemSource, Fail> {
-    Ok(MemSource {
-        bytes: b"abcde".to_vec(alloc)?,
+// Calls of which this one fails.
+fn failing<R: Abort>(rt: &R, alloc: Global, call: u64) -> Calls {
+    Calls::failing(done(rt, [call].to_vec(alloc)))
+}
+
+// How many bytes each of three reads gives, if it doesn't fail.
+static READS: [Option<usize>; 3] = [Some(2), None, Some(2)];
+
+#[test]
+fn listed_reads_fail(rt: HostRuntime) {
+    let mut source = MemSource {
+        bytes: done(&rt, b"abcde".to_vec(rt.alloc())),
         at: 0,
         piece: 2,
         faults: 0,
-        calls: Calls::failing([2].to_vec(alloc)?),
-    })
-}
-
-// How many bytes each of three reads gives, if it doesn't fail, and what they leave.
-fn read_thrice(source: &mut MemSource) -> ([Option<usize>; 3], [u8; 4]) {
+        calls: failing(&rt, rt.alloc(), 2),
+    };
     let mut out = [0; 4];
-    let first = source.read(&mut out).ok();
-    let second = source.read(&mut out).ok();
-    let third = source.read(&mut out).ok();
-    ([first, second, third], out)
-}
-
-#[test]
-fn listed_reads_fail(rt: HostRuntime) -> Result<(), Fail> {
-    let mut source = source(rt.alloc())?;
-    let (counts, out) = read_thrice(&mut source);
-    assert_eq!(rt; counts, [Some(2), None, Some(2)]);
-    assert!(rt; out == *b"cd\0\0");
-    Ok(())
-}
-
-// A sink that takes three bytes at once. Its first write fails.
-fn sink(alloc: Global) -> Result<MemSink, Fail> {
-    Ok(MemSink {
-        bytes: Vec::new(alloc),
-        most: 3,
-        faults: 0,
-        calls: Calls::failing([1].to_vec(alloc)?),
-    })
+    for (row, wanted) in READS.iter().enumerate() {
+        ask(&rt, row, source.read(&mut out).ok() == *wanted);
+    }
+    ask(&rt, 3, out == *b"cd\0\0");
 }
 
 // How many bytes each of two writes takes, if it doesn't fail.
-fn write_twice(sink: &mut MemSink) -> [Option<usize>; 2] {
-    let first = sink.write(b"abcd").ok();
-    let second = sink.write(b"abcd").ok();
-    [first, second]
+static WRITES: [Option<usize>; 2] = [None, Some(3)];
+
+#[test]
+fn listed_writes_fail(rt: HostRuntime) {
+    let mut sink = MemSink {
+        bytes: Vec::new(rt.alloc()),
+        most: 3,
+        faults: 0,
+        calls: failing(&rt, rt.alloc(), 1),
+    };
+    for (row, wanted) in WRITES.iter().enumerate() {
+        ask(&rt, row, sink.write(b"abcd").ok() == *wanted);
+    }
+    ask(&rt, 2, are_bytes(&sink.bytes, b"abc"));
 }
 
 #[test]
-fn listed_writes_fail(rt: HostRuntime) -> Result<(), Fail> {
-    let mut sink = sink(rt.alloc())?;
-    assert_eq!(rt; write_twice(&mut sink), [None, Some(3)]);
-    assert!(rt; sink.bytes.as_slice() == b"abc".as_slice());
-    Ok(())
+fn listed_identifiers_come_first(rt: HostRuntime) {
+    let mut ids = MemIds::new(done(&rt, [[7; 16]].to_vec(rt.alloc())));
+    ask(&rt, 1, ids.draw() == [7; 16]);
+    ask(&rt, 2, ids.draw()[15] == 1);
 }
 
-#[test]
-fn listed_identifiers_come_first(rt: HostRuntime) -> Result<(), Fail> {
-    let mut ids = MemIds::new([[7; 16]].to_vec(rt.alloc())?);
-    assert_eq!(rt; ids.draw(), [7; 16]);
-    assert_eq!(rt; ids.draw()[15], 1);
-    Ok(())
-}
-
-// A host of one file, which keeps the stores that come back, and a crash of the first of them.
-fn keeping_host(alloc: Global) -> Result<MemHost, Fail> {
-    let mut host = MemHost::new(alloc);
-    let name = Name::new(alloc, "b")?;
-    host.put(&name, &[7])?;
+// Puts one file into the host, which is to keep the stores that come back, and a crash of the first of them.
+fn keep_all<R: Abort>(rt: &R, alloc: Global, host: &mut MemHost) {
+    let name = name_of(rt, alloc, "b");
+    done(rt, host.put(&name, &[7]));
     host.crash = Some(Crash {
         store: 0,
         moment: 0,
         pick: Pick::Everything,
     });
     host.keep_returned();
-    Ok(host)
 }
 
 // A store without a file.
@@ -94,27 +78,36 @@ fn empty_store(alloc: Global) -> MemStore {
     }
 }
 
-// The host that the crash left.
-fn crashed(host: &mut MemHost) -> Result<MemHost, Fail> {
-    Ok(host.take_crashed().ok_or("none was kept")?)
-}
-
-fn has_bytes(slot: &Slot, bytes: &[u8]) -> bool {
-    match &slot.file {
-        Some(file) => file.now.as_slice() == bytes,
+// Whether the host has one file alone, of a single byte 7.
+fn has_one(host: &MemHost) -> bool {
+    if host.slots.len() != 1 {
+        return false;
+    }
+    match &host.slots[0].file {
+        Some(file) => are_bytes(&file.now, &[7]),
         None => false,
     }
 }
 
+// How many stores were kept.
+fn kept(host: &MemHost) -> usize {
+    match &host.past {
+        Some(past) => past.len(),
+        None => 0,
+    }
+}
+
 #[test]
-fn a_store_that_comes_back_is_kept(rt: HostRuntime) -> Result<(), Fail> {
-    let alloc = rt.alloc();
-    let mut host = keeping_host(alloc)?;
-    let store = empty_store(alloc);
+fn a_store_that_comes_back_is_kept(rt: HostRuntime) {
+    let mut host = MemHost::new(rt.alloc());
+    keep_all(&rt, rt.alloc(), &mut host);
+    let store = empty_store(rt.alloc());
     host.keep_past(&store);
     host.keep_crash(&store);
-    assert!(rt; host.past.as_ref().is_some_and(|past| past.len() == 1));
-    let left = crashed(&mut host)?;
-    assert!(rt; left.slots.len() == 1 && left.slots.iter().all(|slot| has_bytes(slot, &[7])));
-    Ok(())
+    ask(&rt, 1, kept(&host) == 1);
+    // what the crash left
+    match &host.take_crashed() {
+        Some(left) => ask(&rt, 2, has_one(left)),
+        None => ask(&rt, 3, false),
+    }
 }

@@ -1,26 +1,38 @@
 //! Scripts, with their lines or their first broken line.
 
-use script::{Form, ScriptKind, ScriptRefusal, read_script};
+use crate::asking::ask;
+use script::{Form, Line, ScriptKind, ScriptRefusal, read_script};
 use std::alloc::Global;
-use std::test::Fail;
 
 const STEPS: ScriptKind = ScriptKind::Steps;
 
 const SERVE: ScriptKind = ScriptKind::Serve;
 
+// A line's guest and form.
+type Wanted = (u32, Form);
+
+fn is_line(line: &Line, wanted: &Wanted) -> bool {
+    line.guest == wanted.0 && line.form == wanted.1
+}
+
+fn are_lines(lines: &[Line], wanted: &[Wanted]) -> bool {
+    if lines.len() != wanted.len() {
+        return false;
+    }
+    for k in 0..lines.len() {
+        if !is_line(&lines[k], &wanted[k]) {
+            return false;
+        }
+    }
+    true
+}
+
 // Whether the text is a script of these lines.
-fn are_lines(
-    alloc: Global,
-    kind: ScriptKind,
-    text: &[u8],
-    wanted: &[(u32, Form)],
-) -> Result<bool, Fail> {
-    let script = read_script(alloc, text, kind)?;
-    let mut read = script.as_slice().iter().zip(wanted.iter());
-    Ok(
-        script.as_slice().len() == wanted.len()
-            && read.all(|(line, (guest, form))| line.guest == *guest && line.form == *form),
-    )
+fn is_read(alloc: Global, kind: ScriptKind, text: &[u8], wanted: &[Wanted]) -> bool {
+    match read_script(alloc, text, kind) {
+        Ok(script) => are_lines(script.as_slice(), wanted),
+        Err(_) => false,
+    }
 }
 
 const READ: Form = Form::Read {
@@ -44,7 +56,7 @@ const LOWEST: Form = Form::Fetch { stripe: 0 };
 const HIGHEST: Form = Form::Fetch { stripe: u32::MAX };
 
 // Texts with their lines.
-static SCRIPTS: [(ScriptKind, &[u8], &[(u32, Form)]); 5] = [
+static SCRIPTS: [(ScriptKind, &[u8], &[Wanted]); 5] = [
     (
         STEPS,
         b"# all forms\xff\x00\nread 4094 4\nwrite 0 1 aB\n\ntrim 18446744073709551615 0\nflush",
@@ -76,70 +88,60 @@ static SCRIPTS: [(ScriptKind, &[u8], &[(u32, Form)]); 5] = [
 ];
 
 #[test]
-fn lines_are_read(rt: HostRuntime) -> Result<(), Fail> {
+fn lines_are_read(rt: HostRuntime) {
     for (row, (kind, text, wanted)) in SCRIPTS.iter().enumerate() {
-        assert!(rt; are_lines(rt.alloc(), *kind, text, wanted)?, "{row}");
+        ask(&rt, row, is_read(rt.alloc(), *kind, text, wanted));
     }
-    Ok(())
 }
 
-// The number of the first broken line; None of a script.
-fn broken_line(alloc: Global, kind: ScriptKind, text: &[u8]) -> Result<Option<u64>, Fail> {
+// Whether this line is the text's first broken one.
+fn is_broken(alloc: Global, kind: ScriptKind, text: &[u8], line: u64) -> bool {
     match read_script(alloc, text, kind) {
-        Ok(_) => Ok(None),
-        Err(ScriptRefusal::Line { number }) => Ok(Some(number)),
-        Err(ScriptRefusal::NoRoom) => Err("no room")?,
+        Err(ScriptRefusal::Line { number }) => number == line,
+        _ => false,
     }
 }
 
-static BROKEN_STEPS: [(&[u8], u64); 21] = [
-    (b"flush\nwrite 0 1 g1\nread\n", 2),
-    (b"read 0 01", 1),
-    (b"read 0  1", 1),
-    (b"read 0 1 ", 1),
-    (b"read 0", 1),
-    (b" flush", 1),
-    (b"flush\r\n", 1),
-    (b"Flush", 1),
-    (b"#\n\nread 18446744073709551616 1\nnone", 3),
-    (b"write 0 1 0aa", 1),
-    (b"read -1 1", 1),
-    (b"1 flush", 1),
-    (b"\nfinished", 2),
-    (b"finish\nfinish 0", 2),
-    (b"copy\nput 1", 2),
-    (b"fetch", 1),
-    (b"fetch 0\nfetch 4294967296", 2),
-    (b"fetch 01", 1),
-    (b"fetch 0 1", 1),
-    (b"1 put", 1),
+// Texts with their first broken line.
+static BROKEN: [(ScriptKind, &[u8], u64); 29] = [
+    (STEPS, b"flush\nwrite 0 1 g1\nread\n", 2),
+    (STEPS, b"read 0 01", 1),
+    (STEPS, b"read 0  1", 1),
+    (STEPS, b"read 0 1 ", 1),
+    (STEPS, b"read 0", 1),
+    (STEPS, b" flush", 1),
+    (STEPS, b"flush\r\n", 1),
+    (STEPS, b"Flush", 1),
+    (STEPS, b"#\n\nread 18446744073709551616 1\nnone", 3),
+    (STEPS, b"write 0 1 0aa", 1),
+    (STEPS, b"read -1 1", 1),
+    (STEPS, b"1 flush", 1),
+    (STEPS, b"\nfinished", 2),
+    (STEPS, b"finish\nfinish 0", 2),
+    (STEPS, b"copy\nput 1", 2),
+    (STEPS, b"fetch", 1),
+    (STEPS, b"fetch 0\nfetch 4294967296", 2),
+    (STEPS, b"fetch 01", 1),
+    (STEPS, b"fetch 0 1", 1),
+    (STEPS, b"1 put", 1),
     (
+        STEPS,
         b"\n#23456789012345678901234567890123456789012345678901234567890123456789012345678901",
         2,
     ),
-];
-
-static BROKEN_SERVE: [&[u8]; 8] = [
-    b"flush",
-    b"0 flush",
-    b"65 flush",
-    b"1  flush",
-    b"1 fetch 0",
-    b"1 put",
-    b"1 copy",
-    b"1 finish",
+    (SERVE, b"flush", 1),
+    (SERVE, b"0 flush", 1),
+    (SERVE, b"65 flush", 1),
+    (SERVE, b"1  flush", 1),
+    (SERVE, b"1 fetch 0", 1),
+    (SERVE, b"1 put", 1),
+    (SERVE, b"1 copy", 1),
+    (SERVE, b"1 finish", 1),
 ];
 
 #[test]
-fn the_first_broken_line_is_named(rt: HostRuntime) -> Result<(), Fail> {
-    for (text, wanted) in &BROKEN_STEPS {
-        assert!(rt;
-            broken_line(rt.alloc(), STEPS, text)? == Some(*wanted),
-            "{wanted}"
-        );
+fn the_first_broken_line_is_named(rt: HostRuntime) {
+    for (row, (kind, text, line)) in BROKEN.iter().enumerate() {
+        ask(&rt, row, is_broken(rt.alloc(), *kind, text, *line));
     }
-    for text in &BROKEN_SERVE {
-        assert!(rt; broken_line(rt.alloc(), SERVE, text)? == Some(1));
-    }
-    Ok(())
 }

@@ -1,54 +1,53 @@
 //! Transcripts, of steps and of guests, with the texts of what refuses a call.
 
-ghost use Rattle.std.specs.Prelude.{◌≡◌, length, IfOk};
+ghost use Rattle.std.specs.Prelude.{◌≡◌, length};
 
+use crate::asking::{ask, done, is_text};
 use guest_model::{Call, ChainRefusal, Entry};
 use script::{Answer, Form, Text, ToldCall, ToldCalls, push_answered, serve_text, steps_text};
 use std::alloc::Global;
 use std::process::Abort;
-use std::test::Fail;
 use vx_base::Bytes;
 
-const NAMES: [&str; 2] = ["c.vhdx", "b.vhdx"];
-
-fn read(first: u64, count: u64) -> Form {
-    Form::Read { first, count }
-}
-
-fn write(first: u64, count: u64, byte: u8) -> Form {
-    Form::Write { first, count, byte }
-}
+static NAMES: [&str; 2] = ["c.vhdx", "b.vhdx"];
 
 /// A call's place in the history, its line and its answer.
-type Row<'a> = (Option<u64>, Form, Answer<'a>);
+type Row = (Option<u64>, Form, Answer<'static>);
 
-fn told(alloc: Global, row: Row<'_>) -> Result<ToldCall, Fail> {
-    let (place, form, answer) = row;
+fn told<R: Abort>(rt: &R, alloc: Global, row: &Row) -> ToldCall {
     let mut text = String::new(alloc);
-    push_answered(&mut text, &NAMES, form, answer)?;
-    Ok(ToldCall {
-        place,
+    done(rt, push_answered(&mut text, &NAMES, row.1, row.2));
+    ToldCall {
+        place: row.0,
         text: Text::from_string(text),
-    })
-}
-
-// What is told of these calls, one after the other.
-fn all_told(alloc: Global, rows: &[Row<'_>]) -> Result<Vec<ToldCall>, Fail> {
-    let mut all = Vec::new(alloc);
-    for row in rows {
-        all.push(told(alloc, *row)?)?;
     }
-    Ok(all)
 }
 
 // Asks that the transcript of these calls is this text.
-fn ask_steps<R: Abort>(rt: &R, alloc: Global, rows: &[Row<'_>], wanted: &str) -> Result<(), Fail> {
-    let told = all_told(alloc, rows)?;
-    assert_eq!(rt; steps_text(alloc, &told)?.as_str(), wanted);
-    Ok(())
+fn ask_steps<R: Abort>(rt: &R, alloc: Global, rows: &[Row], wanted: &str) {
+    let mut all = Vec::new(alloc);
+    for row in rows {
+        done(rt, all.push(told(rt, alloc, row)));
+    }
+    let text = done(rt, steps_text(alloc, &all));
+    ask(rt, 1, is_text(&text, wanted));
 }
 
-const BROKEN: ChainRefusal = ChainRefusal::Broken { file: 1, count: 2 };
+const WRITE_TWO: Form = Form::Write {
+    first: 4095,
+    count: 2,
+    byte: 0xaa,
+};
+
+const READ_FOUR: Form = Form::Read {
+    first: 4094,
+    count: 4,
+};
+
+const READ_BEHIND: Form = Form::Read {
+    first: 2_097_152,
+    count: 1,
+};
 
 const TRIM: Form = Form::Trim {
     first: 0,
@@ -61,22 +60,17 @@ const PAST_THE_END: ChainRefusal = ChainRefusal::OutOfRange {
     sectors: 2_097_152,
 };
 
+const BROKEN: ChainRefusal = ChainRefusal::Broken { file: 1, count: 2 };
+
 // Four sectors, the second and the third of them filled.
-fn mixed() -> [u8; 2048] {
-    let mut bytes = [0; 2048];
-    for byte in &mut bytes[512..1536] {
-        *byte = 0xaa;
-    }
-    bytes
-}
+static SECTORS: [[u8; 512]; 4] = [[0; 512], [0xaa; 512], [0xaa; 512], [0; 512]];
 
 #[test]
-fn a_transcript_of_steps(rt: HostRuntime) -> Result<(), Fail> {
-    let mixed = mixed();
+fn a_transcript_of_steps(rt: HostRuntime) {
     let rows = [
-        (Some(1), write(4095, 2, 0xaa), Answer::Done),
-        (Some(2), read(4094, 4), Answer::Bytes(&mixed)),
-        (None, read(2_097_152, 1), Answer::Refused(PAST_THE_END)),
+        (Some(1), WRITE_TWO, Answer::Done),
+        (Some(2), READ_FOUR, Answer::Bytes(SECTORS.as_flattened())),
+        (None, READ_BEHIND, Answer::Refused(PAST_THE_END)),
         (Some(3), TRIM, Answer::Done),
         (None, Form::Flush, Answer::Refused(BROKEN)),
     ];
@@ -85,12 +79,12 @@ fn a_transcript_of_steps(rt: HostRuntime) -> Result<(), Fail> {
         - read 2097152 1 = refused 32 OutOfRange first 2097152 count 1 sectors 2097152\n\
         3 trim 0 2048 = done\n\
         - flush = refused 35 Broken b.vhdx count 2\n";
-    ask_steps(&rt, rt.alloc(), &rows, wanted)
+    ask_steps(&rt, rt.alloc(), &rows, wanted);
 }
 
 const FETCH: Form = Form::Fetch { stripe: 1023 };
 
-const WRITE: Form = Form::Write {
+const WRITE_ONE: Form = Form::Write {
     first: 0,
     count: 1,
     byte: 1,
@@ -100,9 +94,9 @@ const STALE: ChainRefusal = ChainRefusal::Stale { taken: 0, now: 1 };
 
 const MISSING: ChainRefusal = ChainRefusal::NotYet { stripe: 7 };
 
-static MERGED: [Row<'static>; 9] = [
+static MERGED: [Row; 9] = [
     (None, FETCH, Answer::Stamp(0)),
-    (Some(1), WRITE, Answer::Done),
+    (Some(1), WRITE_ONE, Answer::Done),
     (None, Form::Put, Answer::Refused(STALE)),
     (None, FETCH, Answer::Stamp(u64::MAX)),
     (None, Form::Put, Answer::Copied),
@@ -113,7 +107,7 @@ static MERGED: [Row<'static>; 9] = [
 ];
 
 #[test]
-fn a_transcript_of_a_merge(rt: HostRuntime) -> Result<(), Fail> {
+fn a_transcript_of_a_merge(rt: HostRuntime) {
     let wanted = "- fetch 1023 = stamp 0\n\
         1 write 0 1 01 = done\n\
         - put = refused 46 Stale taken 0 now 1\n\
@@ -123,37 +117,50 @@ fn a_transcript_of_a_merge(rt: HostRuntime) -> Result<(), Fail> {
         - copy = done\n\
         - finish = done\n\
         - copy = refused 45 NoMerge\n";
-    ask_steps(&rt, rt.alloc(), &MERGED, wanted)
+    ask_steps(&rt, rt.alloc(), &MERGED, wanted);
 }
 
-// The calls of one guest.
-fn calls(alloc: Global, first: Row<'_>, second: Row<'_>) -> Result<ToldCalls, Fail>
-    ensures { IfOk result (λ calls. length calls ≡ 2) }
+// Two calls of one guest.
+fn calls<R: Abort>(rt: &R, alloc: Global, rows: &[Row; 2]) -> ToldCalls
+    ensures { length result ≡ 2 }
 {
     let mut calls = ToldCalls::new(alloc);
-    calls.push(told(alloc, first)?)?;
-    calls.push(told(alloc, second)?)?;
-    Ok(calls)
+    done(rt, calls.push(told(rt, alloc, &rows[0])));
+    done(rt, calls.push(told(rt, alloc, &rows[1])));
+    calls
 }
-
-static ZEROS: [u8; 512] = [0; 512];
 
 const EMPTY: Answer<'static> = Answer::Refused(ChainRefusal::EmptyRange);
 
-fn one_byte(alloc: Global) -> Result<Bytes, Fail> {
-    Ok(Bytes::from_slice(alloc, &[0xaa])?)
-}
+const WRITE: Form = Form::Write {
+    first: 0,
+    count: 1,
+    byte: 0xaa,
+};
+
+const READ: Form = Form::Read { first: 0, count: 1 };
+
+const READ_NONE: Form = Form::Read { first: 0, count: 0 };
+
+const READ_NONE_LATER: Form = Form::Read { first: 9, count: 0 };
+
+// The calls of the first guest, and of the third.
+static FIRST: [Row; 2] = [(Some(2), WRITE, Answer::Done), (None, READ_NONE, EMPTY)];
+
+static THIRD: [Row; 2] = [
+    (None, READ_NONE_LATER, EMPTY),
+    (Some(1), READ, Answer::Bytes(&[0; 512])),
+];
 
 #[test]
-fn a_transcript_of_guests(rt: HostRuntime) -> Result<(), Fail> {
+fn a_transcript_of_guests(rt: HostRuntime) {
     let alloc = rt.alloc();
-    let wrote = (Some(2), write(0, 1, 0xaa), Answer::Done);
-    let gave = (Some(1), read(0, 1), Answer::Bytes(&ZEROS));
     let guests = [
-        calls(alloc, wrote, (None, read(0, 0), EMPTY))?,
+        calls(&rt, alloc, &FIRST),
         ToldCalls::new(alloc),
-        calls(alloc, (None, read(9, 0), EMPTY), gave)?,
+        calls(&rt, alloc, &THIRD),
     ];
+    let bytes = done(&rt, Bytes::from_slice(alloc, &[0xaa]));
     let history = [
         Entry {
             guest: 3,
@@ -163,16 +170,13 @@ fn a_transcript_of_guests(rt: HostRuntime) -> Result<(), Fail> {
         Entry {
             guest: 1,
             no: 1,
-            call: Call::Write {
-                first: 0,
-                bytes: one_byte(alloc)?,
-            },
+            call: Call::Write { first: 0, bytes },
         },
     ];
     let wanted = "1 3 2 read 0 1 = 512*00\n\
         2 1 1 write 0 1 aa = done\n\
         - 1 2 read 0 0 = refused 31 EmptyRange\n\
         - 3 1 read 9 0 = refused 31 EmptyRange\n";
-    assert_eq!(rt; serve_text(alloc, &history, &guests)?.as_str(), wanted);
-    Ok(())
+    let text = done(&rt, serve_text(alloc, &history, &guests));
+    ask(&rt, 1, is_text(&text, wanted));
 }
