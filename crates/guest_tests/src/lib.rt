@@ -1,4 +1,4 @@
-//! Tests of what guests and users write and read: calls, scripts, words, and the stores below them. Values come from outside.
+//! Tests of what guests and users write and read: calls, scripts, words, the stores below them, and what threads share. Values come from outside.
 #![tactic(auto)]
 
 #[cfg(test)]
@@ -15,5 +15,7 @@ mod memory;
 mod scripts;
 #[cfg(test)]
 mod transcripts;
+#[cfg(test)]
+mod turns;
 #[cfg(test)]
 mod words;
