@@ -1,9 +1,9 @@
 //! The two copies of the header, and the two of the region table.
 
-use crate::asking::ask_same;
+use crate::asking::{are_bytes, ask, given, zeros};
 use header_pair::{HeaderRefusal, read_headers};
 use region_table::{RegionRefusal, Regions};
-use std::test::Fail;
+use std::process::Abort;
 use vx_base::{Guid, Header};
 
 fn header(number: u64) -> Header {
@@ -20,26 +20,30 @@ fn header(number: u64) -> Header {
     }
 }
 
-#[test]
-fn the_valid_copy_with_the_greater_number_is_current(rt: HostRuntime) -> Result<(), Fail> {
-    let mut zone = vec![in rt.alloc(); 0u8; 196_608]?;
+// Asks which copy is current: the question of this number.
+fn ask_current<R: Abort>(rt: &R, question: usize, zone: &[u8], copy: u32, number: u64) {
     assert!(rt; zone.len() == 196_608);
-    assert!(rt; read_headers(zone.as_slice(), 4_194_304) == Err(HeaderRefusal::NoHeader));
+    let current = given(rt, read_headers(zone, 4_194_304));
+    ask(rt, question, current.copy == copy);
+    ask(rt, question, current.number == number);
+    ask(
+        rt,
+        question,
+        current.data_write == Guid::from_bytes([2; 16]),
+    );
+}
+
+#[test]
+fn the_valid_copy_with_the_greater_number_is_current(rt: HostRuntime) {
+    let mut zone = zeros(&rt, rt.alloc(), 196_608);
+    let none = read_headers(zone.as_slice(), 4_194_304);
+    ask(&rt, 1, none == Err(HeaderRefusal::NoHeader));
     header_pair::build(&mut zone[65_536..69_632], &header(7));
     header_pair::build(&mut zone[131_072..135_168], &header(6));
-    let current = read_headers(zone.as_slice(), 4_194_304).map_err(|_| "refused")?;
-    ask_same(&rt, &(current.copy, current.number), &(1, 7), "current 1");
-    ask_same(
-        &rt,
-        &current.data_write,
-        &Guid::from_bytes([2; 16]),
-        "current 2",
-    );
+    ask_current(&rt, 2, zone.as_slice(), 1, 7);
     // a wrong checksum
     zone[65_540] ^= 1;
-    let current = read_headers(zone.as_slice(), 4_194_304).map_err(|_| "refused")?;
-    ask_same(&rt, &(current.copy, current.number), &(2, 6), "current 3");
-    Ok(())
+    ask_current(&rt, 3, zone.as_slice(), 2, 6);
 }
 
 const REGIONS: Regions = Regions {
@@ -50,22 +54,13 @@ const REGIONS: Regions = Regions {
 };
 
 #[test]
-fn the_first_valid_region_table_is_read(rt: HostRuntime) -> Result<(), Fail> {
-    let mut copies = vec![in rt.alloc(); 0u8; 131_072]?;
-    assert!(rt; copies.len() == 131_072);
-    assert!(rt;
-        region_table::parse(copies.as_slice(), 4_194_304, 1_048_576, 1_048_576)
-            == Err(RegionRefusal::NoRegionTable)
-    );
+fn the_first_valid_region_table_is_read(rt: HostRuntime) {
+    let mut copies = zeros(&rt, rt.alloc(), 131_072);
+    let none = region_table::parse(copies.as_slice(), 4_194_304, 1_048_576, 1_048_576);
+    ask(&rt, 1, none == Err(RegionRefusal::NoRegionTable));
     region_table::build(&mut copies[65_536..], &REGIONS);
-    assert!(rt;
-        region_table::parse(copies.as_slice(), 4_194_304, 1_048_576, 1_048_576) == Ok(REGIONS)
-    );
-    ask_same(
-        &rt,
-        &&copies[65_552..65_556],
-        &[0x66, 0x77, 0xC2, 0x2D].as_slice(),
-        "copies",
-    );
-    Ok(())
+    let read = region_table::parse(copies.as_slice(), 4_194_304, 1_048_576, 1_048_576);
+    ask(&rt, 2, read == Ok(REGIONS));
+    let bat = are_bytes(&copies[65_552..65_556], &[0x66, 0x77, 0xC2, 0x2D]);
+    ask(&rt, 3, bat);
 }

@@ -1,11 +1,12 @@
 //! The metadata of a file as they are laid, and as they are read again.
 
-use crate::asking::ask_same;
+use crate::asking::{ask, done, zeros};
+use crate::locators::name_of;
 use crate::stores::Repeated;
 use metadata_table::{Metadata, MetadataRefusal, Regions, build, parse, written_len};
 use std::alloc::Global;
-use std::test::Fail;
-use vx_base::{Bytes, Guid, Name, u32_at, zeroed};
+use std::process::Abort;
+use vx_base::{Bytes, Guid, u32_at};
 
 const REGIONS: Regions = Regions {
     bat_at: 3_145_728,
@@ -14,9 +15,17 @@ const REGIONS: Regions = Regions {
     meta_len: 1_048_576,
 };
 
-// The metadata of a retired leaf, as they are written, and zeros behind them.
-fn written(alloc: Global) -> Result<Vec<u8>, Fail> {
-    let meta = Metadata {
+/// These metadata, which take so many bytes, and zeros behind them.
+pub fn laid<R: Abort>(rt: &R, alloc: Global, meta: &Metadata, len: u64) -> Repeated {
+    let mut bytes = zeros(rt, alloc, 131_072);
+    assert!(rt; len <= 131_072 && written_len(meta) == len);
+    build(bytes.as_mut_slice(), meta);
+    Repeated { bytes }
+}
+
+/// The metadata of a child with this locator.
+pub fn of_child(locator: Bytes) -> Metadata {
+    Metadata {
         block: 0x20_0000,
         leave: false,
         parent: true,
@@ -24,19 +33,22 @@ fn written(alloc: Global) -> Result<Vec<u8>, Fail> {
         disk: Guid::zero(),
         logical: 512,
         physical: 4096,
-        locator: Some(Bytes::from_slice(alloc, b"locator")?),
-        retired: Some(Name::new(alloc, "b.vhdx")?),
-    };
-    let mut out = zeroed(alloc, 131_072)?;
-    if out.len() == 131_072 && written_len(&meta) == 65_595 {
-        build(out.as_mut_slice(), &meta);
+        locator: Some(locator),
+        retired: None,
     }
-    Ok(out)
+}
+
+// The metadata of a retired leaf, and zeros behind them.
+fn written<R: Abort>(rt: &R, alloc: Global) -> Repeated {
+    let locator = done(rt, Bytes::from_slice(alloc, b"locator"));
+    let mut meta = of_child(locator);
+    meta.retired = Some(name_of(rt, alloc, "b.vhdx"));
+    laid(rt, alloc, &meta, 65_595)
 }
 
 // What is refused of the metadata in these bytes.
-fn refusal_of(alloc: Global, bytes: Vec<u8>) -> Option<MetadataRefusal> {
-    parse(alloc, &mut Repeated { bytes }, 0, &REGIONS).err()
+fn refusal_of(alloc: Global, store: &mut Repeated) -> Option<MetadataRefusal> {
+    parse(alloc, store, 0, &REGIONS).err()
 }
 
 /// The place, the length and the flags of an item, by its entry.
@@ -52,25 +64,27 @@ pub fn item(bytes: &[u8], entry: usize) -> (u32, u32, u32) {
     )
 }
 
+// The places, lengths and flags of the items.
+static ITEMS: [(u32, u32, u32); 7] = [
+    (65_536, 8, 4),
+    (65_544, 8, 6),
+    (65_552, 16, 6),
+    (65_568, 4, 6),
+    (65_572, 4, 6),
+    (65_576, 7, 4),
+    (65_583, 12, 1),
+];
+
 #[test]
-fn items_lie_one_behind_the_other(rt: HostRuntime) -> Result<(), Fail> {
-    let out = written(rt.alloc())?;
-    let wanted = [
-        (65_536, 8, 4),
-        (65_544, 8, 6),
-        (65_552, 16, 6),
-        (65_568, 4, 6),
-        (65_572, 4, 6),
-        (65_576, 7, 4),
-        (65_583, 12, 1),
-    ];
-    for (entry, wanted) in wanted.iter().enumerate() {
-        ask_same(&rt, &item(out.as_slice(), entry), &(*wanted), "item");
+fn items_lie_one_behind_the_other(rt: HostRuntime) {
+    let mut out = written(&rt, rt.alloc());
+    for (entry, wanted) in ITEMS.iter().enumerate() {
+        ask(&rt, entry, item(out.bytes.as_slice(), entry) == *wanted);
     }
-    assert!(rt; refusal_of(rt.alloc(), out).is_none());
-    assert!(rt;
-        refusal_of(rt.alloc(), zeroed(rt.alloc(), 4_096)?)
-            == Some(MetadataRefusal::BadMetadataTable { entry: 0 })
-    );
-    Ok(())
+    ask(&rt, 7, refusal_of(rt.alloc(), &mut out).is_none());
+    let mut empty = Repeated {
+        bytes: zeros(&rt, rt.alloc(), 4_096),
+    };
+    let bad = Some(MetadataRefusal::BadMetadataTable { entry: 0 });
+    ask(&rt, 8, refusal_of(rt.alloc(), &mut empty) == bad);
 }

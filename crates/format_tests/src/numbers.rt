@@ -1,10 +1,11 @@
 //! Numbers, identifiers, names and checksums.
 
-use crate::asking::ask_same;
+use crate::asking::{ask, done};
+use crate::locators::{name_of, parent_id};
 use crc32c::{Crc, crc32c, crc32c_without};
 use numeral::number;
 use std::alloc::Global;
-use std::test::Fail;
+use std::process::Abort;
 use vx_base::{Guid, Name, guid_at, u16_at, u32_at, u64_at};
 
 static DECIMALS: [(&str, Option<u64>); 11] = [
@@ -23,8 +24,8 @@ static DECIMALS: [(&str, Option<u64>); 11] = [
 
 #[test]
 fn decimals(rt: HostRuntime) {
-    for (text, wanted) in &DECIMALS {
-        assert!(rt; number(text.as_bytes()) == *wanted, "{text}");
+    for (row, (text, wanted)) in DECIMALS.iter().enumerate() {
+        ask(&rt, row, number(text.as_bytes()) == *wanted);
     }
 }
 
@@ -33,45 +34,50 @@ const BAT_IN_FILE: [u8; 16] = [
     0x66, 0x77, 0xC2, 0x2D, 0x23, 0xF6, 0x00, 0x42, 0x9D, 0x64, 0x11, 0x5E, 0x9B, 0xFD, 0x4A, 0x08,
 ];
 
-// Whether a name is taken and copied, and a path isn't.
-fn are_names(alloc: Global) -> Result<bool, Fail> {
-    let name = Name::new(alloc, "b.vhdx")?;
-    let copy = name.try_clone(alloc)?;
-    Ok(copy.as_str() == "b.vhdx" && Name::new(alloc, "a/b").is_err())
+// Asks that a name is taken and copied, and a path isn't.
+fn ask_names<R: Abort>(rt: &R, alloc: Global) {
+    let name = name_of(rt, alloc, "b.vhdx");
+    let copy = done(rt, name.try_clone(alloc));
+    ask(rt, 6, copy.as_str() == "b.vhdx");
+    ask(rt, 7, Name::new(alloc, "a/b").is_err());
 }
 
 #[test]
-fn identifiers_and_names(rt: HostRuntime) -> Result<(), Fail> {
-    let id = Guid::parse("2DC27766-F623-4200-9D64-115E9BFD4A08").ok_or("no identifier")?;
-    assert!(rt; id.to_file() == BAT_IN_FILE && guid_at(&BAT_IN_FILE, 0) == id);
-    assert!(rt; id.text() == *b"{2dc27766-f623-4200-9d64-115e9bfd4a08}");
-    assert!(rt; Guid::parse("2DC27766").is_none());
-    assert!(rt; are_names(rt.alloc())?);
-    Ok(())
+fn identifiers_and_names(rt: HostRuntime) {
+    let id = parent_id(&rt);
+    ask(&rt, 1, id.to_file() == BAT_IN_FILE);
+    ask(&rt, 2, guid_at(&BAT_IN_FILE, 0) == id);
+    let text = *b"{2dc27766-f623-4200-9d64-115e9bfd4a08}";
+    ask(&rt, 3, id.text() == text);
+    let bare = Guid::parse("2DC27766-F623-4200-9D64-115E9BFD4A08");
+    ask(&rt, 4, bare == Some(id));
+    ask(&rt, 5, Guid::parse("2DC27766").is_none());
+    ask_names(&rt, rt.alloc());
 }
 
 #[test]
 fn fields(rt: HostRuntime) {
     let bytes = [1, 2, 3, 4, 5, 6, 7, 8, 9];
-    ask_same(&rt, &u16_at(&bytes, 1), &0x0302, "u16 at");
-    ask_same(&rt, &u32_at(&bytes, 1), &0x0504_0302, "u32 at");
-    ask_same(&rt, &u64_at(&bytes, 1), &0x0908_0706_0504_0302, "u64 at");
+    ask(&rt, 1, u16_at(&bytes, 1) == 0x0302);
+    ask(&rt, 2, u32_at(&bytes, 1) == 0x0504_0302);
+    ask(&rt, 3, u64_at(&bytes, 1) == 0x0908_0706_0504_0302);
 }
 
-// Vectors of RFC 3720, B.4, and of the usual check text.
+// Texts with their checksums: vectors of RFC 3720, B.4, and of the usual check text.
+static CHECKSUMS: [(&[u8], u32); 3] = [
+    (b"123456789", 0xE306_9283),
+    (&[0; 32], 0x8A91_36AA),
+    (&[0xFF; 32], 0x62A8_AB43),
+];
+
 #[test]
 fn checksums(rt: HostRuntime) {
-    ask_same(&rt, &crc32c(b"123456789"), &0xE306_9283, "crc32c 1");
-    ask_same(&rt, &crc32c(&[0; 32]), &0x8A91_36AA, "crc32c 2");
-    ask_same(&rt, &crc32c(&[0xFF; 32]), &0x62A8_AB43, "crc32c 3");
-    ask_same(
-        &rt,
-        &crc32c_without(&[0xFF; 4], 0),
-        &crc32c(&[0; 4]),
-        "crc32c without",
-    );
+    for (row, (bytes, wanted)) in CHECKSUMS.iter().enumerate() {
+        ask(&rt, row, crc32c(bytes) == *wanted);
+    }
+    ask(&rt, 3, crc32c_without(&[0xFF; 4], 0) == crc32c(&[0; 4]));
     let mut crc = Crc::new();
     crc.feed(b"1234");
     crc.feed(b"56789");
-    ask_same(&rt, &crc.value(), &0xE306_9283, "value");
+    ask(&rt, 4, crc.value() == 0xE306_9283);
 }

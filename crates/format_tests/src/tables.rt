@@ -4,12 +4,11 @@ ghost use Rattle.std.specs.Prelude.{◌≡◌, true};
 ghost use Rattle.vhdx_format.specs.FileParts.{HasNumbers};
 ghost use Rattle.table_pages.specs.Held.{HasTables};
 
-use crate::asking::ask_same;
+use crate::asking::{ask, done, zeros};
 use crate::stores::Repeated;
 use block_table::{TableRefusal, check};
-use std::alloc::{AllocError, Global};
+use std::alloc::Global;
 use std::process::Abort;
-use std::test::Fail;
 use table_pages::{TableParts, Tables};
 use vx_base::{Bytes, Geometry, Guid, Header, Parts, put_u64};
 
@@ -47,50 +46,66 @@ pub fn child(alloc: Global) -> Parts
     }
 }
 
-// An entry's word.
-const fn word(unit: u64, state: u64) -> u64 {
-    (unit % 1_024) * 1_048_576 + state % 8
-}
-
-// What is answered of these three entries and their bitmap's, in a file of 1 GB.
-fn answer_of(alloc: Global, entries: [u64; 4]) -> Result<Result<(), TableRefusal>, AllocError> {
-    let mut bytes = [0; 4_096];
+// These three entries and their bitmap's.
+fn table_of<R: Abort>(rt: &R, alloc: Global, entries: &[u64; 4]) -> Repeated {
+    let mut bytes = zeros(rt, alloc, 4_096);
     put_u64(&mut bytes, 0, entries[0]);
     put_u64(&mut bytes, 8, entries[1]);
     put_u64(&mut bytes, 16, entries[2]);
     put_u64(&mut bytes, 128, entries[3]);
-    let mut store = Repeated {
-        bytes: bytes.to_vec(alloc)?,
-    };
-    Ok(check(alloc, &mut store, 0, &child(alloc), 1 << 30))
+    Repeated { bytes }
 }
 
-fn overlap(first: u64, second: u64) -> Result<(), TableRefusal> {
-    Err(TableRefusal::BlockOverlap { first, second })
-}
+const BY_THE_THIRD: TableRefusal = TableRefusal::BlockOverlap {
+    first: 0,
+    second: 2,
+};
+
+const BY_THE_SECOND: TableRefusal = TableRefusal::BlockOverlap {
+    first: 0,
+    second: 1,
+};
+
+const BY_THE_BITMAP: TableRefusal = TableRefusal::BlockOverlap {
+    first: 1,
+    second: 16,
+};
+
+const BITMAP_STATE: TableRefusal = TableRefusal::BadBatState { index: 16 };
+
+const NO_BITMAP: TableRefusal = TableRefusal::BitmapMissing { index: 1 };
+
+const PAST_THE_END: TableRefusal = TableRefusal::BlockPlace { index: 2 };
+
+// Entries of three blocks and of their bitmap, with what is answered of them in a file of 1 GB. An entry has a state in its
+// lowest bits, and a place in MB from bit 20 on.
+static TABLES: [([u64; 4], Result<(), TableRefusal>); 9] = [
+    ([0x0040_0007, 2, 0x1050_0006, 0x1040_0006], Ok(())),
+    ([0, 0, 0, 0x3ff0_0006], Ok(())),
+    // blocks that touch, and those that lie over another or over a bitmap
+    ([0x2040_0006, 0x0040_0006, 0x1040_0006, 0], Ok(())),
+    (
+        [0x2030_0006, 0x0040_0006, 0x1040_0006, 0],
+        Err(BY_THE_THIRD),
+    ),
+    (
+        [0x0040_0006, 0x0040_0006, 0x0040_0006, 0],
+        Err(BY_THE_SECOND),
+    ),
+    ([0, 0x0040_0006, 0, 0x1030_0006], Err(BY_THE_BITMAP)),
+    ([0, 0, 0, 0x0040_0007], Err(BITMAP_STATE)),
+    ([0x0040_0006, 0x1050_0007, 0x2060_0007, 0], Err(NO_BITMAP)),
+    ([0, 0, 0x3010_0006, 0], Err(PAST_THE_END)),
+];
 
 #[test]
-fn the_first_broken_rule_of_a_table_is_named(rt: HostRuntime) -> Result<(), Fail> {
-    let state = Err(TableRefusal::BadBatState { index: 16 });
-    let none = Err(TableRefusal::BitmapMissing { index: 1 });
-    let place = Err(TableRefusal::BlockPlace { index: 2 });
-    let rows = [
-        ([word(4, 7), 2, word(261, 6), word(260, 6)], Ok(())),
-        ([0, 0, 0, word(1_023, 6)], Ok(())),
-        // blocks that touch, and those that lie over another or over a bitmap
-        ([word(516, 6), word(4, 6), word(260, 6), 0], Ok(())),
-        ([word(515, 6), word(4, 6), word(260, 6), 0], overlap(0, 2)),
-        ([word(4, 6), word(4, 6), word(4, 6), 0], overlap(0, 1)),
-        ([0, word(4, 6), 0, word(259, 6)], overlap(1, 16)),
-        ([0, 0, 0, word(4, 7)], state),
-        ([word(4, 6), word(261, 7), word(518, 7), 0], none),
-        ([0, 0, word(769, 6), 0], place),
-    ];
-    for (entries, wanted) in rows {
-        let found = answer_of(rt.alloc(), entries)?;
-        assert!(rt; found == wanted);
+fn the_first_broken_rule_of_a_table_is_named(rt: HostRuntime) {
+    let parts = child(rt.alloc());
+    for (row, (entries, wanted)) in TABLES.iter().enumerate() {
+        let mut store = table_of(&rt, rt.alloc(), entries);
+        let found = check(rt.alloc(), &mut store, 0, &parts, 1 << 30);
+        ask(&rt, row, found == *wanted);
     }
-    Ok(())
 }
 
 /// A child with blocks of 2 MB, its table at 3 MB.
@@ -105,13 +120,10 @@ const CHILD: TableParts = TableParts {
 };
 
 // A store whose pages begin with an entry of a block that is there, at 5 MB.
-fn same_pages(alloc: Global) -> Result<Repeated, AllocError> {
-    let mut page = [0; 4096];
-    page[0] = 6;
-    page[2] = 0x50;
-    Ok(Repeated {
-        bytes: page.to_vec(alloc)?,
-    })
+fn same_pages<R: Abort>(rt: &R, alloc: Global) -> Repeated {
+    let mut bytes = zeros(rt, alloc, 4_096);
+    put_u64(&mut bytes, 0, 0x500006);
+    Repeated { bytes }
 }
 
 // Whether they are the child's.
@@ -126,85 +138,71 @@ fn are_childs(parts: &TableParts) -> bool
 }
 
 fn entry<R: Abort>(rt: &R, store: &mut Repeated, tables: &mut Tables, index: u64) -> u64 {
-    assert!(rt;
-        are_childs(&tables.parts) && index < 131_072,
-        "no such entry"
-    );
-    tables.entry(store, index).expect(rt, "not read")
+    assert!(rt; are_childs(&tables.parts) && index < 131_072);
+    done(rt, tables.entry(store, index))
 }
 
 fn set_entry<R: Abort>(rt: &R, store: &mut Repeated, tables: &mut Tables, index: u64, to: u64) {
-    assert!(rt;
-        are_childs(&tables.parts) && index < 131_072,
-        "no such entry"
-    );
-    assert!(rt; tables.room_for(1), "no room");
-    tables.set_entry(store, index, to).expect(rt, "not set");
+    assert!(rt; are_childs(&tables.parts) && index < 131_072);
+    assert!(rt; tables.room_for(1));
+    done(rt, tables.set_entry(store, index, to));
 }
 
-fn tables_of_the_child(alloc: Global) -> Result<Tables, Fail> {
-    Ok(Tables::new(alloc, CHILD, 3)?)
+fn tables_of_the_child<R: Abort>(rt: &R, alloc: Global) -> Tables {
+    done(rt, Tables::new(alloc, CHILD, 3))
 }
+
+// Entries once the second is set.
+static ENTRIES: [(u64, u64); 4] = [(0, 0x500006), (1, 7), (512, 0x500006), (513, 0)];
 
 #[test]
-fn entries_are_set_alone(rt: HostRuntime) -> Result<(), Fail> {
-    let mut store = same_pages(rt.alloc())?;
-    let mut tables = tables_of_the_child(rt.alloc())?;
+fn entries_are_set_alone(rt: HostRuntime) {
+    let mut store = same_pages(&rt, rt.alloc());
+    let mut tables = tables_of_the_child(&rt, rt.alloc());
     set_entry(&rt, &mut store, &mut tables, 1, 7);
-    for (index, wanted) in [(0, 0x500006), (1, 7), (512, 0x500006), (513, 0)] {
-        let found = entry(&rt, &mut store, &mut tables, index);
-        ask_same(&rt, &found, &wanted, "entry");
+    for (row, (index, wanted)) in ENTRIES.iter().enumerate() {
+        let found = entry(&rt, &mut store, &mut tables, *index);
+        ask(&rt, row, found == *wanted);
     }
-    assert!(rt; tables.room_for(119) && !tables.room_for(120));
-    Ok(())
+    ask(&rt, 4, tables.room_for(119));
+    ask(&rt, 5, !tables.room_for(120));
 }
 
 // The 24 bits from a sector on.
 fn bits<R: Abort>(rt: &R, store: &mut Repeated, tables: &mut Tables, sector: u64) -> [u8; 3] {
-    assert!(rt;
-        are_childs(&tables.parts) && sector <= 100_000 && sector % 8 == 0,
-        "no such bits"
-    );
+    assert!(rt; are_childs(&tables.parts) && sector <= 100_000 && sector % 8 == 0);
     let mut bits = [0; 3];
-    tables.bits(store, sector, &mut bits).expect(rt, "not read");
+    done(rt, tables.bits(store, sector, &mut bits));
     bits
 }
 
 fn set_bits<R: Abort>(rt: &R, store: &mut Repeated, tables: &mut Tables, sector: u64, count: u64) {
-    assert!(rt;
-        are_childs(&tables.parts) && sector <= 100_000 && count <= 8,
-        "no such bits"
-    );
-    assert!(rt; tables.room_for(2), "no room");
-    tables
-        .set_bits(store, sector, count, true)
-        .expect(rt, "not set");
+    assert!(rt; are_childs(&tables.parts) && sector <= 100_000 && count <= 8);
+    assert!(rt; tables.room_for(2));
+    done(rt, tables.set_bits(store, sector, count, true));
 }
 
 #[test]
-fn bits_are_set_alone(rt: HostRuntime) -> Result<(), Fail> {
-    let mut store = same_pages(rt.alloc())?;
-    let mut tables = tables_of_the_child(rt.alloc())?;
-    ask_same(
+fn bits_are_set_alone(rt: HostRuntime) {
+    let mut store = same_pages(&rt, rt.alloc());
+    let mut tables = tables_of_the_child(&rt, rt.alloc());
+    ask(
         &rt,
-        &bits(&rt, &mut store, &mut tables, 0),
-        &[6, 0, 0x50],
-        "bits 1",
+        1,
+        bits(&rt, &mut store, &mut tables, 0) == [6, 0, 0x50],
     );
     set_bits(&rt, &mut store, &mut tables, 3, 8);
-    ask_same(
+    ask(
         &rt,
-        &bits(&rt, &mut store, &mut tables, 0),
-        &[0xfe, 7, 0x50],
-        "bits 2",
+        2,
+        bits(&rt, &mut store, &mut tables, 0) == [0xfe, 7, 0x50],
     );
     set_bits(&rt, &mut store, &mut tables, 32_766, 4);
-    ask_same(
+    ask(
         &rt,
-        &bits(&rt, &mut store, &mut tables, 32_760),
-        &[0xc0, 7, 0],
-        "bits 3",
+        3,
+        bits(&rt, &mut store, &mut tables, 32_760) == [0xc0, 7, 0],
     );
-    assert!(rt; tables.room_for(118) && !tables.room_for(119));
-    Ok(())
+    ask(&rt, 4, tables.room_for(118));
+    ask(&rt, 5, !tables.room_for(119));
 }

@@ -3,60 +3,25 @@
 ghost use Rattle.std.specs.Prelude.{◌≡◌, true, IfOk};
 ghost use Rattle.meta_edit.specs.Pages.{ArePages, HasMetadata};
 
-use crate::asking::ask_same;
-use crate::locators::child_of_b;
-use crate::metadata::item;
+use crate::asking::{ask, done, given, zeros};
+use crate::locators::{child_of_b, childs, name_of, parent_id};
+use crate::metadata::{item, laid, of_child};
 use crate::stores::Repeated;
 use crate::tables::child;
 use meta_edit::{MetaRefusal, Updates, locator_update, retire_update};
-use metadata_table::{Metadata, build, written_len};
-use parent_locator::{Locator, Pair, child_locator, relinked, with_both_linkages};
+use parent_locator::{Locator, Pair, relinked, with_both_linkages};
 use std::alloc::Global;
-use std::test::Fail;
+use std::process::Abort;
 use vhdx_format::Page;
-use vx_base::{Guid, Name, Parts, Units, put_u16, put_u32, zeroed};
+use vx_base::{Guid, Name, Parts, Units, put_u16, put_u32};
 
 /// A region of 1 MB, and one of 72 KB.
 const LONG: u32 = 1_048_576;
 
 const SHORT: u32 = 73_728;
 
-/// What is changed of a file that has a child's locator, and perhaps a retired leaf's name.
-#[derive(Drop)]
-enum Change {
-    Locator(Locator),
-    Retired(Option<Name>),
-}
-
-fn id() -> Result<Guid, Fail> {
-    Ok(Guid::parse("{2dc27766-f623-4200-9d64-115e9bfd4a08}").ok_or("no identifier")?)
-}
-
-fn name(alloc: Global, text: &str) -> Result<Name, Fail> {
-    Ok(Name::new(alloc, text).map_err(|_| "no name")?)
-}
-
-// The locator of a child of `b.vhdx`: 190 bytes.
-fn childs(alloc: Global) -> Result<Locator, Fail> {
-    Ok(child_locator(alloc, &id()?, &name(alloc, "b.vhdx")?).map_err(|_| "no memory")?)
-}
-
-fn with_both(alloc: Global) -> Result<Change, Fail> {
-    let both = with_both_linkages(alloc, &childs(alloc)?, &id()?, &Guid::zero());
-    Ok(Change::Locator(both.map_err(|_| "no memory")?))
-}
-
-fn relinked_to(alloc: Global, parent: &str) -> Result<Change, Fail> {
-    let other = relinked(alloc, &childs(alloc)?, &Guid::zero(), &name(alloc, parent)?);
-    Ok(Change::Locator(other.map_err(|_| "no memory")?))
-}
-
-fn retired_to(alloc: Global, text: &str) -> Result<Change, Fail> {
-    Ok(Change::Retired(Some(name(alloc, text)?)))
-}
-
-/// Which change is made: both linkages, another parent, the name for which a leaf is retired, or that it isn't.
-#[derive(Clone, Copy)]
+/// Which change is made of a file that has a child's locator, and perhaps a retired leaf's name: both linkages, another parent,
+/// the name for which a leaf is retired, or that it isn't.
 enum Asked {
     Both,
     Relinked(&'static str),
@@ -64,62 +29,46 @@ enum Asked {
     NotRetired,
 }
 
-fn change_of(alloc: Global, asked: Asked) -> Result<Change, Fail> {
-    match asked {
-        Asked::Both => with_both(alloc),
-        Asked::Relinked(parent) => relinked_to(alloc, parent),
-        Asked::Retired(text) => retired_to(alloc, text),
-        Asked::NotRetired => Ok(Change::Retired(None)),
-    }
+fn with_both<R: Abort>(rt: &R, alloc: Global) -> Locator {
+    let old = childs(rt, alloc);
+    let id = parent_id(rt);
+    done(rt, with_both_linkages(alloc, &old, &id, &Guid::zero()))
+}
+
+fn relinked_to<R: Abort>(rt: &R, alloc: Global, parent: &str) -> Locator {
+    let old = childs(rt, alloc);
+    let name = name_of(rt, alloc, parent);
+    done(rt, relinked(alloc, &old, &Guid::zero(), &name))
 }
 
 // A locator of so many bytes, an even number from 34 on.
-fn locator_of(alloc: Global, len: usize) -> Result<Change, Fail> {
+fn locator_of<R: Abort>(rt: &R, alloc: Global, len: usize) -> Locator {
     let mut key = Units::new(alloc);
-    key.push(120)?;
+    done(rt, key.push(120));
     let mut value = Units::new(alloc);
     for _ in 17..len / 2 {
-        value.push(120)?;
+        done(rt, value.push(120));
     }
     let mut locator = Locator::new(alloc);
-    locator.push(Pair { key, value })?;
-    Ok(Change::Locator(locator))
-}
-
-fn put_metadata(out: &mut [u8], meta: &Metadata) {
-    if out.len() == 131_072 && written_len(meta) == 65_766 {
-        build(out, meta);
-    }
+    done(rt, locator.push(Pair { key, value }));
+    locator
 }
 
 // The metadata of a child, and zeros behind them.
-fn written(alloc: Global) -> Result<Repeated, Fail> {
-    let meta = Metadata {
-        block: 0x20_0000,
-        leave: false,
-        parent: true,
-        size: 0x40_0000,
-        disk: Guid::zero(),
-        logical: 512,
-        physical: 4096,
-        locator: Some(child_of_b(alloc)?),
-        retired: None,
-    };
-    let mut bytes = zeroed(alloc, 131_072)?;
-    put_metadata(bytes.as_mut_slice(), &meta);
-    Ok(Repeated { bytes })
+fn written<R: Abort>(rt: &R, alloc: Global) -> Repeated {
+    let meta = of_child(child_of_b(rt, alloc));
+    laid(rt, alloc, &meta, 65_766)
 }
 
 // A table of so many entries of no bytes, all of them the user's or none, and zeros behind it.
-fn table_of(alloc: Global, count: u16, flags: u32) -> Result<Repeated, Fail> {
-    let mut bytes = zeroed(alloc, 131_072)?;
-    if bytes.len() == 131_072 && count <= 2_047 {
-        put_u16(bytes.as_mut_slice(), 10, count);
-        for entry in 0..usize::from(count) {
-            put_u32(bytes.as_mut_slice(), 56 + 32 * entry, flags);
-        }
+fn table_of<R: Abort>(rt: &R, alloc: Global, count: u16, flags: u32) -> Repeated {
+    let mut bytes = zeros(rt, alloc, 131_072);
+    assert!(rt; count <= 2_047);
+    put_u16(bytes.as_mut_slice(), 10, count);
+    for entry in 0..usize::from(count) {
+        put_u32(bytes.as_mut_slice(), 56 + 32 * entry, flags);
     }
-    Ok(Repeated { bytes })
+    Repeated { bytes }
 }
 
 // The parts of a file whose metadata's region has so many bytes.
@@ -135,23 +84,66 @@ fn has_region(parts: &Parts) -> bool
     parts.meta_at == 2_097_152 && (parts.meta_len == LONG || parts.meta_len == SHORT)
 }
 
-fn update(
+// The pages of a new locator, over earlier ones, or why there are none.
+fn with_locator<R: Abort>(
+    rt: &R,
     alloc: Global,
     store: &mut Repeated,
     parts: &Parts,
     over: &[Page],
-    change: &Change,
+    new: &Locator,
 ) -> Result<Updates, MetaRefusal>
     requires { ArePages parts.now over.now }
     ensures { IfOk result (ArePages parts.now) }
 {
-    if !has_region(parts) {
-        return Err(MetaRefusal::NoRoom);
-    }
-    match change {
-        Change::Locator(new) => locator_update(alloc, store, 0, parts, over, new),
-        Change::Retired(to) => retire_update(alloc, store, 0, parts, over, to.as_ref()),
-    }
+    assert!(rt; has_region(parts));
+    locator_update(alloc, store, 0, parts, over, new)
+}
+
+// The pages of the name for which a leaf is retired, or of none, over earlier ones.
+fn with_retired<R: Abort>(
+    rt: &R,
+    alloc: Global,
+    store: &mut Repeated,
+    parts: &Parts,
+    over: &[Page],
+    to: Option<&Name>,
+) -> Result<Updates, MetaRefusal>
+    requires { ArePages parts.now over.now }
+    ensures { IfOk result (ArePages parts.now) }
+{
+    assert!(rt; has_region(parts));
+    retire_update(alloc, store, 0, parts, over, to)
+}
+
+// The pages of a change that is made, over earlier ones.
+fn updated<R: Abort>(
+    rt: &R,
+    alloc: Global,
+    store: &mut Repeated,
+    parts: &Parts,
+    over: &[Page],
+    asked: &Asked,
+) -> Updates
+    requires { ArePages parts.now over.now }
+    ensures { ArePages parts.now result }
+{
+    let pages = match asked {
+        Asked::Both => {
+            let new = with_both(rt, alloc);
+            with_locator(rt, alloc, store, parts, over, &new)
+        }
+        Asked::Relinked(parent) => {
+            let new = relinked_to(rt, alloc, parent);
+            with_locator(rt, alloc, store, parts, over, &new)
+        }
+        Asked::Retired(text) => {
+            let name = name_of(rt, alloc, text);
+            with_retired(rt, alloc, store, parts, over, Some(&name))
+        }
+        Asked::NotRetired => with_retired(rt, alloc, store, parts, over, None),
+    };
+    given(rt, pages)
 }
 
 // Lays the pages of an update over the region's bytes.
@@ -164,21 +156,13 @@ fn lay(bytes: &mut [u8], pages: &[Page]) {
     }
 }
 
-// The place, the length and the flags of an item once a change is made of these bytes.
-fn changed(
-    alloc: Global,
-    bytes: &mut Repeated,
-    asked: Asked,
-    entry: usize,
-) -> Result<(u32, u32, u32), Fail> {
-    let parts = parts_with(alloc, LONG);
-    let change = change_of(alloc, asked)?;
-    let updates = update(alloc, bytes, &parts, &[], &change).map_err(|_| "refused")?;
-    lay(bytes.bytes.as_mut_slice(), updates.as_slice());
-    Ok(item(bytes.bytes.as_slice(), entry))
+// Makes a change of these bytes.
+fn change<R: Abort>(rt: &R, alloc: Global, store: &mut Repeated, parts: &Parts, asked: &Asked) {
+    let pages = updated(rt, alloc, store, parts, &[], asked);
+    lay(store.bytes.as_mut_slice(), pages.as_slice());
 }
 
-// What is changed, and where an item then is.
+// What is changed, and where an item then is: its place, its length and its flags.
 static CHANGES: [(Asked, usize, (u32, u32, u32)); 6] = [
     // a locator of 190 bytes at 65,576: a longer one goes behind the last item, at a page
     (Asked::Both, 5, (69_632, 308, 4)),
@@ -191,40 +175,24 @@ static CHANGES: [(Asked, usize, (u32, u32, u32)); 6] = [
 ];
 
 #[test]
-fn values_go_where_they_fit(rt: HostRuntime) -> Result<(), Fail> {
+fn values_go_where_they_fit(rt: HostRuntime) {
+    let parts = parts_with(rt.alloc(), LONG);
     for (row, (asked, entry, wanted)) in CHANGES.iter().enumerate() {
-        let mut store = written(rt.alloc())?;
-        let found = changed(rt.alloc(), &mut store, *asked, *entry)?;
-        assert!(rt; found == *wanted, "{row}");
+        let mut store = written(&rt, rt.alloc());
+        change(&rt, rt.alloc(), &mut store, &parts, asked);
+        ask(&rt, row, item(store.bytes.as_slice(), *entry) == *wanted);
     }
-    Ok(())
 }
 
-// The update that is asked for, over earlier pages.
-fn updated(
-    alloc: Global,
-    store: &mut Repeated,
-    parts: &Parts,
-    over: &[Page],
-    asked: Asked,
-) -> Result<Updates, Fail>
-    requires { ArePages parts.now over.now }
-    ensures { IfOk result (ArePages parts.now) }
-{
-    let change = change_of(alloc, asked)?;
-    Ok(update(alloc, store, parts, over, &change).map_err(|_| "refused")?)
-}
+// Two changes that are made one over the other.
+static TWICE: [Asked; 2] = [Asked::Both, Asked::Retired("c.vhdx")];
 
-// The metadata with a locator of both linkages, and then with a retired leaf's name.
-fn twice_updated(alloc: Global) -> Result<Repeated, Fail> {
-    let parts = parts_with(alloc, LONG);
-    let mut store = written(alloc)?;
-    let first = updated(alloc, &mut store, &parts, &[], Asked::Both)?;
-    let asked = Asked::Retired("c.vhdx");
-    let second = updated(alloc, &mut store, &parts, first.as_slice(), asked)?;
+// Puts a locator of both linkages into the metadata, and over it a retired leaf's name.
+fn change_twice<R: Abort>(rt: &R, alloc: Global, store: &mut Repeated, parts: &Parts) {
+    let first = updated(rt, alloc, store, parts, &[], &TWICE[0]);
+    let second = updated(rt, alloc, store, parts, first.as_slice(), &TWICE[1]);
     lay(store.bytes.as_mut_slice(), first.as_slice());
     lay(store.bytes.as_mut_slice(), second.as_slice());
-    Ok(store)
 }
 
 static LATER: [(Asked, (u32, u32, u32)); 3] = [
@@ -234,67 +202,71 @@ static LATER: [(Asked, (u32, u32, u32)); 3] = [
 ];
 
 #[test]
-fn later_updates_lie_over_the_earlier(rt: HostRuntime) -> Result<(), Fail> {
-    let mut store = twice_updated(rt.alloc())?;
-    let bytes = store.bytes.as_slice();
-    ask_same(&rt, &item(bytes, 5), &(69_632, 308, 4), "locator");
-    ask_same(&rt, &item(bytes, 6), &(73_728, 12, 1), "retired");
+fn later_updates_lie_over_the_earlier(rt: HostRuntime) {
+    let parts = parts_with(rt.alloc(), LONG);
+    let mut store = written(&rt, rt.alloc());
+    change_twice(&rt, rt.alloc(), &mut store, &parts);
+    ask(&rt, 3, item(store.bytes.as_slice(), 5) == (69_632, 308, 4));
+    ask(&rt, 4, item(store.bytes.as_slice(), 6) == (73_728, 12, 1));
     for (row, (asked, wanted)) in LATER.iter().enumerate() {
-        let found = changed(rt.alloc(), &mut store, *asked, 6)?;
-        assert!(rt; found == *wanted, "{row}");
+        change(&rt, rt.alloc(), &mut store, &parts, asked);
+        ask(&rt, row, item(store.bytes.as_slice(), 6) == *wanted);
     }
-    Ok(())
 }
 
-// Why a change isn't made: none where it is.
-fn refusal_of(
+// Whether a locator is put into metadata of so many bytes, or is refused as is wanted.
+fn is_answered<R: Abort>(
+    rt: &R,
     alloc: Global,
-    mut store: Repeated,
+    store: &mut Repeated,
     meta_len: u32,
-    change: &Change,
-) -> Option<MetaRefusal> {
-    update(alloc, &mut store, &parts_with(alloc, meta_len), &[], change).err()
+    new: &Locator,
+    wanted: Option<MetaRefusal>,
+) -> bool {
+    let parts = parts_with(alloc, meta_len);
+    with_locator(rt, alloc, store, &parts, &[], new).err() == wanted
 }
 
-// Why a locator of so many bytes isn't put into a region of so many.
-fn long_refusal(alloc: Global, meta_len: u32, len: usize) -> Result<Option<MetaRefusal>, Fail> {
-    let store = written(alloc)?;
-    let change = locator_of(alloc, len)?;
-    Ok(refusal_of(alloc, store, meta_len, &change))
-}
+const FULL: Option<MetaRefusal> = Some(MetaRefusal::MetadataFull { file: 0 });
 
-// Why a locator isn't put into a table of so many entries.
-fn table_refusal(alloc: Global, count: u16, flags: u32) -> Result<Option<MetaRefusal>, Fail> {
-    let store = table_of(alloc, count, flags)?;
-    let change = with_both(alloc)?;
-    Ok(refusal_of(alloc, store, SHORT, &change))
-}
+const LARGE: Option<MetaRefusal> = Some(MetaRefusal::LocatorTooLarge { len: 65_538 });
+
+// Regions with the length of a locator, and why it isn't put there.
+static LOCATORS: [(u32, usize, Option<MetaRefusal>); 5] = [
+    // a region of 72 KB has one page behind the items
+    (SHORT, 4_096, None),
+    (SHORT, 4_098, FULL),
+    (SHORT, 65_538, LARGE),
+    (LONG, 65_536, None),
+    (LONG, 65_538, LARGE),
+];
 
 #[test]
-fn what_has_no_room_is_refused(rt: HostRuntime) -> Result<(), Fail> {
+fn what_has_no_room_is_refused(rt: HostRuntime) {
     let alloc = rt.alloc();
-    let full = Some(MetaRefusal::MetadataFull { file: 0 });
-    let large = Some(MetaRefusal::LocatorTooLarge { len: 65_538 });
-    let rows = [
-        // a region of 72 KB has one page behind the items
-        (SHORT, 4_096, None),
-        (SHORT, 4_098, full),
-        (SHORT, 65_538, large),
-        (LONG, 65_536, None),
-        (LONG, 65_538, large),
-    ];
-    for (meta_len, len, wanted) in rows {
-        assert!(rt; long_refusal(alloc, meta_len, len)? == wanted, "{len}");
+    for (row, (meta_len, len, wanted)) in LOCATORS.iter().enumerate() {
+        let mut store = written(&rt, alloc);
+        let new = locator_of(&rt, alloc, *len);
+        let holds = is_answered(&rt, alloc, &mut store, *meta_len, &new, *wanted);
+        ask(&rt, row, holds);
     }
-    // tables of entries that are the user's or none
-    let tables = [
-        (2_046, 0, None),
-        (2_047, 0, full),
-        (1_023, 1, None),
-        (1_024, 1, full),
-    ];
-    for (count, flags, wanted) in tables {
-        assert!(rt; table_refusal(alloc, count, flags)? == wanted, "{count}");
+}
+
+// Tables of so many entries that are the user's or none, and why a longer locator isn't put into a region of 72 KB.
+static TABLES: [(u16, u32, Option<MetaRefusal>); 4] = [
+    (2_046, 0, None),
+    (2_047, 0, FULL),
+    (1_023, 1, None),
+    (1_024, 1, FULL),
+];
+
+#[test]
+fn a_table_without_an_entry_left_is_full(rt: HostRuntime) {
+    let alloc = rt.alloc();
+    let new = with_both(&rt, alloc);
+    for (row, (count, flags, wanted)) in TABLES.iter().enumerate() {
+        let mut store = table_of(&rt, alloc, *count, *flags);
+        let holds = is_answered(&rt, alloc, &mut store, SHORT, &new, *wanted);
+        ask(&rt, row, holds);
     }
-    Ok(())
 }
