@@ -6,6 +6,7 @@ use Rattle.std.proofs.Math.Seq.{take-add, take-append_seam}
 use Rattle.store_model.proofs.Parts.{length-overwritten, length-part}
 use Rattle.vhdx_format.proofs.TextLemmas.{over_behind}
 use Rattle.vx_base.specs.Fields.{bytes_at, written_over}
+use Rattle.meta_edit.specs.Steps.{Shows}
 
 pub part_at : (f : List ℕ) (at n i : ℕ) → i < n → get_or (bytes_at f at n) i 0 ≡ get_or f (at + i) 0
 unfolding bytes_at
@@ -200,11 +201,7 @@ pub over_empty : (f b : List ℕ) (at : ℕ) → length b ≡ 0 → f ≡ writte
 over_empty f [] at e = over_nothing f at
 over_empty f (x ∷ xs) at e = absurd (omega (arith, e))
 
--- what the file shows is the file with this region
-pub record Shows (m n : ℕ) (f s r : List ℕ) : Type 0 where
-  pub is : s ≡ written_over f m r
-  pub len : length r ≡ n
-
+-- the file with this region
 pub shows_first : (m n : ℕ) (f s : List ℕ) → m + n ≤ length f → s ≡ f → Shows m n f s (bytes_at f m n)
 shows_first m n f s w e = record { is = e ∙ sym (over_itself f m n w); len = length-part f m n w }
 

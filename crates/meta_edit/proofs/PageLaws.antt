@@ -10,8 +10,8 @@ use Rattle.vhdx_format.specs.SettledFiles.{with_bytes, with_updates}
 use Rattle.vhdx_format.specs.declared.log_entry.Page.{Page}
 use Rattle.log_format.specs.PendingPages.{has_place, HasOnePageEach, with_page, place_of}
 use Rattle.meta_edit.specs.Pages.{with_pages, IsPageIn}
-use Rattle.meta_edit.specs.Steps.{part_with, part_with_all}
-use Rattle.meta_edit.proofs.ByteLaws.{Shows, part-over_in, over-over_in, over-over_apart, over_itself, shows_first, shows_next}
+use Rattle.meta_edit.specs.Steps.{Shows, part_with, part_with_all}
+use Rattle.meta_edit.proofs.ByteLaws.{part-over_in, over-over_in, over-over_apart, over_itself, shows_first, shows_next}
 
 -- the file with pages written over it, one after another
 laid_over : List Page → List ℕ → List ℕ

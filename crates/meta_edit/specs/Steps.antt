@@ -1,7 +1,7 @@
 -- The steps of an update: bytes that are laid and written, and what a region becomes by them.
-use Rattle.std.specs.Prelude.{◌≡◌, ◌<◌, ℕ, ◌+◌, ◌-◌, ◌&&◌, nat_le, Bool, false, List, [], ◌∷◌, Option, Some, None, Result, length, find, ◌≤◌, if◌then◌else◌}
+use Rattle.std.specs.Prelude.{◌≡◌, ◌<◌, ℕ, ◌+◌, ◌-◌, ◌&&◌, nat_le, Bool, false, List, [], ◌∷◌, Option, Some, None, Result, Ok, Err, length, find, ◌≤◌, if◌then◌else◌}
 use Rattle.vx_base.specs.Fields.{u16_at}
-use Rattle.store_model.specs.Disk.{Disk, WhereTold}
+use Rattle.store_model.specs.Disk.{Disk, LeavesBy, WhereTold}
 use Rattle.vhdx_format.specs.declared.log_entry.Page.{Page}
 use Rattle.vhdx_format.specs.declared.metadata.MetadataEntry.{MetadataEntry}
 use Rattle.vhdx_format.specs.Fields.{written_over, u16_bytes}
@@ -11,7 +11,7 @@ use Rattle.meta_edit.specs.declared.ItemKind.{ItemKind}
 use Rattle.meta_edit.specs.declared.MetaRefusal.{MetaRefusal}
 use Rattle.meta_edit.specs.declared.MetaRefusal.TheVariants.{LocatorTooLarge, MetadataFull, Store, NoRoom}
 use Rattle.meta_edit.specs.declared.laying.LaidFile.{LaidFile}
-use Rattle.meta_edit.specs.Edits.{Answers, IsInside, flags_of, id_of, is_of_kind, region_of}
+use Rattle.meta_edit.specs.Edits.{Answers, IsInside, IsNotTooLarge, NamesFile, fault_of, flags_of, id_of, is_of_kind, region_of}
 use Rattle.meta_edit.specs.Pages.{ArePages, HasMetadata, laid_file, with_pages}
 
 -- a file of the store whose metadata stand in their place, and the pages laid over them
@@ -27,6 +27,55 @@ WritesLaid laid at bytes disk old new =
     WhereTold disk.told (λ trace. with_pages new (laid_file trace laid.file laid.over.now)
     ≡ written_over (with_pages old (laid_file trace laid.file laid.over.now)) at bytes)
 
+-- a refusal that comes from outside, and says nothing of the bytes: want of memory, or a fault
+abbrev pub IsFromOutside : MetaRefusal → Type 0
+IsFromOutside (LocatorTooLarge len) = ⊥
+IsFromOutside (MetadataFull full) = ⊥
+IsFromOutside (Store fault) = Unit {0}
+IsFromOutside NoRoom = Unit {0}
+
+-- the file s is the file f with n bytes r from m on
+pub record Shows (m n : ℕ) (f s r : List ℕ) : Type 0 where
+  pub is : s ≡ written_over f m r
+  pub len : length r ≡ n
+
+-- the file with the pages over it is the file with this region
+abbrev pub ShowsLaid : LaidFile → List ℕ → List Page → List ℕ → Type 0
+ShowsLaid laid file pages region = Shows laid.parts.now.meta_at laid.parts.now.meta_len file (with_pages pages file) region
+
+-- Pages that change the region so, where the content is told; so many more than before, at most.
+pub record IsPut (laid : LaidFile) (change : List ℕ → List ℕ) (more : ℕ) (before : List Page) (old new : Disk) (pages : List Page) : Type 0 where
+  pub shown : WhereTold old.told (λ trace. (region : List ℕ) → ShowsLaid laid (laid_file trace laid.file laid.over.now) before region
+      → ShowsLaid laid (laid_file trace laid.file laid.over.now) pages (change region))
+  pub within : ArePages laid.parts.now pages
+  pub few : length pages ≤ length before + more
+  pub store : new ≡ old
+
+-- a refusal from outside, and the store that it leaves
+pub record IsFault (file : ℕ) (old new : Disk) (refusal : MetaRefusal) : Type 0 where
+  pub outside : IsFromOutside refusal
+  pub store : LeavesBy file old new (fault_of refusal)
+
+abbrev pub PutsInRegion : LaidFile → (List ℕ → List ℕ) → ℕ → List Page → Disk → Disk → Result (List Page) MetaRefusal → Type 0
+PutsInRegion laid change more before old new (Ok pages) = IsPut laid change more before old new pages
+PutsInRegion laid change more before old new (Err refusal) = IsFault laid.file old new refusal
+
+-- For every store: the pages lie in the metadata's region, and are few.
+pub record IsUpdate (laid : LaidFile) (old new : Disk) (pages : List Page) : Type 0 where
+  pub within : ArePages laid.parts.now pages
+  pub few : length pages ≤ 22
+  pub store : new ≡ old
+
+-- a refusal of this file's, and the store that it leaves
+pub record IsRefused (file : ℕ) (old new : Disk) (refusal : MetaRefusal) : Type 0 where
+  pub names : NamesFile file refusal
+  pub short : IsNotTooLarge refusal
+  pub store : LeavesBy file old new (fault_of refusal)
+
+abbrev pub EndsUpdate : LaidFile → Disk → Disk → Result (List Page) MetaRefusal → Type 0
+EndsUpdate laid old new (Ok pages) = IsUpdate laid old new pages
+EndsUpdate laid old new (Err refusal) = IsRefused laid.file old new refusal
+
 -- what is answered, going by the region's bytes
 abbrev pub AnswersLaid : LaidFile → Disk → (List ℕ → Option (List ℕ)) → Result (List Page) MetaRefusal → Type 0
 AnswersLaid laid disk changed result = Answers laid.parts.now laid.file laid.over.now disk (λ bytes. changed (region_of laid.parts.now bytes)) result
@@ -40,13 +89,6 @@ part_with at part page =
 unfoldable pub part_with_all : ℕ → List ℕ → List Page → List ℕ
 part_with_all at part [] = part
 part_with_all at part (page ∷ pages) = part_with_all at (part_with at part page) pages
-
--- a refusal that comes from outside, and says nothing of the bytes: want of memory, or a fault
-abbrev pub IsFromOutside : MetaRefusal → Type 0
-IsFromOutside (LocatorTooLarge len) = ⊥
-IsFromOutside (MetadataFull full) = ⊥
-IsFromOutside (Store fault) = Unit {0}
-IsFromOutside NoRoom = Unit {0}
 
 -- the region with a value written over an item's old one
 abbrev pub changed_there : List ℕ → MetadataEntry → List ℕ → List ℕ

@@ -1,17 +1,17 @@
 //! How one item is changed.
 
-ghost use Rattle.std.specs.Prelude.{◌≡◌, ◌≤◌, ◌<◌, ◌+◌, ◌*◌, ◌/◌, ◌^◌, ◌++◌, false, length, IsNone, IsTrue, IfSome, IfOk, IfErr, OnOk};
-ghost use Rattle.vhdx_format.specs.MetadataTables.{is_outside, metadata_entry_bytes, metadata_entries, metadata_table};
+ghost use Rattle.std.specs.Prelude.{◌≡◌, ◌≤◌, ◌<◌, ◌+◌, ◌/◌, ◌^◌, ◌++◌, false, length, IsNone, IsTrue, IfSome};
+ghost use Rattle.vhdx_format.specs.MetadataTables.{is_outside, metadata_entry_bytes, metadata_entries};
 ghost use Rattle.vhdx_format.specs.Updates as spec;
 ghost use Rattle.vhdx_format.specs.Updates.{with_changed, with_new};
 ghost use Rattle.vx_base.specs.Fields as fields;
+ghost use Rattle.vx_base.specs.Fields.{written_over};
 ghost use Rattle.meta_edit.specs.Edits as edits;
-ghost use Rattle.meta_edit.specs.Edits.{IsNotTooLarge, IsSound, NamesFile, fault_of, is_of_kind};
+ghost use Rattle.meta_edit.specs.Edits.{IsSound, is_of_kind};
 ghost use Rattle.meta_edit.specs.Pages.{ArePages, HasMetadata};
-ghost use Rattle.meta_edit.specs.Steps.{AnswersLaid, IsLaid, IsFromOutside, IsSoundTable, WritesLaid, added_there, changed_there, item_in_table, moved_to};
-ghost use Rattle.store_model.specs.Disk.{LeavesStore};
+ghost use Rattle.meta_edit.specs.Steps.{AnswersLaid, EndsUpdate, IsLaid, IsSoundTable, PutsInRegion, added_there, changed_there, item_in_table, moved_to};
 
-use crate::laying::{LaidFile, put, read_table};
+use crate::laying::{LaidFile, put, read_laid};
 use crate::table::{find_item, is_full_table, items_end};
 use crate::{ItemKind, MetaRefusal, Updates};
 use byteorder::{ByteOrder, LittleEndian};
@@ -19,7 +19,7 @@ use metadata_table::{ItemFlags, entry_bytes};
 use std::alloc::Global;
 use store_model::Store;
 use vhdx_format::{METADATA_TABLE_LEN, MetadataEntry, PARENT_LOCATOR, RETIRED};
-use vx_base::{Parts, put_u32, u16_at};
+use vx_base::{Parts, put_u32, u16_at, zeroed};
 
 // An offset and a length, as an entry has them.
 fn place_bytes(at: u32, len: u32) -> [u8; 8]
@@ -91,24 +91,43 @@ fn place_for(parts: &Parts, end: u64, value: &[u8]) -> Option<u32>
 fn put_in_region<S: Store>(
     store: &mut S,
     laid: &LaidFile<'_>,
-    updates: &mut Updates,
+    mut updates: Updates,
     offset: u32,
     bytes: &[u8],
-) -> Result<(), MetaRefusal>
+) -> Result<Updates, MetaRefusal>
     requires laid { IsLaid laid.now (S.disk store.old) }
-    requires updates { ArePages laid.now.parts.now updates.old }
+    requires updates { ArePages laid.now.parts.now updates }
     requires last { 0 < length bytes.now → offset + length bytes.now ≤ laid.now.parts.now.meta_len }
-    ensures written { OnOk result (WritesLaid laid.now (laid.now.parts.now.meta_at + offset) bytes.now (S.disk store.old) updates.old updates.new) }
-    ensures pages { OnOk result (ArePages laid.now.parts.now updates.new) }
-    ensures few { OnOk result (length updates.new ≤ length updates.old + length bytes.now / 4096 + 2) }
-    ensures err { IfErr result IsFromOutside }
-    ensures store { LeavesStore fault_of laid.now.file (S.disk store.old) (S.disk store.new) result }
+    ensures { PutsInRegion laid.now (λ region. (written_over region offset bytes.now)) (length bytes.now / 4096 + 2) updates
+        (S.disk store.old) (S.disk store.new) result }
 {
     if bytes.is_empty() {
-        return Ok(());
+        return Ok(updates);
     }
     let at = laid.parts.meta_at + u64::from(offset);
-    put(store, laid, updates, at, bytes)
+    put(store, laid, &mut updates, at, bytes)?;
+    Ok(updates)
+}
+
+// Changes bytes at an offset of the region, and then at another.
+fn put_both<S: Store>(
+    store: &mut S,
+    laid: &LaidFile<'_>,
+    updates: Updates,
+    first_at: u32,
+    first: &[u8],
+    second_at: u32,
+    second: &[u8],
+) -> Result<Updates, MetaRefusal>
+    requires laid { IsLaid laid.now (S.disk store.old) }
+    requires updates { ArePages laid.now.parts.now updates }
+    requires first { 0 < length first.now → first_at + length first.now ≤ laid.now.parts.now.meta_len }
+    requires second { 0 < length second.now → second_at + length second.now ≤ laid.now.parts.now.meta_len }
+    ensures { PutsInRegion laid.now (λ region. (written_over (written_over region first_at first.now) second_at second.now))
+        (length first.now / 4096 + 2 + (length second.now / 4096 + 2)) updates (S.disk store.old) (S.disk store.new) result }
+{
+    let updates = put_in_region(store, laid, updates, first_at, first)?;
+    put_in_region(store, laid, updates, second_at, second)
 }
 
 // The offset of the place that an entry gives.
@@ -132,16 +151,19 @@ fn change_in_place<S: Store>(
     requires value { length value.now ≤ 65536 }
     requires last { 0 < length value.now → old.now.at + length value.now ≤ laid.now.parts.now.meta_len }
     ensures answer { AnswersLaid laid.now (S.disk store.old) (λ region. (Some (changed_there region old.now value.now))) result }
-    ensures pages { IfOk result (ArePages laid.now.parts.now) }
-    ensures few { IfOk result (λ pages. length pages ≤ 22) }
-    ensures err { IfErr result (λ refusal. NamesFile laid.now.file refusal × IsNotTooLarge refusal) }
-    ensures store { LeavesStore fault_of laid.now.file (S.disk store.old) (S.disk store.new) result }
+    ensures ends { EndsUpdate laid.now (S.disk store.old) (S.disk store.new) result }
 {
-    let mut updates = Updates::new(alloc);
-    put_in_region(store, laid, &mut updates, old.at, value)?;
     let place = place_bytes(offset_of(old.at, value), value.len() as u32);
-    put_in_region(store, laid, &mut updates, place_in_entry(old), &place)?;
-    Ok(updates)
+    let updates = Updates::new(alloc);
+    put_both(
+        store,
+        laid,
+        updates,
+        old.at,
+        value,
+        place_in_entry(old),
+        &place,
+    )
 }
 
 // Writes a value behind the last item, and its place into the entry.
@@ -158,19 +180,22 @@ fn move_item<S: Store>(
     requires value { length value.now ≤ 65536 }
     requires end { end < 2 ^ 35 }
     ensures answer { AnswersLaid laid.now (S.disk store.old) (λ region. (moved_to region end old.now value.now)) result }
-    ensures pages { IfOk result (ArePages laid.now.parts.now) }
-    ensures few { IfOk result (λ pages. length pages ≤ 22) }
-    ensures err { IfErr result (λ refusal. NamesFile laid.now.file refusal × IsNotTooLarge refusal) }
-    ensures store { LeavesStore fault_of laid.now.file (S.disk store.old) (S.disk store.new) result }
+    ensures ends { EndsUpdate laid.now (S.disk store.old) (S.disk store.new) result }
 {
     let Some(place) = place_for(laid.parts, end, value) else {
         return Err(MetaRefusal::MetadataFull { file: laid.file });
     };
-    let mut updates = Updates::new(alloc);
     let entry = place_bytes(place, value.len() as u32);
-    put_in_region(store, laid, &mut updates, place_in_entry(old), &entry)?;
-    put_in_region(store, laid, &mut updates, place, value)?;
-    Ok(updates)
+    let updates = Updates::new(alloc);
+    put_both(
+        store,
+        laid,
+        updates,
+        place_in_entry(old),
+        &entry,
+        place,
+        value,
+    )
 }
 
 // Changes an item that is there.
@@ -189,10 +214,7 @@ fn change_item<S: Store>(
     requires value { length value.now ≤ 65536 }
     ensures answer { is_outside laid.now.parts.now.meta_len old.now ≡ false → AnswersLaid laid.now (S.disk store.old)
         (λ region. (with_changed region (spec.items_end (metadata_entries table.now)) old.now value.now)) result }
-    ensures pages { IfOk result (ArePages laid.now.parts.now) }
-    ensures few { IfOk result (λ pages. length pages ≤ 22) }
-    ensures err { IfErr result (λ refusal. NamesFile laid.now.file refusal × IsNotTooLarge refusal) }
-    ensures store { LeavesStore fault_of laid.now.file (S.disk store.old) (S.disk store.new) result }
+    ensures ends { EndsUpdate laid.now (S.disk store.old) (S.disk store.new) result }
 {
     if goes_in_place(laid.parts, old, value) {
         change_in_place(alloc, store, laid, old, value)
@@ -216,17 +238,19 @@ fn add_entry<S: Store>(
     requires value { length value.now ≤ 65536 }
     requires last { place + length value.now ≤ laid.now.parts.now.meta_len }
     ensures answer { AnswersLaid laid.now (S.disk store.old) (λ region. (Some (added_there region count entry.now place value.now))) result }
-    ensures pages { IfOk result (ArePages laid.now.parts.now) }
-    ensures few { IfOk result (λ pages. length pages ≤ 22) }
-    ensures err { IfErr result (λ refusal. NamesFile laid.now.file refusal × IsNotTooLarge refusal) }
-    ensures store { LeavesStore fault_of laid.now.file (S.disk store.old) (S.disk store.new) result }
+    ensures ends { EndsUpdate laid.now (S.disk store.old) (S.disk store.new) result }
 {
-    let mut updates = Updates::new(alloc);
-    let count = u32::from(count) + 1;
-    put_in_region(store, laid, &mut updates, 10, &u16_value(count as u16))?;
-    put_in_region(store, laid, &mut updates, 32 * count, entry)?;
-    put_in_region(store, laid, &mut updates, place, value)?;
-    Ok(updates)
+    let count = count + 1;
+    let updates = put_in_region(store, laid, Updates::new(alloc), 10, &u16_value(count))?;
+    put_both(
+        store,
+        laid,
+        updates,
+        32 * u32::from(count),
+        entry,
+        place,
+        value,
+    )
 }
 
 // Adds an item.
@@ -245,10 +269,7 @@ fn add_item<S: Store>(
     ensures answer { AnswersLaid laid.now (S.disk store.old)
         (λ region. (with_new region (spec.is_full_table (metadata_entries table.now)) (fields.u16_at table.now 10)
         (spec.items_end (metadata_entries table.now)) (edits.id_of kind) (edits.flags_of kind) value.now)) result }
-    ensures pages { IfOk result (ArePages laid.now.parts.now) }
-    ensures few { IfOk result (λ pages. length pages ≤ 22) }
-    ensures err { IfErr result (λ refusal. NamesFile laid.now.file refusal × IsNotTooLarge refusal) }
-    ensures store { LeavesStore fault_of laid.now.file (S.disk store.old) (S.disk store.new) result }
+    ensures ends { EndsUpdate laid.now (S.disk store.old) (S.disk store.new) result }
 {
     if is_full_table(table) {
         return Err(MetaRefusal::MetadataFull { file: laid.file });
@@ -274,10 +295,7 @@ fn change_or_add<S: Store>(
     requires value { length value.now ≤ 65536 }
     ensures answer { IsSoundTable laid.now.parts.now.meta_len table.now
         → AnswersLaid laid.now (S.disk store.old) (λ region. (item_in_table kind table.now value.now region)) result }
-    ensures pages { IfOk result (ArePages laid.now.parts.now) }
-    ensures few { IfOk result (λ pages. length pages ≤ 22) }
-    ensures err { IfErr result (λ refusal. NamesFile laid.now.file refusal × IsNotTooLarge refusal) }
-    ensures store { LeavesStore fault_of laid.now.file (S.disk store.old) (S.disk store.new) result }
+    ensures ends { EndsUpdate laid.now (S.disk store.old) (S.disk store.new) result }
 {
     // of a table that was read this is known, but of a store that tells nothing
     if u16_at(table, 10) > 2047 {
@@ -289,8 +307,28 @@ fn change_or_add<S: Store>(
     }
 }
 
+// Reads the table into a buffer, and goes by it.
+fn update_by<S: Store>(
+    alloc: Global,
+    store: &mut S,
+    laid: &LaidFile<'_>,
+    table: &mut [u8],
+    kind: ItemKind,
+    value: &[u8],
+) -> Result<Updates, MetaRefusal>
+    requires laid { IsLaid laid.now (S.disk store.old) }
+    requires table { length table.old ≡ 65536 }
+    requires value { length value.now ≤ 65536 }
+    requires sound { IsSound laid.now.parts.now laid.now.file laid.now.over.now (S.disk store.old) }
+    ensures answer { AnswersLaid laid.now (S.disk store.old)
+        (λ region. (spec.updated region (is_of_kind kind) (edits.id_of kind) (edits.flags_of kind) value.now)) result }
+    ensures ends { EndsUpdate laid.now (S.disk store.old) (S.disk store.new) result }
+{
+    read_laid(store, laid, laid.parts.meta_at, table)?;
+    change_or_add(alloc, store, laid, table, kind, value)
+}
+
 /// Changes the value of an item, or adds it.
-#[tactic(auto, using(crate::proofs::Refused::outside_answers, crate::proofs::Refused::outside_names))]
 pub fn update<S: Store>(
     alloc: Global,
     store: &mut S,
@@ -303,11 +341,8 @@ pub fn update<S: Store>(
     requires sound { IsSound laid.now.parts.now laid.now.file laid.now.over.now (S.disk store.old) }
     ensures answer { AnswersLaid laid.now (S.disk store.old)
         (λ region. (spec.updated region (is_of_kind kind) (edits.id_of kind) (edits.flags_of kind) value.now)) result }
-    ensures pages { IfOk result (ArePages laid.now.parts.now) }
-    ensures few { IfOk result (λ pages. length pages ≤ 22) }
-    ensures err { IfErr result (λ refusal. NamesFile laid.now.file refusal × IsNotTooLarge refusal) }
-    ensures store { LeavesStore fault_of laid.now.file (S.disk store.old) (S.disk store.new) result }
+    ensures ends { EndsUpdate laid.now (S.disk store.old) (S.disk store.new) result }
 {
-    let table = read_table(alloc, store, laid, METADATA_TABLE_LEN)?;
-    change_or_add(alloc, store, laid, table.as_slice(), kind, value)
+    let mut table = zeroed(alloc, METADATA_TABLE_LEN)?;
+    update_by(alloc, store, laid, table.as_mut_slice(), kind, value)
 }

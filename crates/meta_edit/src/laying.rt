@@ -1,6 +1,6 @@
 //! What the file shows with pages laid over it.
 
-ghost use Rattle.std.specs.Prelude.{◌≡◌, ◌≤◌, ◌<◌, ◌+◌, ◌%◌, ◌/◌, ◌^◌, length, OnOk, IfOk, IfErr};
+ghost use Rattle.std.specs.Prelude.{◌≡◌, ◌≤◌, ◌<◌, ◌+◌, ◌%◌, ◌/◌, ◌^◌, length, OnOk, IfErr};
 ghost use Rattle.store_model.specs.Disk.{LeavesStore, WhereTold};
 ghost use Rattle.vx_base.specs.Fields as fields;
 ghost use Rattle.log_format.specs.PendingPages.{HasOnePageEach};
@@ -11,10 +11,9 @@ ghost use Rattle.meta_edit.specs.Steps.{IsLaid, IsFromOutside, WritesLaid};
 
 use crate::MetaRefusal;
 use crate::list::Updates;
-use std::alloc::Global;
 use store_model::Store;
 use vhdx_format::Page;
-use vx_base::{Bytes, Parts, put_bytes};
+use vx_base::{Parts, put_bytes};
 
 /// A file whose metadata are changed, with the pages of earlier updates laid over it.
 #[derive(Clone, Copy)]
@@ -68,54 +67,29 @@ pub fn read_laid<S: Store>(
     Ok(())
 }
 
-/// The first bytes of the region, with the pages laid over it: `len` of them, whole pages.
-pub fn read_table<S: Store>(
-    alloc: Global,
-    store: &mut S,
-    laid: &LaidFile<'_>,
-    len: usize,
-) -> Result<Bytes, MetaRefusal>
-    requires laid { IsLaid laid.now (S.disk store.old) }
-    requires len { len % 4096 ≡ 0 }
-    requires most { len ≤ laid.now.parts.now.meta_len }
-    ensures len { IfOk result (λ table. length table ≡ len) }
-    ensures bytes { IfOk result (λ table. WhereTold (S.disk store.old).told
-        (λ trace. table ≡ fields.bytes_at (laid_file trace laid.now.file laid.now.over.now) laid.now.parts.now.meta_at len)) }
-    ensures err { IfErr result IsFromOutside }
-    ensures store { LeavesStore fault_of laid.now.file (S.disk store.old) (S.disk store.new) result }
-{
-    let mut table = vec![in alloc; 0u8; len]?;
-    read_laid(store, laid, laid.parts.meta_at, table.as_mut_slice())?;
-    Ok(Bytes::from_vec(table))
-}
-
-// The page at a place, with the pages of an update laid over too.
+// The bytes of a page, with the pages of an update laid over too.
 fn read_page<S: Store>(
     store: &mut S,
     laid: &LaidFile<'_>,
     updates: &Updates,
     at: u64,
-) -> Result<Page, MetaRefusal>
+    out: &mut [u8],
+) -> Result<(), MetaRefusal>
     requires laid { IsLaid laid.now (S.disk store.old) }
     requires updates { ArePages laid.now.parts.now updates.now }
     requires at { at % 4096 ≡ 0 }
+    requires out { length out.old ≡ 4096 }
     requires first { laid.now.parts.now.meta_at ≤ at }
     requires last { at + 4096 ≤ laid.now.parts.now.meta_at + laid.now.parts.now.meta_len }
-    ensures at { IfOk result (λ page. page.at ≡ at) }
-    ensures len { IfOk result (λ page. length page.bytes ≡ 4096) }
     ensures apart { OnOk result (HasOnePageEach updates.now) }
-    ensures bytes { IfOk result (λ page. WhereTold (S.disk store.old).told
-        (λ trace. page.bytes ≡ fields.bytes_at (with_pages updates.now (laid_file trace laid.now.file laid.now.over.now)) at 4096)) }
+    ensures bytes { OnOk result (WhereTold (S.disk store.old).told
+        (λ trace. out.new ≡ fields.bytes_at (with_pages updates.now (laid_file trace laid.now.file laid.now.over.now)) at 4096)) }
     ensures err { IfErr result IsFromOutside }
     ensures store { LeavesStore fault_of laid.now.file (S.disk store.old) (S.disk store.new) result }
 {
-    let mut page = Page {
-        at,
-        bytes: [0; 4096],
-    };
-    read_laid(store, laid, at, &mut page.bytes)?;
-    lay(&mut page.bytes, at, updates.as_slice());
-    Ok(page)
+    read_laid(store, laid, at, out)?;
+    lay(out, at, updates.as_slice());
+    Ok(())
 }
 
 // Changes bytes of one page.
@@ -138,7 +112,11 @@ fn put_piece<S: Store>(
     ensures store { LeavesStore fault_of laid.now.file (S.disk store.old) (S.disk store.new) result }
 {
     let start = at - at % 4096;
-    let mut page = read_page(store, laid, updates, start)?;
+    let mut page = Page {
+        at: start,
+        bytes: [0; 4096],
+    };
+    read_page(store, laid, updates, start, &mut page.bytes)?;
     put_bytes(&mut page.bytes, (at % 4096) as usize, bytes);
     updates.put(page)?;
     Ok(())

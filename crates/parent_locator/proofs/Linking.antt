@@ -164,9 +164,3 @@ kept_added id name pairs h =
 pub some_mapped : {A B : Type 0} (g : A → B) (o : Option A) → is_some (option_map g o) ≡ is_some o
 some_mapped g None = refl
 some_mapped g (Some x) = refl
-
--- a pair that is pushed, by its parts
-pub pushed_pair : (out new : List Pair) (key value k v : List ℕ) → new ≡ out ++ record { key = key; value = value } ∷ [] → key ≡ k → value ≡ v
-    → new ≡ out ++ record { key = k; value = v } ∷ []
-pushed_pair out new key value k v e f g =
-    e ∙ ap (λ (z : List ℕ). out ++ record { key = z; value = value } ∷ []) f ∙ ap (λ (z : List ℕ). out ++ record { key = k; value = z } ∷ []) g

@@ -5,9 +5,12 @@ use Rattle.vhdx_format.specs.declared.locator.Pair.{Pair}
 use Rattle.vhdx_format.specs.Locators.{has_key}
 use Rattle.vhdx_format.specs.Texts.{text_units}
 
--- the pair of a second linkage, and that of the path to a file in the same folder
+-- the pair of an identifier, as of a second linkage, and that of the path to a file in the same folder
+abbrev pub id_pair : List ℕ → List ℕ → Pair
+id_pair key id = record { key = key; value = braced_text lower id }
+
 abbrev pub second_pair : List ℕ → Pair
-second_pair id = record { key = codes "parent_linkage2"; value = braced_text lower id }
+second_pair = id_pair (codes "parent_linkage2")
 
 abbrev pub path_pair : List ℕ → Pair
 path_pair name = record { key = codes "relative_path"; value = codes ".\\" ++ text_units name }

@@ -5,9 +5,9 @@ ghost use Rattle.vhdx_format.specs.Locators.{has_key};
 ghost use Rattle.vhdx_format.specs.Relinking as relinking;
 ghost use Rattle.vhdx_format.specs.Relinking.{linked_twice};
 ghost use Rattle.parent_locator.specs.LinkEdits as spec;
-ghost use Rattle.parent_locator.specs.LinkEdits.{added_behind, linked_pair, path_pair, relinked_for, second_pair};
+ghost use Rattle.parent_locator.specs.LinkEdits.{added_behind, linked_pair, relinked_for};
 
-use crate::child::{path_of, plain_units};
+use crate::child::{path_of, plain_units, push_id, push_path};
 use crate::pairs::value_at;
 use std::alloc::{AllocError, Global};
 use vhdx_format::{
@@ -32,26 +32,6 @@ fn copy_units(alloc: Global, units: &[u16]) -> Result<Units, AllocError>
         copy.push(*unit)?;
     }
     Ok(copy)
-}
-
-// Adds the second linkage.
-fn push_second(alloc: Global, out: &mut Locator, id: &Guid) -> Result<(), AllocError>
-    ensures { OnOk result (out.new ≡ out.old ++ second_pair id.now ∷ []) }
-{
-    let key = plain_units(alloc, b"parent_linkage2")?;
-    let value = plain_units(alloc, &id.text())?;
-    out.push(Pair { key, value })?;
-    Ok(())
-}
-
-// Adds the path of a file in the same folder.
-fn push_path(alloc: Global, out: &mut Locator, name: &Name) -> Result<(), AllocError>
-    ensures { OnOk result (out.new ≡ out.old ++ path_pair name.now ∷ []) }
-{
-    let key = plain_units(alloc, b"relative_path")?;
-    let value = path_of(alloc, name)?;
-    out.push(Pair { key, value })?;
-    Ok(())
 }
 
 // The value of a pair, changed where the pair is one of the linkages.
@@ -96,7 +76,7 @@ fn push_linked(
 {
     push_changed(alloc, out, pair, found, new)?;
     if is_missing && has_key(pair, &LINKAGE_KEY) {
-        push_second(alloc, out, new)?;
+        push_id(alloc, out, b"parent_linkage2", new)?;
         return Ok(false);
     }
     Ok(is_missing)

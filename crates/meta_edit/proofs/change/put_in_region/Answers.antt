@@ -1,9 +1,16 @@
-use Rattle.std.proofs.Common.{◌+◌, ◌≡◌, length, arith}
-use Rattle.meta_edit.specs.Pages.{laid_file, with_pages}
-use Rattle.meta_edit.proofs.ByteLaws.{over_empty}
+use Rattle.std.proofs.Common.{◌≡◌, ℕ, ◌+◌, length, subst, arith}
+use Rattle.meta_edit.specs.Steps.{WritesLaid}
+use Rattle.meta_edit.proofs.Puts.{none_put, written_put}
 use Rattle.meta_edit.proofs.change.put_in_region.Goals as goal
 
-pub returns-then-is_empty-clause-written : goal.returns-then-is_empty-clause-written
-returns-then-is_empty-clause-written g c = λ t is.
+pub returns-then-is_empty : goal.returns-then-is_empty
+returns-then-is_empty g c =
     let none : length c.args.bytes.now ≡ 0 = grind (arith, c.is_empty.ensures, c.if-is_empty.true) in
-    over_empty (with_pages c.args.updates.now (laid_file t c.args.laid.now.file c.args.laid.now.over.now)) c.args.bytes.now (c.args.laid.now.parts.now.meta_at + c.args.offset) none
+    none_put c.args.laid.now (g.S.Store.disk c.args.store.now) c.args.updates c.args.offset c.args.bytes.now c.requires.laid c.requires.updates none
+
+pub returns : goal.returns
+returns g c =
+    written_put c.args.laid.now (g.S.Store.disk c.args.store.now) (g.S.Store.disk c.put.new.store) c.args.updates c.put.new.updates c.args.offset c.args.bytes.now
+    c.requires.laid c.requires.last
+    (subst (λ (z : ℕ). WritesLaid c.args.laid.now (c.args.laid.now.parts.now.meta_at + z) c.args.bytes.now (g.S.Store.disk c.args.store.now) c.args.updates c.put.new.updates) c.from.ensures c.in_ok-put.ensures.written)
+    c.in_ok-put.ensures.pages c.in_ok-put.ensures.few c.in_ok-put.ensures.store

@@ -22,7 +22,7 @@ returns c =
     sym (ap is_some c.value_at.ensures) ∙ some_mapped (λ value. value.now) c.value_at.result ∙ c.is_none.ensures in
     elim c.if-is_none.branch [
       | then-is_none+in_ok-push_path w ↦
-          w.out-is ∙ w.in_ok-push_path.ensures ∙ ap (λ (ps : List Pair). ps ++ path_pair c.args.name.now ∷ []) done
+          w.out-is ∙ w.in_ok-push_path.ensures.pushed ∙ ap (λ (ps : List Pair). ps ++ path_pair c.args.name.now ∷ []) done
           ∙ kept_added c.args.id.now c.args.name.now c.as_slice-pairs.result.now (found ∙ ap not w.if-is_none.true)
           ∙ ap (relinking.relinked c.args.id.now c.args.name.now) c.as_slice-pairs.ensures
       | else-is_none w ↦
