@@ -73,8 +73,6 @@ fn empty_store(alloc: Global) -> MemStore {
         files: Vec::new(alloc),
         order: Vec::new(alloc),
         calls: Calls::failing(Vec::new(alloc)),
-        tears: false,
-        failing_reader: None,
     }
 }
 

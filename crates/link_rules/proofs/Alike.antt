@@ -3,7 +3,7 @@ use Rattle.std.proofs.Common.{◌≡◌, ℕ, zero, Bool, true, false, cond, Lis
 use Rattle.std.specs.Prelude.{option_map}
 use Rattle.std.specs.List.{AllByRecursion}
 use Rattle.std.specs.Str.{bytes_eq}
-use Rattle.std.proofs.lemmas.Option.{same_Some}
+use Rattle.std.proofs.lemmas.Option.{none-some, same_Some}
 use Rattle.store_model.specs.File.{File, IsFileImage, is_synced, seen}
 use Rattle.store_model.specs.Folder.{Held, IsFolderImage, file_named}
 use Rattle.store_model.specs.Trace.{NamedBytes}
@@ -47,7 +47,7 @@ module _ (may : List ℕ → Type 0) (name bytes : List ℕ) (long : may name �
       (images (subst IsLongEnough (sym is) (long (subst may (own_name held.name name e) m))) image (subst (λ f. IsFileImage f image) (sym (same_Some after g g_is)) here))
 
   image_alike : (folder now : List Held) (image : List NamedBytes) → AllIdle folder → AreSafe may folder now → IsFolderImage now image → contents folder name ≡ Some bytes → AlikeIn (files_in image) name bytes
-  image_alike [] now image idle safe is had = cc
+  image_alike [] now image idle safe is had = absurd (none-some bytes had)
   image_alike (held ∷ folder) [] image idle safe is had = absurd safe
   image_alike (held ∷ folder) (later ∷ now) [] idle safe is had = absurd is
   image_alike (held ∷ folder) (later ∷ now) (f ∷ image) idle safe is had = by_name (bytes_eq held.name name) refl (image_alike folder now image (rest_idle held folder idle) safe.1 is.2) where
@@ -86,7 +86,7 @@ module _ (files : Contents) (more : Files) (alike : (name bytes : List ℕ) → 
   member_alike member is = by_file (files member.name) refl
     where
       by_file : (file : Option (List ℕ)) → files member.name ≡ file → IsIn more member
-      by_file None e = let never : None ≡ Some is.file = sym (ap (option_map at_rest) e) ∙ is.there in cc
+      by_file None e = absurd (none-some is.file (sym (ap (option_map at_rest) e) ∙ is.there))
       by_file (Some bytes) e =
           let a = alike member.name bytes e in
           let same : at_rest bytes ≡ is.file = same_Some (at_rest bytes) is.file (sym (ap (option_map at_rest) e) ∙ is.there) in

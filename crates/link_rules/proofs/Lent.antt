@@ -3,8 +3,8 @@ use Rattle.std.proofs.Common.{◌≡◌, ◌≤◌, ◌+◌, ℕ, zero, suc, Boo
 use Rattle.std.specs.Prelude.{◌⊎◌, ◌||◌, All, Ok, Err, Result, option_map, unwrap_or}
 use Rattle.std.specs.List.{IsDistinct}
 use Rattle.std.specs.Str.{bytes_eq}
-use Rattle.std.proofs.lemmas.Bool.{or_left, or_right}
-use Rattle.std.proofs.lemmas.Option.{same_Some}
+use Rattle.std.proofs.lemmas.Bool.{or_left, or_right, true≢false}
+use Rattle.std.proofs.lemmas.Option.{none-some, same_Some}
 use Rattle.std.proofs.lemmas.Slice.Eq.{bytes_eq-Decides}
 use Rattle.store_model.specs.Cause.{Rose}
 use Rattle.store_model.specs.Disk.{Disk, WhereTold, WhereBothTold}
@@ -44,7 +44,7 @@ there_further held folder leaf e there = ap (λ b. b || has_name leaf folder) (s
 
 -- a file that is there may be attached
 pub can_attach : (leaf : List ℕ) (folder : List Held) → AllIdle folder → has_name leaf folder ≡ true → CanAttach folder leaf
-can_attach leaf [] idle there = cc
+can_attach leaf [] idle there = absurd (true≢false (sym there))
 can_attach leaf (held ∷ folder) idle there = by_name (bytes_eq held.name leaf) refl (can_attach leaf folder (rest_idle held folder idle)) where
   by_name : (b : Bool) → bytes_eq held.name leaf ≡ b → (has_name leaf folder ≡ true → CanAttach folder leaf) → CanAttach (held ∷ folder) leaf
   by_name true e further =
@@ -60,7 +60,7 @@ IsAway leaf folder = (has_name leaf folder ≡ true) × (file_named leaf folder 
 
 away : (leaf : List ℕ) (folder : List Held) → has_name leaf folder ≡ true → IsAway leaf (with_file leaf None folder)
 unfolding IsAway
-away leaf [] there = cc
+away leaf [] there = absurd (true≢false (sym there))
 away leaf (held ∷ folder) there = by_name (bytes_eq held.name leaf) refl (away leaf folder) where
   lent : Held
   lent = record { name = held.name; file = None }
@@ -102,7 +102,7 @@ own leaf (held ∷ folder) = by_name (bytes_eq held.name leaf) refl (own leaf fo
 
 -- what was put in is what is there
 put_in : (leaf : List ℕ) (folder : List Held) (file : File) → has_name leaf folder ≡ true → file_named leaf (with_file leaf (Some file) folder) ≡ Some file
-put_in leaf [] file there = cc
+put_in leaf [] file there = absurd (true≢false (sym there))
 put_in leaf (held ∷ folder) file there = by_name (bytes_eq held.name leaf) refl (put_in leaf folder file) where
   by_name : (c : Bool) → bytes_eq held.name leaf ≡ c → (has_name leaf folder ≡ true → file_named leaf (with_file leaf (Some file) folder) ≡ Some file) → file_named leaf (with_file leaf (Some file) (held ∷ folder)) ≡ Some file
   by_name true e rest =
@@ -124,7 +124,7 @@ attached_same old new only = ap (λ (t : Trace). t.attached) only.since
 
 pub are_away : (leaf : List ℕ) (folder lent : Option (List Held)) (told : Option Trace) → IsLent leaf folder lent told → WhereTold folder (λ f. has_name leaf f ≡ true) → (t : List Held) → lent ≡ Some t → (trace : Trace) → told ≡ Some trace → AreAway trace t
 unfolding IsAway
-are_away leaf None lent told is there t lent_is trace told_is = let never : None ≡ Some t = sym is.folder_is ∙ lent_is in cc
+are_away leaf None lent told is there t lent_is trace told_is = absurd (none-some t (sym is.folder_is ∙ lent_is))
 are_away leaf (Some folder) lent told is there t lent_is trace told_is =
     let t_is : with_file leaf None folder ≡ t = same_Some _ _ (sym is.folder_is ∙ lent_is) in
     let kept : KeepsFile 0 (attached_trace (leaf ∷ []) folder) trace = subst (WhereBothTold (KeepsFile 0) (Some (attached_trace (leaf ∷ []) folder))) told_is is.kept in
@@ -140,7 +140,7 @@ pub record IsBack (leaf : List ℕ) (folder : List Held) (after : Option (List H
 
 pub back : (leaf : List ℕ) (folder lent after : Option (List Held)) (told : Option Trace) → IsLent leaf folder lent told → WhereTold told (λ trace. after ≡ option_map (given_back trace) lent)
     → (f : List Held) → folder ≡ Some f → (trace : Trace) × (told ≡ Some trace) × IsBack leaf f after trace
-back leaf None lent after told is back_is f folder_is = cc
+back leaf None lent after told is back_is f folder_is = absurd (none-some f folder_is)
 back leaf (Some g) lent after None is back_is f folder_is = absurd is.kept
 back leaf (Some g) lent after (Some trace) is back_is f folder_is =
     let same : g ≡ f = same_Some g f folder_is in (
@@ -160,7 +160,7 @@ missing_file : (leaf : List ℕ) (folder : List Held) → has_name leaf folder �
 missing_file leaf [] none = refl
 missing_file leaf (held ∷ folder) none = by_name (bytes_eq held.name leaf) refl (missing_file leaf folder) where
   by_name : (c : Bool) → bytes_eq held.name leaf ≡ c → (has_name leaf folder ≡ false → file_named leaf folder ≡ None) → file_named leaf (held ∷ folder) ≡ None
-  by_name true e rest = let no : true ≡ false = sym (or_left (bytes_eq held.name leaf) (has_name leaf folder) e) ∙ none in cc
+  by_name true e rest = absurd (true≢false (sym (or_left (bytes_eq held.name leaf) (has_name leaf folder) e) ∙ none))
   by_name false e rest = ap (λ c. cond c held.file (file_named leaf folder)) e ∙ rest (sym (ap (λ c. c || has_name leaf folder) e) ∙ none)
 
 -- what was lent
@@ -175,7 +175,7 @@ unfolding file_of
 unsealed_attached leaf folder = refl
 
 unsealed_in : (leaf : List ℕ) (folder : Option (List Held)) → WhereTold (option_map (attached_trace (leaf ∷ [])) folder) (λ t. is_sealed (file_of t 0) ≡ false)
-unsealed_in leaf None t told = cc
+unsealed_in leaf None t told = absurd (none-some t told)
 unsealed_in leaf (Some folder) t told = subst (λ (t : Trace). is_sealed (file_of t 0) ≡ false) (same_Some _ t told) (unsealed_attached leaf folder)
 
 -- it isn't sealed
@@ -264,7 +264,7 @@ module _ (leaf : List ℕ) (folder : List Held) (file : File) (idle : AllIdle fo
   unfolding after
   put_none name none = by_name (bytes_eq leaf name) refl where
     by_name : (b : Bool) → bytes_eq leaf name ≡ b → contents after name ≡ None
-    by_name true e = let never : Some (seen_named leaf folder) ≡ None = sym (seen_there leaf folder idle h) ∙ ap (contents folder) (same_name leaf name e) ∙ none in cc
+    by_name true e = absurd (none-some (seen_named leaf folder) (sym (sym (seen_there leaf folder idle h) ∙ ap (contents folder) (same_name leaf name e) ∙ none)))
     by_name false e = ap (option_map seen) (put_there leaf name (Some file) folder e) ∙ none
 
   put_each : (P : List ℕ → List ℕ → List ℕ → Type 0) → ((name bytes : List ℕ) → bytes_eq leaf name ≡ false → P name bytes bytes) → ((name bytes : List ℕ) → bytes_eq leaf name ≡ true → bytes ≡ seen_named leaf folder → P name bytes (seen file))
@@ -421,7 +421,7 @@ module _ (leaf : List ℕ) (old mid new : Hosted) (lent disk : Disk) (lends : Le
   none_told : (before now : Option Trace) → WhereBothTold (KeepsFile 0) before now → before ≡ None → now ≡ None
   none_told None None h e = refl
   none_told None (Some t) h e = absurd h
-  none_told (Some t) now h e = cc
+  none_told (Some t) now h e = absurd (none-some t (sym e))
 
   lent_untold : old.folder ≡ None → new.folder ≡ None
   lent_untold none =

@@ -1,7 +1,9 @@
-use Rattle.std.proofs.Common.{◌≡◌, ◌∙◌, ◌++◌, ◌∷◌, [], ap, subst, sym, length}
+use Rattle.std.proofs.Common.{false, ◌≡◌, ◌∙◌, ◌++◌, ◌∷◌, [], ap, subst, sym, length}
 use Rattle.store_model.specs.File.{seen_after}
 use Rattle.store_model.specs.Lawful.{is_lawful}
+use Rattle.mem_store.specs.Picked.{redone}
 use Rattle.mem_store.specs.Steps.{op_of, ops_done, Fits}
+use Rattle.mem_store.specs.declared.replay.Pick.TheVariants.{Everything}
 use Rattle.mem_store.proofs.StepLemmas.{ops_done-push, seen_more, lawful_more}
 use Rattle.mem_store.proofs.file.MemFile.act.Goals as goal
 
@@ -13,7 +15,7 @@ invariant_of-self-2 c =
     ap ops_done (c.push_reserved.ensures.items ∙ ap (λ s. s ++ step ∷ []) c.try_reserve.ensures.items) ∙ ops_done-push f.steps.items step in
     record {
       current =
-          c.in_ok-redo.ensures.ok ∙ ap (λ old. seen_after old (op_of step ∷ [])) f.current
+          c.in_ok-redo.ensures.ok ∙ ap (redone Everything false (op_of step)) f.current
           ∙ seen_more f.attached.items (ops_done f.steps.items) step ∙ sym (ap (seen_after f.attached.items) pushed);
       lawful =
           ap (is_lawful f.attached.items) pushed
