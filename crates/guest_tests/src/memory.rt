@@ -1,7 +1,7 @@
 //! Streams in memory, whose listed calls fail and no other, and stores that come back.
 
 use crate::asking::{are_bytes, ask, done, name_of};
-use mem_store::{Calls, Crash, MemHost, MemIds, MemSink, MemSource, MemStore, Pick};
+use mem_store::{Calls, Crash, MemHost, MemIds, MemSink, MemSource, MemStore, Pick, Slot};
 use std::alloc::Global;
 use std::process::Abort;
 use store_model::{Ids, Sink, Source};
@@ -76,13 +76,17 @@ fn empty_store(alloc: Global) -> MemStore {
     }
 }
 
-// Whether the host has one file alone, of a single byte 7.
-fn has_one(host: &MemHost) -> bool {
-    if host.slots.len() != 1 {
-        return false;
-    }
-    match &host.slots[0].file {
+fn has_seven(slot: &Slot) -> bool {
+    match &slot.file {
         Some(file) => are_bytes(&file.now, &[7]),
+        None => false,
+    }
+}
+
+// Whether a host was left that has one file alone, of a single byte 7.
+fn is_left(host: &Option<MemHost>) -> bool {
+    match host {
+        Some(host) => host.slots.len() == 1 && has_seven(&host.slots[0]),
         None => false,
     }
 }
@@ -103,9 +107,9 @@ fn a_store_that_comes_back_is_kept(rt: HostRuntime) {
     host.keep_past(&store);
     host.keep_crash(&store);
     ask(&rt, 1, kept(&host) == 1);
-    // what the crash left
-    match &host.take_crashed() {
-        Some(left) => ask(&rt, 2, has_one(left)),
-        None => ask(&rt, 3, false),
-    }
+    drop(store);
+    let left = host.take_crashed();
+    ask(&rt, 2, is_left(&left));
+    drop(left);
+    drop(host);
 }
