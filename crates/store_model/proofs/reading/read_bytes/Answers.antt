@@ -1,9 +1,9 @@
 use Rattle.std.proofs.Common.{◌≡◌, ◌++◌, ◌∙◌, ℕ, List, length, take, sym, ap}
 use Rattle.std.proofs.Math.Seq.{take-append_seam}
-use Rattle.vx_base.specs.Fields.{bytes_at}
+use Rattle.store_model.specs.Bytes.{bytes_at}
 use Rattle.store_model.specs.File.{seen}
 use Rattle.store_model.specs.Trace.{file_of}
-use Rattle.file_open.proofs.open.read_bytes.Goals as goal
+use Rattle.store_model.proofs.reading.read_bytes.Goals as goal
 
 all_of : (n : ℕ) (bytes rest : List ℕ) → n ≡ length bytes → take n (bytes ++ rest) ≡ bytes
 all_of n bytes rest long = ap (λ k. take k (bytes ++ rest)) long ∙ take-append_seam bytes rest

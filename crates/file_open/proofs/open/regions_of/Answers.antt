@@ -1,0 +1,10 @@
+use Rattle.file_open.specs.Causes.{of_fault}
+use Rattle.file_open.proofs.Numbered.{passed_on}
+use Rattle.file_open.proofs.Unread.{says_nothing, unread_left}
+use Rattle.file_open.proofs.open.regions_of.Goals as goal
+
+pub returns-in_err-copies-clause-answer : goal.returns-in_err-copies-clause-answer
+returns-in_err-copies-clause-answer g c t told = passed_on c.from_residual.result (of_fault c.in_err-copies.field-0.0) _ c.from_residual.ensures.1 (says_nothing _ c.in_err-copies.field-0.0)
+
+pub returns-in_err-copies-clause-store : goal.returns-in_err-copies-clause-store
+returns-in_err-copies-clause-store g c = unread_left c.args.file _ _ c.from_residual.result c.in_err-copies.field-0.0 c.from_residual.ensures.1 c.in_err-copies.ensures.store
