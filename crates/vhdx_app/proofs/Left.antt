@@ -15,7 +15,7 @@ use Rattle.link_rules.specs.declared.linked.Linked.{Linked}
 use Rattle.link_rules.proofs.Composing.{replays_keep}
 use Rattle.link_rules.proofs.Lent.{none_kept}
 use Rattle.link_rules.proofs.Safe.{none_safely}
-use Rattle.vhdx_app.specs.Answers.{sector_lines}
+use Rattle.printing.specs.Answers.{sector_lines}
 use Rattle.vhdx_app.specs.Causes.{of_chain}
 use Rattle.vhdx_app.specs.Commands.{HasFollowed, LeavesFollowedBy, Reports}
 use Rattle.vhdx_app.specs.Dump.{Finds}
@@ -23,8 +23,8 @@ use Rattle.vhdx_app.specs.Folders.{IsReplayedIn, OnlyFollows}
 use Rattle.vhdx_app.specs.Info.{info_lines}
 use Rattle.vhdx_app.specs.Printed.{RefusesDump, RefusesLeaf, ShowsFiles, ShowsSectors, unlinked}
 use Rattle.vhdx_app.specs.Refusals.{Refusal}
-use Rattle.vhdx_app.specs.declared.status.Status.{Status}
-use Rattle.vhdx_app.specs.declared.status.Status.TheVariants.{Done, Refused, Fault}
+use Rattle.printing.specs.declared.status.Status.{Status}
+use Rattle.printing.specs.declared.status.Status.TheVariants.{Done, Refused, Fault}
 use Rattle.vhdx_app.proofs.Said.{CountsIn, UnlessStoreFailed, WhereRefused, idle_reported, replayed_reported}
 
 pub counted : (leaf : List ℕ) (old new : Hosted) (meaning : Meaning Refusal) → LeavesFollowedBy leaf old new meaning → CountsIn old new meaning

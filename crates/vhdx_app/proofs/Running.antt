@@ -15,11 +15,11 @@ use Rattle.link_rules.specs.Folders.{AllIdle, contents}
 use Rattle.link_rules.specs.Touches.{IsOnWay, TouchesSafely}
 use Rattle.link_rules.proofs.Safe.{none_safely}
 use Rattle.vhdx_app.specs.Folders.{IsReplayedIn, OnlyFollows}
-use Rattle.vhdx_app.specs.Printed.{Sent, cut, whole}
+use Rattle.printing.specs.Sent.{Sent, cut, whole}
 use Rattle.vhdx_app.specs.Runs.{AskMerge, Ends, HasMerge, FollowsFirst, Runs}
 use Rattle.vhdx_app.specs.Worlds.{World, world}
-use Rattle.vhdx_app.specs.declared.status.Status.{Status}
-use Rattle.vhdx_app.specs.declared.status.Status.TheVariants.{Done, Refused, Usage, Fault, NoMemory}
+use Rattle.printing.specs.declared.status.Status.{Status}
+use Rattle.printing.specs.declared.status.Status.TheVariants.{Done, Refused, Usage, Fault, NoMemory}
 use Rattle.vhdx_app.proofs.Home.{home_added, home_followed, home_still}
 use Rattle.vhdx_app.proofs.Left.{follows_none}
 use Rattle.vhdx_app.proofs.Made.{adds_none, looks_still, still_making}

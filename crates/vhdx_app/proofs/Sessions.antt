@@ -37,13 +37,14 @@ use Rattle.script_session.specs.Histories.{AreTold, Break, Course, no_merge, non
 use Rattle.script_session.specs.Running.{open_by}
 use Rattle.script_session.specs.Told.{last_fault, transcript}
 use Rattle.script_session.specs.declared.session.ScriptRun.{ScriptRun}
-use Rattle.vhdx_app.specs.Answers.{fault_line}
+use Rattle.printing.specs.Answers.{fault_line}
 use Rattle.vhdx_app.specs.Causes.{meaning_of_chain, of_chain}
 use Rattle.vhdx_app.specs.Commands.{LeavesFollowedBy, Reports}
 use Rattle.vhdx_app.specs.Crashes.{AreSpared, OpensToFirst}
 use Rattle.vhdx_app.specs.Folders.{AllHome, LeadsTo, OnlyFollows, files_of}
 use Rattle.vhdx_app.specs.Making.{ShowIds}
-use Rattle.vhdx_app.specs.Printed.{Prints, Sent, ShowsFault, cut, of_host, of_store, whole}
+use Rattle.printing.specs.Sent.{Sent, cut, whole}
+use Rattle.vhdx_app.specs.Printed.{Prints, ShowsFault, of_host, of_store}
 use Rattle.vhdx_app.specs.Refusals.{IdUnfit, IsBase, LocatorTooLarge, MetadataFull, NotInChain, OfChain, ReadOnly, Refusal, Spent}
 use Rattle.vhdx_app.specs.Runs.{Ends, HasMerge}
 use Rattle.vhdx_app.specs.Sessions.{DrawsOver, IsCounted, IsDroppedIn, IsFollowedTo, IsNotFollowed, JudgesDrawn, LeafIsRun, NotRunOver, RanIn, ReportsRun, Rests, RunOver, Stands, UnlessMerging, UnlessStore, is_reading, leaf_name, meaning_of_steps, mode_of, run_said, said_of}
@@ -56,8 +57,8 @@ use Rattle.vhdx_app.specs.Worlds.{World}
 use Rattle.vhdx_app.specs.declared.refusal.ChainRefusal.{ChainRefusal}
 use Rattle.vhdx_app.specs.declared.refusal.StepsRefusal.{StepsRefusal}
 use Rattle.vhdx_app.specs.declared.refusal.StepsRefusal.TheVariants as refusal
-use Rattle.vhdx_app.specs.declared.status.Status.{Status}
-use Rattle.vhdx_app.specs.declared.status.Status.TheVariants.{Done, Fault, NoMemory, Refused}
+use Rattle.printing.specs.declared.status.Status.{Status}
+use Rattle.printing.specs.declared.status.Status.TheVariants.{Done, Fault, NoMemory, Refused}
 use Rattle.vhdx_app.proofs.Behind.{name_is, one_linked, opens_mid, told_mid}
 use Rattle.vhdx_app.proofs.Followed.{has_followed, order_stopped, shown_before, stands_before}
 use Rattle.vhdx_app.proofs.Home.{StaysHome, home_followed}

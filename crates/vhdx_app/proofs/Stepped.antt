@@ -16,17 +16,17 @@ use Rattle.script.specs.declared.form.ScriptKind.TheVariants as kinds
 use Rattle.script.specs.declared.refusal.SourceRefusal.{SourceRefusal}
 use Rattle.script.specs.declared.refusal.SourceRefusal.TheVariants as source
 use Rattle.script_session.specs.declared.session.ScriptRun.{ScriptRun}
-use Rattle.vhdx_app.specs.Answers.{fault_line}
+use Rattle.printing.specs.Answers.{fault_line}
 use Rattle.vhdx_app.specs.Folders.{OnlyFollows}
-use Rattle.vhdx_app.specs.Printed.{Sent, cut, whole}
+use Rattle.printing.specs.Sent.{Sent, cut, whole}
 use Rattle.vhdx_app.specs.Runs.{Ends, HasMerge}
 use Rattle.vhdx_app.specs.Sessions.{LeafIsRun, source_said}
 use Rattle.vhdx_app.specs.Steps.{IsUnopenedText, RunsSteps}
 use Rattle.vhdx_app.specs.Steps as steps
 use Rattle.vhdx_app.specs.Worlds.{World}
 use Rattle.vhdx_app.specs.declared.refusal.StepsRefusal.{StepsRefusal}
-use Rattle.vhdx_app.specs.declared.status.Status.{Status}
-use Rattle.vhdx_app.specs.declared.status.Status.TheVariants.{Fault, NoMemory, Usage}
+use Rattle.printing.specs.declared.status.Status.{Status}
+use Rattle.printing.specs.declared.status.Status.TheVariants.{Fault, NoMemory, Usage}
 use Rattle.vhdx_app.proofs.Home.{StaysHome, home_still}
 use Rattle.vhdx_app.proofs.Left.{follows_none}
 

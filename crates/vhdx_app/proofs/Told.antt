@@ -5,12 +5,12 @@ use Rattle.store_model.specs.declared.fault.StoreFault.{StoreFault}
 use Rattle.vx_base.specs.declared.NoRoom.{NoRoom}
 use Rattle.script.specs.declared.refusal.SourceRefusal.{SourceRefusal}
 use Rattle.script_session.specs.declared.session.ScriptRun.{ScriptRun}
-use Rattle.vhdx_app.specs.Answers.{fault_line}
-use Rattle.vhdx_app.specs.Printed.{Sent}
+use Rattle.printing.specs.Answers.{fault_line}
+use Rattle.printing.specs.Sent.{Sent}
 use Rattle.vhdx_app.specs.Sessions.{ReportsRun, Said, lines_said, none_said, run_said, said_of, source_said}
 use Rattle.vhdx_app.specs.declared.refusal.StepsRefusal.{StepsRefusal}
-use Rattle.vhdx_app.specs.declared.status.Status.{Status}
-use Rattle.vhdx_app.specs.declared.status.Status.TheVariants.{Done, Fault, NoMemory}
+use Rattle.printing.specs.declared.status.Status.{Status}
+use Rattle.printing.specs.declared.status.Status.TheVariants.{Done, Fault, NoMemory}
 
 module _ (before after : Option (List ℕ)) (old new : ℕ) (status : Status) where
   -- so it was said

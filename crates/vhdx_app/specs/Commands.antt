@@ -13,7 +13,7 @@ use Rattle.store_model.specs.Folder.{Held, Hosted, HostFailed, attached_trace, f
 use Rattle.store_model.specs.Moments.{Throughout}
 use Rattle.store_model.specs.Trace.{Trace, file_of}
 use Rattle.vhdx_format.specs.AllocationTables.{IsBlockSize}
-use Rattle.vhdx_format.specs.Fields.{megabyte, sector_size}
+use Rattle.vhdx_format.specs.Fields.{megabyte}
 use Rattle.vx_base.specs.Names.{IsName}
 use Rattle.vx_base.specs.declared.parts.Geometry.{Geometry}
 use Rattle.chain_model.specs.Files.{HasParts, IsIn, at_rest}
@@ -30,16 +30,17 @@ use Rattle.link_rules.specs.Folders.{AllIdle, Contents, contents}
 use Rattle.link_rules.specs.Laws.{AreMembers, at_rest_all}
 use Rattle.link_rules.specs.declared.linked.Linked.{Linked}
 use Rattle.link_rules.specs.declared.linked.LinkedFile.{LinkedFile}
-use Rattle.vhdx_app.specs.Answers.{fault_line}
+use Rattle.printing.specs.Answers.{fault_line}
 use Rattle.vhdx_app.specs.Causes.{meaning_of_chain}
 use Rattle.vhdx_app.specs.Dump.{read_limit}
 use Rattle.vhdx_app.specs.Making.{AddsOnly, LooksAt, MakesSafely, ShowIds}
-use Rattle.vhdx_app.specs.Printed.{IsMakeText, Printed, Sent}
+use Rattle.printing.specs.Sent.{Sent}
+use Rattle.vhdx_app.specs.Printed.{IsMakeText, Printed}
 use Rattle.vhdx_app.specs.Refusals.{Refusal, OfChain, EmptyRange, OutOfRange, TooLong, refusal_line}
 use Rattle.vhdx_app.specs.declared.making.ParentChain.{ParentChain}
 use Rattle.vhdx_app.specs.declared.refusal.ChainRefusal.{ChainRefusal}
-use Rattle.vhdx_app.specs.declared.status.Status.{Status}
-use Rattle.vhdx_app.specs.declared.status.Status.TheVariants.{Done, Refused, Usage, Fault, NoMemory}
+use Rattle.printing.specs.declared.status.Status.{Status}
+use Rattle.printing.specs.declared.status.Status.TheVariants.{Done, Refused, Usage, Fault, NoMemory}
 
 -- ---- files that are lent together, and only read
 
@@ -170,11 +171,6 @@ abbrev pub AreShort : ℕ → Trace → Type 0
 AreShort count trace = (number : ℕ) → number < count → length (seen (file_of trace number)) ≤ 2 ^ 63
 
 -- ---- what is printed
-
--- the bytes of so many sectors, whose numbers are numbers of 64 bits
-pub record IsGiven (first count : ℕ) (bytes : List ℕ) : Type 0 where
-  pub len : length bytes ≡ sector_size * count
-  pub end : first + count < 2 ^ 64
 
 -- a file that may be asked for: a disk of at least a sector and at most 64 TB, blocks of a size that a block may have, and,
 -- of a child, the name of a parent

@@ -9,11 +9,12 @@ use Rattle.link_rules.specs.Folders.{AllIdle, contents}
 use Rattle.link_rules.specs.Touches.{IsOnWay, TouchesSafely}
 use Rattle.vhdx_app.specs.Folders.{AllHome, IsReplayedIn, OnlyFollows}
 use Rattle.vhdx_app.specs.Making.{AddsOnly, LooksAt, MakesSafely}
-use Rattle.vhdx_app.specs.Printed.{IsDumpText, IsInfoText, IsMakeText, IsOwnText, Prints, Sent}
+use Rattle.printing.specs.Sent.{Sent}
+use Rattle.vhdx_app.specs.Printed.{IsDumpText, IsInfoText, IsMakeText, IsOwnText, Prints}
 use Rattle.vhdx_app.specs.Steps.{RunsSteps}
 use Rattle.vhdx_app.specs.Worlds.{World}
-use Rattle.vhdx_app.specs.declared.status.Status.{Status}
-use Rattle.vhdx_app.specs.declared.status.Status.TheVariants.{Done, Refused, Usage, Fault, NoMemory}
+use Rattle.printing.specs.declared.status.Status.{Status}
+use Rattle.printing.specs.declared.status.Status.TheVariants.{Done, Refused, Usage, Fault, NoMemory}
 
 -- nothing was done but that
 abbrev pub OnlyPrints : World → World → Type 0

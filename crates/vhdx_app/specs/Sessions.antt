@@ -58,13 +58,13 @@ use Rattle.script_session.specs.MergeRunning.{HasRunLeafMerge, HasRunMerge}
 use Rattle.script_session.specs.Running.{HasRunScript, open_by}
 use Rattle.script_session.specs.Told.{Told, last_fault, transcript}
 use Rattle.script_session.specs.declared.session.ScriptRun.{ScriptRun}
-use Rattle.vhdx_app.specs.Answers.{fault_line}
+use Rattle.printing.specs.Answers.{fault_line}
 use Rattle.vhdx_app.specs.Causes.{LeavesStoreBy, meaning_of_chain}
 use Rattle.vhdx_app.specs.Commands.{AreOpened, Reports}
 use Rattle.vhdx_app.specs.Crashes.{AreSpared, OpensToFirst}
 use Rattle.vhdx_app.specs.Folders.{AllHome, LeadsTo, files_of}
 use Rattle.vhdx_app.specs.Making.{ShowIds}
-use Rattle.vhdx_app.specs.Printed.{Sent}
+use Rattle.printing.specs.Sent.{Sent}
 use Rattle.vhdx_app.specs.Refusals.{Refusal}
 use Rattle.vhdx_app.specs.Refusals as refusals
 use Rattle.vhdx_app.specs.Starts.{HasNameRoomIn, HasRoomIn, IsFullIn, IsLeafFullIn, changed_names, child_pairs, is_leaf, leaf_pairs, source_pairs}
@@ -73,8 +73,8 @@ use Rattle.vhdx_app.specs.declared.refusal.ChainRefusal.{ChainRefusal}
 use Rattle.vhdx_app.specs.declared.refusal.ChainRefusal.TheVariants as chain
 use Rattle.vhdx_app.specs.declared.refusal.StepsRefusal.{StepsRefusal}
 use Rattle.vhdx_app.specs.declared.refusal.StepsRefusal.TheVariants as steps
-use Rattle.vhdx_app.specs.declared.status.Status.{Status}
-use Rattle.vhdx_app.specs.declared.status.Status.TheVariants.{Done, Usage, Fault, NoMemory}
+use Rattle.printing.specs.declared.status.Status.{Status}
+use Rattle.printing.specs.declared.status.Status.TheVariants.{Done, Usage, Fault, NoMemory}
 
 abbrev pub mode_of : Bool → Mode
 mode_of true = ReadOnly

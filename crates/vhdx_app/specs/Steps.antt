@@ -24,15 +24,15 @@ use Rattle.script_session.specs.Histories.{AreTold, Break, Course, Drive, no_mer
 use Rattle.script_session.specs.MergeRunning.{just_started}
 use Rattle.script_session.specs.Running.{open_by}
 use Rattle.script_session.specs.Told.{Told, last_fault, transcript}
-use Rattle.vhdx_app.specs.Answers.{fault_line}
+use Rattle.printing.specs.Answers.{fault_line}
 use Rattle.vhdx_app.specs.Crashes.{AreSpared, OpensToFirst}
 use Rattle.vhdx_app.specs.Folders.{LeadsTo, OnlyFollows, files_of}
 use Rattle.vhdx_app.specs.Printed.{Prints, ShowsFault, ShowsRefusal}
 use Rattle.vhdx_app.specs.Refusals.{Refusal, OfChain}
 use Rattle.vhdx_app.specs.Starts.{DrawsFor, LeadsAt, RefusesSession, changed_names, is_leaf}
 use Rattle.vhdx_app.specs.Worlds.{World}
-use Rattle.vhdx_app.specs.declared.status.Status.{Status}
-use Rattle.vhdx_app.specs.declared.status.Status.TheVariants.{Done, Refused, Usage, Fault, NoMemory, Findings}
+use Rattle.printing.specs.declared.status.Status.{Status}
+use Rattle.printing.specs.declared.status.Status.TheVariants.{Done, Refused, Usage, Fault, NoMemory, Findings}
 
 -- ---- the calls
 

@@ -1,15 +1,14 @@
 //! Printing what became of a script.
 
 ghost use Rattle.std.specs.Prelude.{◌++◌, codes};
-ghost use Rattle.vhdx_app.specs.Answers.{fault_line};
-ghost use Rattle.vhdx_app.specs.Printed.{Sent};
+ghost use Rattle.printing.specs.Answers.{fault_line};
+ghost use Rattle.printing.specs.Sent.{Sent};
 ghost use Rattle.vhdx_app.specs.Sessions.{ReportsRun};
 ghost use Rattle.vhdx_app.specs.Sessions as spec;
 
-use crate::print::{deliver, out_of_memory, send};
 use crate::refusal::StepsRefusal;
 use crate::refusing::{fail, refuse_steps};
-use crate::status::Status;
+use printing::{Status, deliver, out_of_memory, send};
 use script_session::ScriptRun;
 use std::alloc::Global;
 use store_model::{Sink, StoreFault};

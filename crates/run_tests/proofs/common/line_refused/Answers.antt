@@ -1,6 +1,6 @@
 use Rattle.std.proofs.Common.{◌≡◌, ◌≢◌, sym, ◌∙◌}
-use Rattle.vhdx_app.specs.declared.status.Status.{Status}
-use Rattle.vhdx_app.specs.declared.status.Status.TheVariants.{Refused, Fault, NoMemory}
+use Rattle.printing.specs.declared.status.Status.{Status}
+use Rattle.printing.specs.declared.status.Status.TheVariants.{Refused, Fault, NoMemory}
 use Rattle.run_tests.proofs.common.line_refused.Goals as goal
 
 no_fault : (status : Status) → status ≡ Refused → status ≢ Fault

@@ -4,9 +4,9 @@ use Rattle.command_line.specs.Words.{help_text, version_text}
 use Rattle.command_line.specs.declared.request.Request.TheVariants.{Dump, Info, Make, Help, Steps, Version}
 use Rattle.vhdx_app.specs.Runs.{no_memory}
 use Rattle.vhdx_app.specs.Worlds.{World, world}
-use Rattle.vhdx_app.specs.declared.status.Status.TheVariants.{Done, NoMemory}
+use Rattle.printing.specs.declared.status.Status.TheVariants.{Done, NoMemory}
 use Rattle.vhdx_app.proofs.Running.{made_ends, no_memory_runs, followed_ends, follows_first, merge_ends, runs_for, sent_ends, usage_ends}
-use Rattle.vhdx_app.proofs.Said.{text_sent}
+use Rattle.printing.proofs.Saying.{text_sent}
 use Rattle.vhdx_app.proofs.program.run_alone.Goals as goal
 
 pub returns-in-Ok-Some-Dump-clause-asked : goal.returns-in-Ok-Some-Dump-clause-asked

@@ -1,5 +1,5 @@
 use Rattle.std.proofs.Common.{refl}
-use Rattle.vhdx_app.specs.Printed.{cut}
+use Rattle.printing.specs.Sent.{cut}
 use Rattle.vhdx_app.proofs.refusing.name_line.Goals as goal
 
 pub returns-in-Err : goal.returns-in-Err

@@ -2,7 +2,7 @@ use Rattle.std.proofs.Common.{inl}
 use Rattle.vhdx_app.specs.Refusals.{IsBase, MetadataFull, NotInChain}
 use Rattle.vhdx_app.specs.Sessions.{meaning_of_steps}
 use Rattle.vhdx_app.specs.declared.refusal.StepsRefusal.TheVariants as steps
-use Rattle.vhdx_app.specs.declared.status.Status.TheVariants.{Refused}
+use Rattle.printing.specs.declared.status.Status.TheVariants.{Refused}
 use Rattle.vhdx_app.proofs.RuleSaid.{named_said}
 use Rattle.vhdx_app.proofs.Said.{refusal_sent, reports_for}
 use Rattle.vhdx_app.proofs.refusing.refuse_steps.Goals as goal

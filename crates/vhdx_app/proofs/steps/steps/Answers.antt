@@ -1,7 +1,7 @@
 use Rattle.std.proofs.Common.{refl}
 use Rattle.std.specs.Prelude.{option_map}
 use Rattle.vhdx_app.specs.Sessions.{mode_of}
-use Rattle.vhdx_app.specs.declared.status.Status.TheVariants.{NoMemory}
+use Rattle.printing.specs.declared.status.Status.TheVariants.{NoMemory}
 use Rattle.vhdx_app.proofs.Sessions.{leaf_ends, leaf_runs}
 use Rattle.vhdx_app.proofs.Stepped.{leaf_told, none_taken, refused_ends, refused_runs, unread_ends, unread_runs, where_some}
 use Rattle.vhdx_app.proofs.steps.steps.Goals as goal

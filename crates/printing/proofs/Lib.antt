@@ -1,0 +1,4 @@
+pub mod Sending
+mod Lines
+mod Digits
+pub mod Saying
