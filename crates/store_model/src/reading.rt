@@ -8,7 +8,8 @@ ghost use Rattle.store_model.specs.Trace.{file_of};
 use crate::{SealFault, Store};
 use std::alloc::Global;
 
-/// So many bytes of the file from a place on, in one read into new memory.
+/// `len` bytes of the file from the byte `at` on, in one read into new memory. It fails with the store's fault of that read, or where
+/// memory runs out.
 pub fn read_bytes<S: Store>(
     alloc: Global,
     store: &mut S,
