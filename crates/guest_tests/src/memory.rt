@@ -1,10 +1,12 @@
-//! Streams in memory, whose listed calls fail and no other, and stores that come back.
+//! Streams and readers in memory, whose listed calls fail and no other, and stores that come back.
 
 use crate::asking::{are_bytes, ask, done, name_of};
-use mem_store::{Calls, Crash, MemHost, MemIds, MemSink, MemSource, MemStore, Pick, Slot};
+use mem_store::{
+    Calls, Crash, MemHost, MemIds, MemReader, MemSink, MemSource, MemStore, Pick, Slot,
+};
 use std::alloc::Global;
 use std::process::Abort;
-use store_model::{Ids, Sink, Source};
+use store_model::{Ids, Reader, Sink, Source};
 
 // Calls of which this one fails.
 fn failing<R: Abort>(rt: &R, alloc: Global, call: u64) -> Calls {
@@ -47,6 +49,33 @@ fn listed_writes_fail(rt: HostRuntime) {
     ask(&rt, 2, are_bytes(&sink.bytes, b"abc"));
 }
 
+// What each of three reads of a sealed file gives, if it doesn't fail.
+static SEALED: [Option<[u8; 2]>; 3] = [Some(*b"bc"), None, Some(*b"bc")];
+
+// Two bytes of the sealed file, the second and the third.
+fn read(reader: &mut MemReader) -> Option<[u8; 2]> {
+    let mut out = [0; 2];
+    if reader.bytes.len() < 3 || reader.read_at(1, &mut out).is_err() {
+        return None;
+    }
+    Some(out)
+}
+
+#[test]
+fn a_listed_read_of_a_reader_fails(rt: HostRuntime) {
+    let mut reader = MemReader {
+        file: 0,
+        bytes: done(&rt, b"abcd".to_vec(rt.alloc())),
+        failed: 0,
+        reads: 0,
+        failing: Some(2),
+    };
+    for (row, wanted) in SEALED.iter().enumerate() {
+        ask(&rt, row, read(&mut reader) == *wanted);
+    }
+    ask(&rt, 3, reader.failed == 1);
+}
+
 #[test]
 fn listed_identifiers_come_first(rt: HostRuntime) {
     let mut ids = MemIds::new(done(&rt, [[7; 16]].to_vec(rt.alloc())));
@@ -73,6 +102,8 @@ fn empty_store(alloc: Global) -> MemStore {
         files: Vec::new(alloc),
         order: Vec::new(alloc),
         calls: Calls::failing(Vec::new(alloc)),
+        tears: false,
+        failing_reader: None,
     }
 }
 
