@@ -13,6 +13,9 @@ pub mod Concluding
 pub mod Holding
 pub mod Finding
 pub mod Looking
+mod Accepted
+mod MergeSpots
+mod Onward
 pub mod Beginning
 pub mod Fresh
 pub mod Showing

@@ -36,7 +36,7 @@ use Rattle.merge_plan.specs.Planning.{HasPlan}
 use Rattle.merge_plan.specs.declared.drawing.LogIds.{LogIds}
 use Rattle.merge_plan.specs.declared.drawing.MergeIds.{MergeIds}
 use Rattle.merge_plan.specs.declared.merge.Merge.{Merge}
-use Rattle.chain_core.specs.MergeStarting.{BeginsMerge, BeginsNoMerge, ChildBegun, ChildOver, HasBegunMerge, InnerFails, IsRoomFor, StartsMerge, behind_first, between_in, chain_files, data_session, is_changed, leaf_of, log_session, session_of, source_in, started_merge, target_in, target_place}
+use Rattle.chain_core.specs.MergeStarting.{BeginsMerge, BeginsNoMerge, ChildBegun, ChildOver, HasBegunMerge, HasBegunUpper, InnerFails, IsRoomFor, StartsMerge, behind_first, between_in, chain_files, data_session, is_changed, leaf_of, log_session, session_of, source_in, started_merge, target_in, target_place}
 use Rattle.chain_core.specs.Sessions.{AreApart, AreReady, AtMostOne, CanRelink, CanRetire, IsLow, IsMergeOf, IsReadyLeaf, IsRetiringOf, child_layer, number_of_leaf}
 use Rattle.chain_core.specs.Starting.{AreReadOf}
 use Rattle.chain_core.specs.States.{AreHeld, IsCourse, IsServing, IsUnder, State, child_parts, others_of, sector_of}
@@ -121,14 +121,16 @@ module _ (m : MergeFiles) (merge : Merge) (d : Disk) (can : CanStart (chain_file
           subst (λ (s : SessionIds). WhereBothTold (BeginsOver (leaf_of m).parts s 0) d.told a.told) session_is
           (subst (λ (f : LinkedFile). WhereBothTold (BeginsOver f.parts session 0) d.told a.told) top_is over)
 
+      own_has : (leaf : Layer) → WhereBothTold (HasBegun top.parts session 0 leaf) d.told a.told → WhereBothTold (HasBegun (leaf_of m).parts (data_session ids.leaf) 0 leaf) d.told a.told
+      own_has leaf begun =
+          subst (λ (s : SessionIds). WhereBothTold (HasBegun (leaf_of m).parts s 0 leaf) d.told a.told) session_is
+          (subst (λ (f : LinkedFile). WhereBothTold (HasBegun f.parts session 0 leaf) d.told a.told) top_is begun)
+
       pub top_stops : (fault : SealFault) → BeginFails 0 d a fault → BeginsMerge m merge d a (Err fault)
       top_stops = leaf_stops a own_over
 
       pub behind_top : (leaf : Layer) → WhereBothTold (HasBegun top.parts session 0 leaf) d.told a.told → a ≡ record d { told = a.told } → Behind (λ t. AtLeaf t m ids pages leaf) a
-      behind_top leaf begun =
-          behind_leaf a own_over leaf
-          (subst (λ (s : SessionIds). WhereBothTold (HasBegun (leaf_of m).parts s 0 leaf) d.told a.told) session_is
-          (subst (λ (f : LinkedFile). WhereBothTold (HasBegun f.parts session 0 leaf) d.told a.told) top_is begun))
+      behind_top leaf begun = behind_leaf a own_over leaf (own_has leaf begun)
 
   -- ---- the source's session begins
 
@@ -180,6 +182,40 @@ module _ (m : MergeFiles) (merge : Merge) (d : Disk) (can : CanStart (chain_file
         at = locator_stage m ids pages d can plan.links leaf source a.told r.at of.table plan.twice.has.pages_are plan.twice.has.told next b.told twice_over
             (subst (λ (ps : List Page). WhereBothTold (HasUpdated source next ps) a.told b.told) laid_is updated);
       }
+
+  -- ---- both of them, by what the code has of each step
+
+  module _ (top : LinkedFile) (top_is : top ≡ leaf_of m) (leaf_ids source_ids : SessionIds) (leaf_ids_are : leaf_ids ≡ data_session ids.leaf) (source_ids_are : source_ids ≡ log_session ids.source) (laid : List Page) (laid_is : laid ≡ pages) where
+    pub begun_upper : (leaf begun source : Layer) (a b e : Disk) → WhereBothTold (BeginsOver top.parts leaf_ids 0) d.told a.told → WhereBothTold (HasBegun top.parts leaf_ids 0 leaf) d.told a.told → IsReady leaf a → IsOf top.parts 0 leaf
+        → a ≡ record d { told = a.told } → WhereBothTold (BeginsOver m.source.parts source_ids (source_place m)) a.told b.told → WhereBothTold (HasBegun m.source.parts source_ids (source_place m) begun) a.told b.told
+        → IsOf m.source.parts (source_place m) begun → b ≡ record a { told = b.told } → WhereBothTold (UpdatesOver begun laid) b.told e.told → WhereBothTold (HasUpdated begun source laid) b.told e.told → IsReady source e
+        → source.tables.parts ≡ begun.tables.parts → source.log.number ≤ begun.log.number + 1 → e ≡ record b { told = e.told } → HasBegunUpper m merge d e leaf source
+    begun_upper leaf begun source a b e over has ready is counts source_over source_has source_is source_counts linked_over linked linked_ready linked_parts linked_number linked_counts = record {
+      first = a;
+      second = b;
+      begun = begun;
+      leaf_over = own_over top leaf_ids top_is leaf_ids_are a over;
+      leaf_begun = own_has top leaf_ids top_is leaf_ids_are a over leaf has;
+      leaf_ready = ready;
+      leaf_is = subst (λ (x : LinkedFile). IsOf x.parts 0 leaf) top_is is;
+      leaf_counts = counts;
+      source_over = subst (λ (s : SessionIds). WhereBothTold (BeginsOver m.source.parts s (source_place m)) a.told b.told) source_ids_are source_over;
+      source_begun = subst (λ (s : SessionIds). WhereBothTold (HasBegun m.source.parts s (source_place m) begun) a.told b.told) source_ids_are source_has;
+      source_is = source_is;
+      source_counts = source_counts;
+      linked_over = subst (λ (ps : List Page). WhereBothTold (UpdatesOver begun ps) b.told e.told) laid_is linked_over;
+      linked = subst (λ (ps : List Page). WhereBothTold (HasUpdated begun source ps) b.told e.told) laid_is linked;
+      linked_ready = linked_ready;
+      linked_parts = linked_parts;
+      linked_number = linked_number;
+      linked_counts = linked_counts;
+    }
+
+  pub behind_upper : (leaf source : Layer) (e : Disk) → HasBegunUpper m merge d e leaf source → Behind (λ t. AtLocator t m ids pages leaf source) e
+  behind_upper leaf source e h =
+      let r1 = behind_leaf h.first h.leaf_over leaf h.leaf_begun h.leaf_counts in
+      let r2 = behind_source leaf h.first r1 (log_session ids.source) refl h.second h.source_over h.begun h.source_begun h.source_counts in
+      behind_locator leaf h.begun h.second r2 h.source_is pages refl e h.linked_over source h.linked h.linked_counts
 
   -- ---- the target's session begins
 

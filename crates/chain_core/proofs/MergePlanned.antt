@@ -1,5 +1,5 @@
 -- A merge that was planned over a chain's files, as the merge of those files parted round its source.
-use Rattle.std.proofs.Common.{◌≡◌, ℕ, zero, suc, ◌<◌, false, List, [], ◌∷◌, length, get_or, refl, sym, ap, subst, ◌∙◌, arith}
+use Rattle.std.proofs.Common.{is_some, nat_lt, ◌≡◌, ℕ, zero, suc, ◌<◌, false, List, [], ◌∷◌, length, get_or, refl, sym, ap, subst, ◌∙◌, arith}
 use Rattle.std.specs.Prelude.{Option, Some, None, All, Result, Ok, Err}
 use Rattle.std.specs.List.{AllByRecursion}
 use Rattle.vhdx_format.specs.FileParts.{HasNumbers}
@@ -78,6 +78,12 @@ module _ (files : List LinkedFile) (name : List ℕ) (old : Disk) (before now : 
 
   can_of : CanStart (chain_files n) old
   can_of = subst (λ (fs : List LinkedFile). CanStart fs old) (sym files_are) can
+
+  pub can_at : (mid : Disk) → mid ≡ old → CanStart (chain_files n) mid
+  can_at mid stays = subst (λ (d : Disk). CanStart (chain_files n) d) (sym stays) can_of
+
+  pub child_some : is_some merge.ids.child ≡ nat_lt 0 (length n.above)
+  child_some = begun.child
 
   pub plan_at : (mid : Disk) → mid ≡ old → HasPlan (chain_files n) mid n merge
   plan_at mid stays = subst (λ (d : Disk). HasPlan (chain_files n) d n merge) (sym stays) (subst (λ (fs : List LinkedFile). HasPlan fs old n merge) (sym files_are) plan_of)

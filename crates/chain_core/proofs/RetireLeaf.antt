@@ -10,14 +10,14 @@ use Rattle.layer_session.specs.declared.file.Layer.{Layer}
 use Rattle.layer_session.specs.declared.file_layer.FileLayer.{FileLayer}
 use Rattle.layer_session.specs.declared.file_layer.FileLayer.TheVariants.{Session}
 use Rattle.layer_session.specs.Calls.{own_file, settled}
-use Rattle.layer_session.specs.FileLayers.{FileTurns, file_numbers, log_number}
+use Rattle.layer_session.specs.FileLayers.{FileTurns, WaitsForNone, file_numbers, log_number}
 use Rattle.layer_session.proofs.FileLayers.{others_stand}
 use Rattle.log_write.specs.Writing.{HasNextNumber}
 use Rattle.chain_core.specs.declared.layers.Layers.{Layers}
 use Rattle.chain_core.specs.declared.layers.Retiring.{Retiring}
 use Rattle.chain_core.specs.Copying.{number_below}
 use Rattle.chain_core.specs.Ending.{AreAllReady, SomeChangeFailed}
-use Rattle.chain_core.specs.Finished.{CanBeRetired, CanEnd, ChangesFile, Clears, Finishes, HandsOver, Identifies, IsAllMarked, IsTargetOrChild, Settles, UpdatesBy, leaf_left, number_above, numbers_left}
+use Rattle.chain_core.specs.Finished.{CanBeRetired, CanEnd, ChangesFile, Clears, Finishes, HandsOver, Identifies, IsAllMarked, IsSessionOf, IsTargetOrChild, Settles, UpdatesBy, leaf_left, number_above, numbers_left}
 use Rattle.chain_core.specs.Sessions.{AreReady, AtMostOne, CanRelink, CanRetire, IsLow, IsMergeOf, IsReadyLeaf, IsRetiringOf, KeepsMerge, first_layer, header_at, is_session_at, number_of_leaf}
 use Rattle.chain_core.proofs.Copied.{low_on}
 use Rattle.chain_core.proofs.Ending.{failed_later}
@@ -58,6 +58,12 @@ module _ (L0 : Layers) (r : Retiring) (d0 : Disk) (none : L0.merge ≡ None) (ke
 
   -- ---- the target's commit
 
+  pub target_session : IsSessionOf L0 1
+  target_session = of_retiring.target
+
+  pub target_low : IsLow (2 ^ 63 + 3) L0 → IsLow (2 ^ 63 + 5) L0
+  target_low low = low_on (2 ^ 63 + 3) (2 ^ 63 + 5) L0 (omega arith) low
+
   module _ (L1 : Layers) (d1 : Disk) where
     pub stopped_first : (fault : StoreFault) → ChangesFile Settles 1 L0 L1 d0 d1 (Err fault) → Finishes L0 L1 d0 d1 (Err fault)
     stopped_first fault c =
@@ -85,6 +91,9 @@ module _ (L0 : Layers) (r : Retiring) (d0 : Disk) (none : L0.merge ≡ None) (ke
 
       none1 : L1.merge ≡ None
       none1 = t1.merge ∙ none
+
+      pub leaf_session : IsSessionOf L1 0
+      leaf_session = ap is_some t1.leaf ∙ of_retiring.session
 
       -- ---- the leaf's commit
 
@@ -122,6 +131,12 @@ module _ (L0 : Layers) (r : Retiring) (d0 : Disk) (none : L0.merge ≡ None) (ke
 
           turns2 : WhereTold d2.told (FileTurns (Session t2.now) r.retire)
           turns2 = subst (λ o. IfSome o (λ l. WhereTold d2.told (FileTurns (Session l) r.retire))) t2.now_there can_retire.turns
+
+          pub clear_merge : is_some L2.retiring ≡ true
+          clear_merge = ap is_some (s2.retiring ∙ kept_is)
+
+          pub clear_settled : IfSome (first_layer L2.below.items) WaitsForNone
+          clear_settled = subst (λ (b : List FileLayer). IfSome (first_layer b) WaitsForNone) (sym items2) t1.changed.empty
 
           -- ---- the target's retired name
 
@@ -205,6 +220,12 @@ module _ (L0 : Layers) (r : Retiring) (d0 : Disk) (none : L0.merge ≡ None) (ke
                   } in
                   subst (λ o. IfSome o (λ (k : Retiring). IfSome L3.leaf (CanBeRetired k.retire d3))) (sym retiring3) (subst (λ o. IfSome o (CanBeRetired r.retire d3)) (sym t3.leaf) can)
 
+              pub retire_merge : is_some L3.retiring ≡ true
+              retire_merge = ap is_some retiring3
+
+              pub retire_session : is_some L3.leaf ≡ true
+              retire_session = ap is_some t3.leaf
+
               -- ---- the leaf is retired
 
               module _ (L4 : Layers) (d4 : Disk) where
@@ -251,6 +272,9 @@ module _ (L0 : Layers) (r : Retiring) (d0 : Disk) (none : L0.merge ≡ None) (ke
                       let first : header_at L1.below.items 0 ≡ header_at L0.below.items 0 = ap (λ (b : List FileLayer). header_at b 0) t1.now_there ∙ ap Some t1.changed.header ∙ sym (ap (λ (b : List FileLayer). header_at b 0) t1.was_there) in
                       subst (λ h. IfSome h HasNextNumber) (sym (ap (λ b. header_at b.items 0) t4.below ∙ t3.header ∙ ap (λ b. header_at b.items 0) t2.below ∙ first)) of_retiring.next
 
+                  pub identify_merge : is_some L4.retiring ≡ true
+                  identify_merge = ap is_some retiring4
+
                   -- ---- the target's last identifier
 
                   module _ (L5 : Layers) (d5 : Disk) where
@@ -281,6 +305,15 @@ module _ (L0 : Layers) (r : Retiring) (d0 : Disk) (none : L0.merge ≡ None) (ke
                             number = (let own = leaf_low low in let one = t4.changed.number in let was : t2.now.log.number ≡ t4.was.log.number = ap (λ (l : Layer). l.log.number) same_leaf in omega (arith, own, one, was));
                           } in
                           subst (λ o. IfSome o (CanEnd d5)) (sym leaf) can
+
+                      pub hand_there : 0 < length L5.below.items
+                      hand_there = subst (λ (b : List FileLayer). 0 < length b) (sym t5.now_there) (omega arith)
+
+                      pub hand_target : is_session_at L5.below.items 0 ≡ true
+                      hand_target = ap (λ (b : List FileLayer). is_session_at b 0) t5.now_there
+
+                      pub hand_session : is_some L5.leaf ≡ true
+                      hand_session = ap is_some (t5.leaf ∙ t4.now_there)
 
                       -- ---- the target is the leaf
 

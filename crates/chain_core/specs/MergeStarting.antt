@@ -19,12 +19,13 @@ use Rattle.chain_model.specs.Members.{Ties}
 use Rattle.chain_model.specs.Stripes.{stripe_count}
 use Rattle.merge_core.specs.Copied.{marks_of}
 use Rattle.link_rules.specs.declared.linked.LinkedFile.{LinkedFile}
-use Rattle.layer_session.specs.Begins.{BeginsOver, HasBegun, as_found, in_session}
+use Rattle.layer_session.specs.Begins.{BeginsOver, HasBegun, IsOf, as_found, in_session}
+use Rattle.layer_session.specs.Keeping.{IsReady}
 use Rattle.layer_session.specs.declared.file.Layer.{Layer}
 use Rattle.layer_session.specs.declared.file_layer.FileLayer.{FileLayer}
 use Rattle.layer_session.specs.declared.file_layer.FileLayer.TheVariants.{Read, Session}
 use Rattle.layer_session.specs.declared.read_layer.ReadLayer.{ReadLayer}
-use Rattle.layer_session.specs.Updating.{laid_region, turned}
+use Rattle.layer_session.specs.Updating.{HasUpdated, UpdatesOver, laid_region, turned}
 use Rattle.merge_plan.specs.Merging.{MergeFiles, child_place, source_place, twice_pairs}
 use Rattle.merge_plan.specs.Planning.{HasPlan, IsBegun, Refuses}
 use Rattle.merge_plan.specs.declared.drawing.LogIds.{LogIds}
@@ -283,6 +284,27 @@ pub record AreMergeLayers (m : MergeFiles) (merge : Merge) (room : Room) (leaf t
   pub place : u.source ≡ length m.above
   pub marks : u.marks ≡ room.marks
   pub relinks : u.relink ≡ merge.relink
+
+-- The first two sessions have begun, the source's with the pages that link it twice: what each step did, and the disks between them.
+pub record HasBegunUpper (m : MergeFiles) (merge : Merge) (old new : Disk) (leaf source : Layer) : Type 0 where
+  pub first : Disk
+  pub second : Disk
+  pub begun : Layer
+  pub leaf_over : WhereBothTold (BeginsOver (leaf_of m).parts (data_session merge.ids.leaf) 0) old.told first.told
+  pub leaf_begun : WhereBothTold (HasBegun (leaf_of m).parts (data_session merge.ids.leaf) 0 leaf) old.told first.told
+  pub leaf_ready : IsReady leaf first
+  pub leaf_is : IsOf (leaf_of m).parts 0 leaf
+  pub leaf_counts : first ≡ record old { told = first.told }
+  pub source_over : WhereBothTold (BeginsOver m.source.parts (log_session merge.ids.source) (source_place m)) first.told second.told
+  pub source_begun : WhereBothTold (HasBegun m.source.parts (log_session merge.ids.source) (source_place m) begun) first.told second.told
+  pub source_is : IsOf m.source.parts (source_place m) begun
+  pub source_counts : second ≡ record first { told = second.told }
+  pub linked_over : WhereBothTold (UpdatesOver begun merge.twice) second.told new.told
+  pub linked : WhereBothTold (HasUpdated begun source merge.twice) second.told new.told
+  pub linked_ready : IsReady source new
+  pub linked_parts : source.tables.parts ≡ begun.tables.parts
+  pub linked_number : source.log.number ≤ begun.log.number + 1
+  pub linked_counts : new ≡ record second { told = new.told }
 
 -- All sessions have begun, and the source's has ended: the merge begins with whatever layers are made of them, or with none for want of
 -- memory.

@@ -13,7 +13,7 @@ ghost use Rattle.layer_session.specs.declared.file_layer.FileLayer.TheVariants a
 ghost use Rattle.merge_core.specs.Copied.{marks_of};
 ghost use Rattle.merge_plan.specs.Planning.{HasPlan};
 ghost use Rattle.merge_plan.specs.Merging.{source_place};
-ghost use Rattle.chain_core.specs.MergeStarting.{AreLow, BeginsMerge, ChildBegun, ChildOver, HasBegunAll, InnerFails, IsRoomFor, StartsWithMerge, chain_files, files_in, high_of, session_of};
+ghost use Rattle.chain_core.specs.MergeStarting.{AreLow, BeginsMerge, ChildBegun, ChildOver, HasBegunAll, HasBegunUpper, InnerFails, IsRoomFor, StartsWithMerge, chain_files, files_in, high_of, session_of};
 ghost use Rattle.log_format.specs.PendingPages.{HasOnePageEach};
 ghost use Rattle.log_write.specs.Writing.{BeginFails};
 ghost use Rattle.layer_session.specs.Calls.{KeepsOver};
@@ -358,7 +358,38 @@ struct Begun {
     target: Layer,
 }
 
-// They begin, in an order in which the chain is linked at each moment.
+// The first two of them: the leaf's, and the source's, which is linked twice to the target.
+#[derive(Drop)]
+struct Upper {
+    leaf: Layer,
+    source: Layer,
+}
+
+fn begin_upper<S: Store>(
+    alloc: Global,
+    store: &mut S,
+    of: MergeOf<'_>,
+    merge: &Merge,
+) -> Result<Upper, SealFault>
+    requires files { CanStart (chain_files (files_in of)) (S.disk store.old) }
+    requires plan { HasPlan (chain_files (files_in of)) (S.disk store.old) (files_in of) merge.now }
+    requires low { AreLow (files_in of) }
+    ensures begun { IfOk result (λ u. HasBegunUpper (files_in of.entry) merge.now (S.disk store.old) (S.disk store.new) u.leaf u.source) }
+    ensures err { IfErr result (λ fault. BeginsMerge (files_in of.entry) merge.now (S.disk store.old) (S.disk store.new) (Err fault)) }
+{
+    let ids = merge.ids;
+    let top = leaf_of(of.above, of.child);
+    let leaf_ids = data_session(ids.leaf);
+    let leaf = Layer::begin(alloc, store, 0, &top.parts, leaf_ids, LEAF_PAGES)?;
+    let source_ids = log_session(ids.source);
+    let number = of.above.len() as u32 + 1;
+    let parts = &of.source.parts;
+    let mut source = Layer::begin(alloc, store, number, parts, source_ids, OTHER_PAGES)?;
+    link_twice(store, &mut source, merge.twice.as_slice())?;
+    Ok(Upper { leaf, source })
+}
+
+// All begin, in an order in which the chain is linked at each moment.
 fn begin_all<S: Store>(
     alloc: Global,
     store: &mut S,
@@ -373,22 +404,17 @@ fn begin_all<S: Store>(
     ensures err { IfErr result (λ fault. BeginsMerge (files_in of.entry) merge.now (S.disk store.old) (S.disk store.new) (Err fault)) }
 {
     let ids = merge.ids;
+    let upper = begin_upper(alloc, store, of, merge)?;
     let place = of.above.len() as u32;
-    let top = leaf_of(of.above, of.child);
-    let leaf_ids = data_session(ids.leaf);
-    let leaf = Layer::begin(alloc, store, 0, &top.parts, leaf_ids, LEAF_PAGES)?;
-    let source_ids = log_session(ids.source);
-    let number = place + 1;
-    let parts = &of.source.parts;
-    let mut source = Layer::begin(alloc, store, number, parts, source_ids, OTHER_PAGES)?;
-    link_twice(store, &mut source, merge.twice.as_slice())?;
+    let source_number = place + 1;
     let target_ids = data_session(ids.target);
     let parts = &of.target.parts;
-    let target = Layer::begin(alloc, store, number + 1, parts, target_ids, OTHER_PAGES)?;
+    let number = source_number + 1;
+    let target = Layer::begin(alloc, store, number, parts, target_ids, OTHER_PAGES)?;
     let child = begin_child(alloc, store, place, of.child, ids.child)?;
-    let source = close(store, source)?;
+    let source = close(store, upper.source)?;
     Ok(Begun {
-        leaf,
+        leaf: upper.leaf,
         child,
         source,
         target,

@@ -1,9 +1,8 @@
 //! Streams and readers in memory, whose listed calls fail and no other, and stores that come back.
 
 use crate::asking::{are_bytes, ask, done, name_of};
-use mem_store::{
-    Calls, Crash, MemHost, MemIds, MemReader, MemSink, MemSource, MemStore, Pick, Slot,
-};
+use mem_file::Pick;
+use mem_store::{Calls, Crash, MemHost, MemIds, MemReader, MemSink, MemSource, MemStore, Slot};
 use std::alloc::Global;
 use std::process::Abort;
 use store_model::{Ids, Reader, Sink, Source};

@@ -86,3 +86,5 @@ pub mod CallPrepared
 pub mod BothChunks
 pub mod Choices
 pub mod EntryBrought
+mod Exits
+mod Handing

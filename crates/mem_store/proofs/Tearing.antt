@@ -10,9 +10,9 @@ use Rattle.store_model.specs.declared.fault.StoreFault.{StoreFault}
 use Rattle.store_model.proofs.Failing.{write_failed}
 use Rattle.store_model.proofs.Parts.{length-overwritten, length-part}
 use Rattle.store_model.specs.Trace.{NamedBytes}
-use Rattle.mem_store.specs.MemFile.{Contents}
+use Rattle.mem_file.specs.MemFile.{Contents}
 use Rattle.mem_store.specs.MemStore.{all_contents}
-use Rattle.mem_store.specs.Steps.{half_of, changes_of}
+use Rattle.mem_file.specs.Steps.{half_of, changes_of}
 use Rattle.mem_store.specs.StoreReads.{lawful_reads}
 use Rattle.mem_store.specs.StoreTold.{seen_by}
 use Rattle.mem_store.specs.declared.store.MemStore.{MemStore}

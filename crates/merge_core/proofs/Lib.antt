@@ -1,2 +1,3 @@
 mod PieceLemmas
+mod Marked
 pub mod Touching

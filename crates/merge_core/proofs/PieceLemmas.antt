@@ -1,6 +1,6 @@
 -- Pieces as sectors.
-use Rattle.std.proofs.Common.{◌≡◌, ℕ, ◌+◌, ◌-◌, ◌*◌, ◌/◌, ◌%◌, ◌<◌, ◌≤◌, ◌⊎◌, ◌==◌, ◌&&◌, Bool, true, false, List, length, take, drop, ◌++◌, Option, Some, None, refl, sym, ap, subst, ◌∙◌, arith, inl, inr, mul_comm, if◌then◌else◌}
-use Rattle.std.specs.Prelude.{Err, Ok, OnOk, Result, is_some, nat_le, nat_lt}
+use Rattle.std.proofs.Common.{◌≡◌, ℕ, ◌+◌, ◌-◌, ◌*◌, ◌^◌, ◌/◌, ◌%◌, ◌<◌, ◌≤◌, ◌⊎◌, ◌==◌, ◌&&◌, Bool, true, false, List, length, take, drop, ◌++◌, Option, Some, None, refl, sym, ap, subst, ◌∙◌, arith, inl, inr, mul_comm, if◌then◌else◌}
+use Rattle.std.specs.Prelude.{Err, Ok, OnErr, OnOk, Result, is_ok, is_some, nat_le, nat_lt}
 use Rattle.std.specs.Option.{option_or}
 use Rattle.std.proofs.Math.Nat.{add-mul, div-eq_of_lt-le}
 use Rattle.std.proofs.lemmas.Bool.{and_from, cases_lt, le-leb, lt-ltb}
@@ -108,17 +108,37 @@ pub holds_off : (l : FileLayer) (trace : Trace) (layer : chain.Layer) → Holds 
 holds_off (Session l) trace layer h s above = h.1.has.off_disk s (subst (λ (p : Shape). p.sectors ≤ s) h.1.shape above)
 holds_off (Read l) trace layer h s above = ap (λ (f : chain.Layer). f s) (sym h.1.1) ∙ h.1.0.as_held.has.off_disk s (subst (λ (p : Shape). p.sectors ≤ s) h.1.0.as_held.shape above)
 
--- a stripe has some sectors
-pub some_sectors : (l : FileLayer) (disk : Disk) (geometry : Geometry) → IsReadableFile geometry disk l → 0 < per_stripe geometry.sector
-some_sectors l disk geometry r = by_size (sector_cases geometry.sector (subst IsSectorSize r.sector (has_size l r.can)))
+-- the sectors of a file that can be read
+pub sector_size : (l : FileLayer) (disk : Disk) (geometry : Geometry) → IsReadableFile geometry disk l → IsSectorSize geometry.sector
+sector_size l disk geometry r = subst IsSectorSize r.sector (has_size l r.can)
   where
     has_size : (l : FileLayer) → FileCanBeRead l disk → IsSectorSize (table_parts l).sector
     has_size (Session l) can = can.sizes.sector
     has_size (Read l) can = can.sizes.sector
 
+-- and all of its disk's bytes
+pub disk_size : (l : FileLayer) (disk : Disk) (geometry : Geometry) → IsReadableFile geometry disk l → geometry.sectors * geometry.sector ≤ 2 ^ 46
+disk_size l disk geometry r = subst (λ n. n * geometry.sector ≤ 2 ^ 46) r.sectors (subst (λ z. (table_parts l).sectors * z ≤ 2 ^ 46) r.sector (has_most l r.can))
+  where
+    has_most : (l : FileLayer) → FileCanBeRead l disk → (table_parts l).sectors * (table_parts l).sector ≤ 2 ^ 46
+    has_most (Session l) can = can.sizes.most
+    has_most (Read l) can = can.sizes.most
+
+-- a stripe has some sectors
+pub some_sectors : (l : FileLayer) (disk : Disk) (geometry : Geometry) → IsReadableFile geometry disk l → 0 < per_stripe geometry.sector
+some_sectors l disk geometry r = by_size (sector_cases geometry.sector (sector_size l disk geometry r))
+  where
     by_size : (geometry.sector ≡ 512) ⊎ (geometry.sector ≡ 4096) → 0 < per_stripe geometry.sector
     by_size (inl e) = subst (λ z. 0 < per_stripe z) (sym e) (omega arith)
     by_size (inr e) = subst (λ z. 0 < per_stripe z) (sym e) (omega arith)
+
+-- and a mask has a bit for each of them
+pub few_sectors : (z : ℕ) → IsSectorSize z → per_stripe z ≤ 2048
+few_sectors z size = by_size (sector_cases z size)
+  where
+    by_size : (z ≡ 512) ⊎ (z ≡ 4096) → per_stripe z ≤ 2048
+    by_size (inl e) = subst (λ z. per_stripe z ≤ 2048) (sym e) (omega arith)
+    by_size (inr e) = subst (λ z. per_stripe z ≤ 2048) (sym e) (omega arith)
 
 -- ---- what is put
 
@@ -178,3 +198,12 @@ on_broken (Ok x) P Q f p = tt
 on_broken (Err (ReadFault fault)) P Q f p = tt
 on_broken (Err (Write fault)) P Q f p = f p
 on_broken (Err (FileFull next)) P Q f p = tt
+
+-- whether it was read whole
+pub ok_filled : {T E : Type 0} (r : Result T E) (filled : Bool) → filled ≡ is_ok r → OnOk r (filled ≡ true)
+ok_filled (Ok x) filled e = e
+ok_filled (Err x) filled e = tt
+
+pub err_empty : {T E : Type 0} (r : Result T E) (filled : Bool) → filled ≡ is_ok r → OnErr r (filled ≡ false)
+err_empty (Ok x) filled e = tt
+err_empty (Err x) filled e = e

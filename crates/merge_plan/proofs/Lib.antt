@@ -8,3 +8,5 @@ pub mod Planned
 pub mod RetiredNames
 pub mod LeafPlanned
 pub mod NamesTurned
+mod LeafPrepared
+mod Gathered

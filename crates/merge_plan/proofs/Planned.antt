@@ -1,5 +1,5 @@
 -- The whole of a plan, from its steps.
-use Rattle.std.proofs.Common.{◌≡◌, ℕ, zero, suc, ◌+◌, ◌-◌, ◌≤◌, Bool, true, false, cond, List, [], ◌∷◌, ◌++◌, length, Option, Some, None, refl, sym, ap, subst, ◌∙◌, arith}
+use Rattle.std.proofs.Common.{◌≡◌, ℕ, zero, suc, ◌+◌, ◌-◌, ◌<◌, ◌≤◌, Bool, true, false, cond, List, [], ◌∷◌, ◌++◌, length, length-append, Option, Some, None, refl, sym, ap, subst, ◌∙◌, arith}
 use Rattle.std.specs.Prelude.{All, Result, Ok, Err, IfErr, nat_lt}
 use Rattle.std.specs.Result.{IsErrAnd}
 use Rattle.std.proofs.lemmas.Bool.{ltb-false, or_parts}
@@ -19,7 +19,7 @@ use Rattle.merge_plan.specs.Attached.{AreAsOpened, CanStart, IsAsOpened}
 use Rattle.merge_plan.specs.Drawing.{JudgesDrawn, merge_ids}
 use Rattle.merge_plan.specs.Merging.{HasPages, HasRoom, LacksRoom, MergeFiles, child_place, first_long, relinked_pairs, source_place, twice_pairs}
 use Rattle.merge_plan.specs.Planning.{HasPlan, IsFull, Stops, in_source, in_child}
-use Rattle.merge_plan.specs.Steps.{AreTyped, JudgeRefuses, UpdateFails}
+use Rattle.merge_plan.specs.Steps.{AreTyped, JudgeRefuses, LengthRefuses, UpdateFails}
 use Rattle.merge_plan.specs.declared.drawing.MergeIds.{MergeIds}
 use Rattle.merge_plan.specs.declared.merge.Merge.{Merge}
 use Rattle.merge_plan.specs.declared.refusal.PrepareRefusal.{PrepareRefusal}
@@ -81,7 +81,7 @@ target_guid ids all = all 6 [] (omega arith)
 
 -- ---- lengths
 
-are_short : (twice once : List Pair) → first_long twice once ≡ None → (locator_len twice ≤ longest_locator) × (locator_len once ≤ longest_locator)
+pub are_short : (twice once : List Pair) → first_long twice once ≡ None → (locator_len twice ≤ longest_locator) × (locator_len once ≤ longest_locator)
 are_short twice once h =
     let first = passed (nat_lt longest_locator (locator_len twice)) (locator_len twice) _ h in
     let second = passed (nat_lt longest_locator (locator_len once)) (locator_len once) None first.1 in
@@ -188,3 +188,20 @@ module _ (files : List LinkedFile) (m : MergeFiles) (ids : MergeIds) (twice once
 pub passed_on : {A : Type 0} (P : PrepareRefusal → Type 0) (result : Result A PrepareRefusal) (refusal : PrepareRefusal) → IsErrAnd result (λ e. e ≡ refusal) → P refusal → IfErr result P
 passed_on P (Ok x) refusal is h = tt
 passed_on P (Err e) refusal is h = subst P (sym is) h
+
+-- its locators are too long, or there is no memory for them
+pub locators_stop : (files : List LinkedFile) (disk : Disk) (m : MergeFiles) (ids : MergeIds) (refusal : PrepareRefusal) → LengthRefuses (first_long (twice_pairs m ids.target.data_write) (relinked_pairs m ids.target.data_write)) refusal → Stops files disk disk m ids refusal
+locators_stop files disk m ids refusals.NotInChain h = h
+locators_stop files disk m ids refusals.IsBase h = h
+locators_stop files disk m ids refusals.LeafSource h = h
+locators_stop files disk m ids (refusals.LocatorTooLarge len) h = (h, refl)
+locators_stop files disk m ids (refusals.MetadataFull file) h = absurd h
+locators_stop files disk m ids (refusals.IdUnfit id) h = absurd h
+locators_stop files disk m ids (refusals.Store fault) h = absurd h
+locators_stop files disk m ids refusals.NoRoom h = refl
+
+-- the source is one of the store's files
+pub source_there : (files : List LinkedFile) (disk : Disk) (m : MergeFiles) → CanStart files disk → files ≡ m.above ++ m.child ∷ m.source ∷ m.target ∷ m.below → source_place m < disk.files
+source_there files disk m can is =
+    let long : length files ≡ length m.above + (length m.below + 3) = ap length is ∙ length-append m.above (m.child ∷ m.source ∷ m.target ∷ m.below) ∙ (let e : length m.above + suc (suc (suc (length m.below))) ≡ length m.above + (length m.below + 3) = omega arith in e) in
+    omega (arith, long, can.there)

@@ -33,7 +33,7 @@ use Rattle.meta_edit.proofs.ItemLists.{table_read}
 use Rattle.meta_edit.proofs.ItemRead.{fine_retired, item_read}
 use Rattle.meta_edit.proofs.MoreItems.{item_absent}
 use Rattle.meta_edit.proofs.NamesRead.{empty_read, named_good}
-use Rattle.meta_edit.proofs.PageLaws.{length-with_pages, none_over, turns_alike}
+use Rattle.meta_edit.proofs.PageLaws.{length-with_pages, turns_alike}
 use Rattle.meta_edit.proofs.Sound.{bound_ok, keeps_table, unless_some_ok}
 use Rattle.merge_plan.specs.Attached.{IsAsOpened}
 use Rattle.merge_plan.specs.Converting.{of_meta}

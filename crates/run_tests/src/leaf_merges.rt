@@ -8,7 +8,7 @@ use crate::merge_crashes::{
 };
 use crate::merges::THREE_FILES;
 use crate::stories::{Content, Step, play};
-use mem_store::Pick;
+use mem_file::Pick;
 use vhdx_app::Status;
 
 const MERGE: &str = "steps c.vhdx --merge c.vhdx";

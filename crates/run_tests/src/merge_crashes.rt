@@ -8,7 +8,8 @@ use crate::common::{
     Case, add, ask_text, bytes_of, empty_host, ids_of, is_told, listed, prepare, run_script, says,
     script_done, stands,
 };
-use mem_store::{MemHost, MemIds, MemStore, Pick, Returned};
+use mem_file::Pick;
+use mem_store::{MemHost, MemIds, MemStore, Returned};
 use std::alloc::Global;
 use std::process::Abort;
 use std::sync::Wait;

@@ -7,7 +7,7 @@ use crate::merge_crashes::{
     each_is_told, each_pick, each_unfit_is_refused,
 };
 use crate::stories::{Step, play};
-use mem_store::Pick;
+use mem_file::Pick;
 use vhdx_app::Status;
 
 const MERGE: &str = "steps c.vhdx --merge m.vhdx";

@@ -9,7 +9,8 @@ use crate::common::{
     owned, run_script, says, script_done,
 };
 use crate::stories::{Step, play};
-use mem_store::{Crash, MemHost, MemSink, Pick};
+use mem_file::Pick;
+use mem_store::{Crash, MemHost, MemSink};
 use std::alloc::Global;
 use std::process::Abort;
 use std::sync::Wait;

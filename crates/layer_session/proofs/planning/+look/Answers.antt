@@ -8,11 +8,13 @@ use Rattle.std.proofs.lemmas.List.{length-set}
 use Rattle.std.specs.Prelude.{None, false}
 use Rattle.layer_session.proofs.Counting.{set_beside, set_here}
 use Rattle.layer_session.proofs.Looked.{counted_then, few_then, looked_none, looked_then, rest_few}
-use Rattle.layer_session.proofs.Planned.{read_again, read_then}
+use Rattle.layer_session.proofs.Planned.{read_again, read_none, read_then}
 use Rattle.layer_session.proofs.BitRuns.{few_rest}
 use Rattle.layer_session.specs.ByTables.{WantsAtMost}
 use Rattle.table_pages.specs.declared.tables.TableParts.{TableParts}
 use Rattle.vhdx_format.specs.Layers.{HasSizes}
+use Rattle.vx_base.proofs.Handed.{failed_for, not_if_ok, not_ok}
+use Rattle.layer_session.proofs.Handing.{fails_on, few_rows}
 use Rattle.layer_session.proofs.planning.+look.Goals as goal
 
 pub returns-then-count-eq0-clause-looked : goal.returns-then-count-eq0-clause-looked
@@ -109,3 +111,69 @@ returns-clause-counted g t c =
           rest_few c.args.tables.now c.plan_of.new.tables (g.S.Store.disk c.args.store.now) c.requires.readable.sizes c.plan_of.ensures.reads c.args.first c.args.count c.run_in_block-len.result (omega arith) c.run_in_block-len.ensures.is
               c.in_ok-rest.rest c.with_plan.result c.in_ok-plan.plan c.with_plan.ensures,
         )
+
+pub returns-then-count-eq0-clause-reads : goal.returns-then-count-eq0-clause-reads
+returns-then-count-eq0-clause-reads g t c = read_none _ _ c.requires.readable
+
+pub returns-then-count-eq0-clause-before : goal.returns-then-count-eq0-clause-before
+returns-then-count-eq0-clause-before g t c = λ i below. refl
+
+pub returns-then-count-eq0-clause-stays : goal.returns-then-count-eq0-clause-stays
+returns-then-count-eq0-clause-stays g t c = refl
+
+pub run_in_block-len-requires-clause-parts : goal.run_in_block-len-requires-clause-parts
+run_in_block-len-requires-clause-parts g t c = c.requires.readable.sizes
+
+pub plan_of-requires-clause-readable : goal.plan_of-requires-clause-readable
+plan_of-requires-clause-readable g t c = c.requires.readable
+
+pub plan_of-requires-clause-some : goal.plan_of-requires-clause-some
+plan_of-requires-clause-some g t c = c.run_in_block-len.ensures.some
+
+pub plan_of-requires-clause-on_disk : goal.plan_of-requires-clause-on_disk
+plan_of-requires-clause-on_disk g t c = few_rows c.args.first c.run_in_block-len.result c.args.count _ c.run_in_block-len.ensures.most c.requires.on_disk
+
+pub plan_of-requires-clause-run : goal.plan_of-requires-clause-run
+plan_of-requires-clause-run g t c = c.run_in_block-len.ensures.inside
+
+pub returns-in_err-plan-clause-looked : goal.returns-in_err-plan-clause-looked
+returns-in_err-plan-clause-looked g t c = not_if_ok c.from_residual.result c.in_err-plan.field-0.0 c.from_residual.ensures.1 _
+
+pub returns-in_err-plan-clause-counted : goal.returns-in_err-plan-clause-counted
+returns-in_err-plan-clause-counted g t c = not_if_ok c.from_residual.result c.in_err-plan.field-0.0 c.from_residual.ensures.1 _
+
+pub returns-in_err-plan-clause-few : goal.returns-in_err-plan-clause-few
+returns-in_err-plan-clause-few g t c = not_if_ok c.from_residual.result c.in_err-plan.field-0.0 c.from_residual.ensures.1 _
+
+pub returns-in_err-plan-clause-stays : goal.returns-in_err-plan-clause-stays
+returns-in_err-plan-clause-stays g t c = not_ok c.from_residual.result c.in_err-plan.field-0.0 c.from_residual.ensures.1 _
+
+pub returns-in_err-rest-clause-looked : goal.returns-in_err-rest-clause-looked
+returns-in_err-rest-clause-looked g t c = not_if_ok c.from_residual-in_err-rest.result c.in_err-rest.field-0.0 c.from_residual-in_err-rest.ensures.1 _
+
+pub returns-in_err-rest-clause-counted : goal.returns-in_err-rest-clause-counted
+returns-in_err-rest-clause-counted g t c = not_if_ok c.from_residual-in_err-rest.result c.in_err-rest.field-0.0 c.from_residual-in_err-rest.ensures.1 _
+
+pub returns-in_err-rest-clause-few : goal.returns-in_err-rest-clause-few
+returns-in_err-rest-clause-few g t c = not_if_ok c.from_residual-in_err-rest.result c.in_err-rest.field-0.0 c.from_residual-in_err-rest.ensures.1 _
+
+pub returns-in_err-rest-clause-stays : goal.returns-in_err-rest-clause-stays
+returns-in_err-rest-clause-stays g t c = not_ok c.from_residual-in_err-rest.result c.in_err-rest.field-0.0 c.from_residual-in_err-rest.ensures.1 _
+
+pub returns-in_err-plan-clause-before : goal.returns-in_err-plan-clause-before
+returns-in_err-plan-clause-before g t c = λ i below. refl
+
+pub returns-in_err-plan-clause-reads : goal.returns-in_err-plan-clause-reads
+returns-in_err-plan-clause-reads g t c = c.plan_of.ensures.reads
+
+pub returns-in_err-plan-clause-err : goal.returns-in_err-plan-clause-err
+returns-in_err-plan-clause-err g t c = failed_for c.from_residual.result c.in_err-plan.field-0.0 c.from_residual.ensures.1 _ c.in_err-plan.ensures.err
+
+pub returns-in_err-rest-clause-err : goal.returns-in_err-rest-clause-err
+returns-in_err-rest-clause-err g t c = failed_for c.from_residual-in_err-rest.result c.in_err-rest.field-0.0 c.from_residual-in_err-rest.ensures.1 _ (fails_on c.args.tables.now.parts.file c.plan_of.new.tables.parts.file (g.S.Store.disk c.args.store.now) (g.S.Store.disk c.plan_of.new.store) (g.S.Store.disk c.look.new.store) c.in_err-rest.field-0.0 c.in_ok-plan.ensures.stays (ap (λ (p : TableParts). p.file) c.plan_of.ensures.reads.as_held.parts_are) c.in_err-rest.ensures.err)
+
+pub overflow_sub-count : goal.overflow_sub-count
+overflow_sub-count g t c = c.run_in_block-len.ensures.most
+
+pub returns-clause-stays : goal.returns-clause-stays
+returns-clause-stays g t c = c.in_ok-rest.ensures.stays ∙ c.in_ok-plan.ensures.stays

@@ -1,4 +1,4 @@
-use Rattle.std.proofs.Common.{◌++◌, List, ℕ, ap, sym, subst, ◌∙◌, ◌≡◌, ◌+◌, ◌*◌, ◌<◌, arith, length, length-append}
+use Rattle.std.proofs.Common.{◌++◌, List, ℕ, ap, sym, subst, ◌∙◌, ◌≡◌, ◌+◌, ◌*◌, ◌<◌, arith, length, length-append, refl}
 use Rattle.store_model.specs.File.{seen}
 use Rattle.store_model.specs.Trace.{file_of}
 use Rattle.layer_session.specs.Calls.{HasOwned}
@@ -6,6 +6,8 @@ use Rattle.layer_session.specs.Reading.{marked_layer}
 use Rattle.layer_session.proofs.Owned.{marked_joined, next_place, rest_inside, rest_long}
 use Rattle.layer_session.proofs.Parted.{ok_then}
 use Rattle.store_model.specs.Disk.{Disk}
+use Rattle.vx_base.proofs.Handed.{failed_for, not_ok}
+use Rattle.layer_session.proofs.Handing.{fails_then, few_rows, front_in, front_within, none_owned, stays_then}
 use Rattle.layer_session.proofs.reading.+own_marked.Goals as goal
 
 pub returns-clause-owned : goal.returns-clause-owned
@@ -67,3 +69,48 @@ own_marked-requires g n c κs within =
         ),
       ),
     )
+
+pub returns-in_err-take_run-clause-owned : goal.returns-in_err-take_run-clause-owned
+returns-in_err-take_run-clause-owned g n c = not_ok c.from_residual.result c.in_err-take_run.field-0.0 c.from_residual.ensures.1 _
+
+pub returns-in_err-take_run-clause-stays : goal.returns-in_err-take_run-clause-stays
+returns-in_err-take_run-clause-stays g n c = not_ok c.from_residual.result c.in_err-take_run.field-0.0 c.from_residual.ensures.1 _
+
+pub returns-in_err-take_run-clause-err : goal.returns-in_err-take_run-clause-err
+returns-in_err-take_run-clause-err g n c = failed_for c.from_residual.result c.in_err-take_run.field-0.0 c.from_residual.ensures.1 _ c.in_err-take_run.ensures.err
+
+pub returns-then-count-eq0-clause-stays : goal.returns-then-count-eq0-clause-stays
+returns-then-count-eq0-clause-stays g n c = refl
+
+pub returns-clause-stays : goal.returns-clause-stays
+returns-clause-stays g n c = stays_then c.own_marked.result (g.S.Store.disk c.args.store.now) (g.S.Store.disk c.take_run.new.store) (g.S.Store.disk c.own_marked.new.store) c.in_ok-take_run.ensures.stays c.own_marked.ensures.stays
+
+pub returns-clause-err : goal.returns-clause-err
+returns-clause-err g n c = fails_then c.own_marked.result c.args.parts.now.file c.args.parts.now.file (g.S.Store.disk c.args.store.now) (g.S.Store.disk c.take_run.new.store) (g.S.Store.disk c.own_marked.new.store) c.in_ok-take_run.ensures.stays refl c.own_marked.ensures.err
+
+pub returns-then-count-eq0-clause-owned : goal.returns-then-count-eq0-clause-owned
+returns-then-count-eq0-clause-owned g n c = λ t told. none_owned _ c.args.parts.now.sector 0 c.args.count c.args.at c.args.mask.now c.args.out.now (omega (arith, c.if-count-eq0.true))
+
+pub first_run-run-requires-clause-within : goal.first_run-run-requires-clause-within
+first_run-run-requires-clause-within g n c = c.requires.bits
+
+pub first_run-run-requires-clause-fits : goal.first_run-run-requires-clause-fits
+first_run-run-requires-clause-fits g n c = c.requires.fits
+
+pub split_at_mut-piece-requires : goal.split_at_mut-piece-requires
+split_at_mut-piece-requires g n c = front_in c.args.parts.now.sector c.args.parts.now.sector c.first_run-run.result.count c.args.count (length c.args.out.now) refl c.first_run-run.ensures.most c.requires.out
+
+pub take_run-requires-clause-there : goal.take_run-requires-clause-there
+take_run-requires-clause-there g n c = c.requires.there
+
+pub take_run-requires-clause-out : goal.take_run-requires-clause-out
+take_run-requires-clause-out g n c = c.split_at_mut-piece.ensures.front_len
+
+pub take_run-requires-clause-mask : goal.take_run-requires-clause-mask
+take_run-requires-clause-mask g n c = few_rows c.args.at (c.first_run-run.result.count) c.args.count _ c.first_run-run.ensures.most c.requires.mask
+
+pub take_run-requires-clause-inside : goal.take_run-requires-clause-inside
+take_run-requires-clause-inside g n c = λ yes t told. front_within c.args.place c.args.parts.now.sector c.first_run-run.result.count c.args.count _ c.first_run-run.ensures.most (c.requires.inside t told)
+
+pub overflow_sub-count : goal.overflow_sub-count
+overflow_sub-count g n c = c.first_run-run.ensures.most

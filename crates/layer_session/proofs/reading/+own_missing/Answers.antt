@@ -1,8 +1,11 @@
-use Rattle.std.proofs.Common.{◌+◌, ◌-◌, ◌*◌, arith, ap, subst, ◌∙◌}
+use Rattle.std.proofs.Common.{◌+◌, ◌-◌, ◌*◌, arith, ap, subst, ◌∙◌, refl, length}
 use Rattle.layer_session.specs.TablesRead.{HasRead}
 use Rattle.layer_session.proofs.Owned.{adds_rest}
 use Rattle.layer_session.proofs.Parted.{adds_again, reads_rest, ok_then}
-use Rattle.layer_session.proofs.Planned.{read_then}
+use Rattle.layer_session.proofs.Planned.{read_none, read_then}
+use Rattle.vx_base.proofs.Handed.{failed_for, not_ok}
+use Rattle.layer_session.proofs.Handing.{fails_then, few_bytes, few_rows, front_in, stays_then}
+use Rattle.table_pages.specs.declared.tables.TableParts.{TableParts}
 use Rattle.layer_session.proofs.reading.+own_missing.Goals as goal
 
 pub own_missing-requires : goal.own_missing-requires
@@ -31,3 +34,57 @@ returns-clause-added g n c =
     (adds_again old new (g.S.Store.disk c.args.store.now) c.add_run.ensures.reads t (c.args.first + len) (c.args.count - len) (c.args.at + len) c.add_run.new.mask c.own_missing.new.mask c.split_at_mut-piece.result.1.now c.own_missing.new.out
     (added t (ap (λ d. d.told) c.in_ok-add_run.ensures.stays ∙ told))))
     c.own_missing.ensures.added
+
+pub returns-in_err-add_run-clause-added : goal.returns-in_err-add_run-clause-added
+returns-in_err-add_run-clause-added g n c = not_ok c.from_residual.result c.in_err-add_run.field-0.0 c.from_residual.ensures.1 _
+
+pub returns-in_err-add_run-clause-stays : goal.returns-in_err-add_run-clause-stays
+returns-in_err-add_run-clause-stays g n c = not_ok c.from_residual.result c.in_err-add_run.field-0.0 c.from_residual.ensures.1 _
+
+pub returns-in_err-add_run-clause-err : goal.returns-in_err-add_run-clause-err
+returns-in_err-add_run-clause-err g n c = failed_for c.from_residual.result c.in_err-add_run.field-0.0 c.from_residual.ensures.1 _ c.in_err-add_run.ensures.err
+
+pub returns-then-count-eq0-clause-stays : goal.returns-then-count-eq0-clause-stays
+returns-then-count-eq0-clause-stays g n c = refl
+
+pub returns-in_err-add_run-clause-reads : goal.returns-in_err-add_run-clause-reads
+returns-in_err-add_run-clause-reads g n c = c.add_run.ensures.reads
+
+pub returns-then-count-eq0-clause-reads : goal.returns-then-count-eq0-clause-reads
+returns-then-count-eq0-clause-reads g n c = read_none _ _ c.requires.readable
+
+pub returns-clause-stays : goal.returns-clause-stays
+returns-clause-stays g n c = stays_then c.own_missing.result (g.S.Store.disk c.args.store.now) (g.S.Store.disk c.add_run.new.store) (g.S.Store.disk c.own_missing.new.store) c.in_ok-add_run.ensures.stays c.own_missing.ensures.stays
+
+pub returns-clause-err : goal.returns-clause-err
+returns-clause-err g n c = fails_then c.own_missing.result c.args.tables.now.parts.file c.add_run.new.tables.parts.file (g.S.Store.disk c.args.store.now) (g.S.Store.disk c.add_run.new.store) (g.S.Store.disk c.own_missing.new.store) c.in_ok-add_run.ensures.stays (ap (λ (p : TableParts). p.file) c.add_run.ensures.reads.as_held.parts_are) c.own_missing.ensures.err
+
+pub split_at_mut-piece-requires : goal.split_at_mut-piece-requires
+split_at_mut-piece-requires g n c = front_in c.from.result c.args.tables.now.parts.sector c.first_run-run.result.count c.args.count (length c.args.out.now) c.from.ensures c.first_run-run.ensures.most c.requires.out
+
+pub add_run-requires-clause-readable : goal.add_run-requires-clause-readable
+add_run-requires-clause-readable g n c = c.requires.readable
+
+pub add_run-requires-clause-stored : goal.add_run-requires-clause-stored
+add_run-requires-clause-stored g n c = c.requires.stored
+
+pub add_run-requires-clause-out : goal.add_run-requires-clause-out
+add_run-requires-clause-out g n c = c.split_at_mut-piece.ensures.front_len ∙ ap (λ s. s * c.first_run-run.result.count) c.from.ensures
+
+pub add_run-requires-clause-on_disk : goal.add_run-requires-clause-on_disk
+add_run-requires-clause-on_disk g n c = few_rows c.args.first (c.first_run-run.result.count) c.args.count _ c.first_run-run.ensures.most c.requires.on_disk
+
+pub add_run-requires-clause-mask : goal.add_run-requires-clause-mask
+add_run-requires-clause-mask g n c = few_rows c.args.at (c.first_run-run.result.count) c.args.count _ c.first_run-run.ensures.most c.requires.mask
+
+pub overflow_sub-count : goal.overflow_sub-count
+overflow_sub-count g n c = c.first_run-run.ensures.most
+
+pub first_run-run-requires-clause-within : goal.first_run-run-requires-clause-within
+first_run-run-requires-clause-within g n c = c.requires.mask
+
+pub add_run-requires-clause-all : goal.add_run-requires-clause-all
+add_run-requires-clause-all g n c = c.first_run-run.ensures.same
+
+pub overflow_mul-from : goal.overflow_mul-from
+overflow_mul-from g n c = let few = few_bytes c.from.result c.args.tables.now.parts.sector c.args.first c.first_run-run.result.count c.args.count c.args.tables.now.parts.sectors c.from.ensures c.first_run-run.ensures.most c.requires.on_disk c.requires.readable.sizes.most in omega (arith, few)

@@ -1,5 +1,5 @@
 use Rattle.std.specs.Prelude.{min}
-use Rattle.std.proofs.Common.{◌≡◌, ◌^◌, ◌<◌, ◌≤◌, ◌+◌, ◌-◌, ◌*◌, length, true, arith, ap, sym, subst, ◌∙◌, length-append}
+use Rattle.std.proofs.Common.{◌≡◌, ◌^◌, ◌<◌, ◌≤◌, ◌+◌, ◌-◌, ◌*◌, length, true, arith, ap, sym, subst, ◌∙◌, length-append, refl}
 use Rattle.store_model.specs.File.{seen}
 use Rattle.store_model.specs.Trace.{file_of}
 use Rattle.table_pages.specs.Held.{held_file, shape_of}
@@ -10,7 +10,9 @@ use Rattle.layer_session.specs.Keeping.{IsPartAt}
 use Rattle.store_model.specs.Disk.{Disk, WhereTold}
 use Rattle.layer_session.proofs.Owned.{owned_rest, rest_long}
 use Rattle.layer_session.proofs.Parted.{owned_again, part_again, part_front, part_rest, stored_again, ok_then}
-use Rattle.layer_session.proofs.Planned.{bits_there_again, read_again, read_then, same_bitmap}
+use Rattle.layer_session.proofs.Planned.{bits_there_again, read_again, read_none, read_then, same_bitmap}
+use Rattle.vx_base.proofs.Handed.{failed_for, not_ok}
+use Rattle.layer_session.proofs.Handing.{fails_then, few_bytes, few_rows, front_in, none_owned, stays_then}
 use Rattle.layer_session.proofs.reading.+own_part.Goals as goal
 
 pub own_few-requires-clause-part : goal.own_few-requires-clause-part
@@ -98,3 +100,57 @@ returns-clause-owned g n c =
     (owned_again old new disk c.own_few.ensures.reads t (c.args.first + len) (c.args.count - len) (c.args.at + len) c.own_few.new.mask c.own_part.new.mask c.split_at_mut-piece.result.1.now c.own_part.new.out
     (owned t (ap (λ d. d.told) c.in_ok-own_few.ensures.stays ∙ told))))
     c.own_part.ensures.owned
+
+pub returns-in_err-own_few-clause-owned : goal.returns-in_err-own_few-clause-owned
+returns-in_err-own_few-clause-owned g n c = not_ok c.from_residual.result c.in_err-own_few.field-0.0 c.from_residual.ensures.1 _
+
+pub returns-in_err-own_few-clause-stays : goal.returns-in_err-own_few-clause-stays
+returns-in_err-own_few-clause-stays g n c = not_ok c.from_residual.result c.in_err-own_few.field-0.0 c.from_residual.ensures.1 _
+
+pub returns-in_err-own_few-clause-err : goal.returns-in_err-own_few-clause-err
+returns-in_err-own_few-clause-err g n c = failed_for c.from_residual.result c.in_err-own_few.field-0.0 c.from_residual.ensures.1 _ c.in_err-own_few.ensures.err
+
+pub returns-then-count-eq0-clause-stays : goal.returns-then-count-eq0-clause-stays
+returns-then-count-eq0-clause-stays g n c = refl
+
+pub returns-in_err-own_few-clause-reads : goal.returns-in_err-own_few-clause-reads
+returns-in_err-own_few-clause-reads g n c = c.own_few.ensures.reads
+
+pub returns-then-count-eq0-clause-reads : goal.returns-then-count-eq0-clause-reads
+returns-then-count-eq0-clause-reads g n c = read_none _ _ c.requires.readable
+
+pub returns-clause-stays : goal.returns-clause-stays
+returns-clause-stays g n c = stays_then c.own_part.result (g.S.Store.disk c.args.store.now) (g.S.Store.disk c.own_few.new.store) (g.S.Store.disk c.own_part.new.store) c.in_ok-own_few.ensures.stays c.own_part.ensures.stays
+
+pub returns-clause-err : goal.returns-clause-err
+returns-clause-err g n c = fails_then c.own_part.result c.args.tables.now.parts.file c.own_few.new.tables.parts.file (g.S.Store.disk c.args.store.now) (g.S.Store.disk c.own_few.new.store) (g.S.Store.disk c.own_part.new.store) c.in_ok-own_few.ensures.stays (ap (λ (p : TableParts). p.file) c.own_few.ensures.reads.as_held.parts_are) c.own_part.ensures.err
+
+pub split_at_mut-piece-requires : goal.split_at_mut-piece-requires
+split_at_mut-piece-requires g n c = front_in c.from.result c.args.tables.now.parts.sector c.min-len.result c.args.count (length c.args.out.now) c.from.ensures (let few : c.min-len.result ≤ c.args.count = omega arith in few) c.requires.out
+
+pub own_few-requires-clause-readable : goal.own_few-requires-clause-readable
+own_few-requires-clause-readable g n c = c.requires.readable
+
+pub own_few-requires-clause-stored : goal.own_few-requires-clause-stored
+own_few-requires-clause-stored g n c = c.requires.stored
+
+pub own_few-requires-clause-out : goal.own_few-requires-clause-out
+own_few-requires-clause-out g n c = c.split_at_mut-piece.ensures.front_len ∙ ap (λ s. s * c.min-len.result) c.from.ensures
+
+pub own_few-requires-clause-on_disk : goal.own_few-requires-clause-on_disk
+own_few-requires-clause-on_disk g n c = few_rows c.args.first (c.min-len.result) c.args.count _ (let few : c.min-len.result ≤ c.args.count = omega arith in few) c.requires.on_disk
+
+pub own_few-requires-clause-mask : goal.own_few-requires-clause-mask
+own_few-requires-clause-mask g n c = few_rows c.args.at (c.min-len.result) c.args.count _ (let few : c.min-len.result ≤ c.args.count = omega arith in few) c.requires.mask
+
+pub own_few-requires-clause-parent : goal.own_few-requires-clause-parent
+own_few-requires-clause-parent g n c = c.requires.parent
+
+pub own_few-requires-clause-bitmap : goal.own_few-requires-clause-bitmap
+own_few-requires-clause-bitmap g n c = let some : 0 < c.args.count = omega arith in c.requires.bitmap some
+
+pub overflow_mul-bytes : goal.overflow_mul-bytes
+overflow_mul-bytes g n c = let few = few_bytes c.from.result c.args.tables.now.parts.sector c.args.first c.min-len.result c.args.count c.args.tables.now.parts.sectors c.from.ensures (let few : c.min-len.result ≤ c.args.count = omega arith in few) c.requires.on_disk c.requires.readable.sizes.most in omega (arith, few)
+
+pub returns-then-count-eq0-clause-owned : goal.returns-then-count-eq0-clause-owned
+returns-then-count-eq0-clause-owned g n c = λ t told. none_owned _ c.args.tables.now.parts.sector c.args.first c.args.count c.args.at c.args.mask.now c.args.out.now (omega (arith, c.if-count-eq0.true))

@@ -1,9 +1,11 @@
-use Rattle.std.proofs.Common.{rules, ◌-◌, ◌%◌, arith, ap, ◌∙◌}
+use Rattle.std.proofs.Common.{rules, ◌-◌, ◌%◌, arith, ap, ◌∙◌, refl, sym}
 use Rattle.store_model.specs.File.{seen}
 use Rattle.store_model.specs.Trace.{file_of}
 use Rattle.table_pages.specs.Held.{held_file}
 use Rattle.layer_session.proofs.Planned.{bits_reads, has_bitmap, same_bitmap}
-use Rattle.layer_session.proofs.Parted.{part_owned, ok_then}
+use Rattle.layer_session.proofs.Parted.{part_owned, part_within, ok_then}
+use Rattle.vx_base.proofs.Handed.{failed_for, not_ok}
+use Rattle.layer_session.proofs.Handing.{fails_then, stays_then, there_still}
 use Rattle.layer_session.proofs.reading.own_few.Goals as goal
 
 pub returns-clause-owned : goal.returns-clause-owned
@@ -31,3 +33,52 @@ pub bits-requires-clause-bitmap : goal.bits-requires-clause-bitmap
 bits-requires-clause-bitmap g c =
     has_bitmap c.args.tables.now (g.S.Store.disk c.args.store.now) (c.args.first - c.args.first % 8) c.requires.readable c.requires.parent (omega arith)
     (same_bitmap c.args.tables.now (g.S.Store.disk c.args.store.now) c.args.first (c.args.first - c.args.first % 8) (omega arith) c.requires.bitmap)
+
+pub bits-requires-clause-there : goal.bits-requires-clause-there
+bits-requires-clause-there g c = c.requires.readable.there
+
+pub bits-requires-clause-parts : goal.bits-requires-clause-parts
+bits-requires-clause-parts g c = c.requires.readable.sizes
+
+pub bits-requires-clause-parent : goal.bits-requires-clause-parent
+bits-requires-clause-parent g c = c.requires.parent
+
+pub bits-requires-clause-tables : goal.bits-requires-clause-tables
+bits-requires-clause-tables g c = c.requires.readable.tables
+
+pub returns-in_err-bits-clause-owned : goal.returns-in_err-bits-clause-owned
+returns-in_err-bits-clause-owned g c = not_ok c.from_residual.result c.in_err-bits.field-0.0 c.from_residual.ensures.1 _
+
+pub returns-in_err-bits-clause-stays : goal.returns-in_err-bits-clause-stays
+returns-in_err-bits-clause-stays g c = not_ok c.from_residual.result c.in_err-bits.field-0.0 c.from_residual.ensures.1 _
+
+pub returns-in_err-bits-clause-err : goal.returns-in_err-bits-clause-err
+returns-in_err-bits-clause-err g c = failed_for c.from_residual.result c.in_err-bits.field-0.0 c.from_residual.ensures.1 _ c.in_err-bits.ensures.err
+
+pub own_marked-requires-clause-there : goal.own_marked-requires-clause-there
+own_marked-requires-clause-there g c = there_still c.args.tables.now.parts.file (g.S.Store.disk c.args.store.now) (g.S.Store.disk c.bits.new.store) c.in_ok-bits.ensures.stays c.requires.readable.there
+
+pub own_marked-requires-clause-out : goal.own_marked-requires-clause-out
+own_marked-requires-clause-out g c = c.requires.out
+
+pub own_marked-requires-clause-mask : goal.own_marked-requires-clause-mask
+own_marked-requires-clause-mask g c = c.requires.mask
+
+pub own_marked-requires-clause-ends : goal.own_marked-requires-clause-ends
+own_marked-requires-clause-ends g c = c.requires.ends
+
+pub own_marked-requires-clause-inside : goal.own_marked-requires-clause-inside
+own_marked-requires-clause-inside g c =
+    λ t after.
+    let told = ap (λ d. d.told) (sym c.in_ok-bits.ensures.stays) ∙ after in
+    part_within c.args.tables.now.parts (seen (file_of t c.args.tables.now.parts.file)) (held_file c.args.tables.now t) c.requires.readable.sizes (c.requires.stored t told) c.args.first c.args.count c.requires.on_disk
+    (c.requires.part t told).run c.args.place (c.requires.part t told) c.requires.some
+
+pub own_marked-requires-clause-small : goal.own_marked-requires-clause-small
+own_marked-requires-clause-small g c = λ t after. (c.requires.stored t (ap (λ d. d.told) (sym c.in_ok-bits.ensures.stays) ∙ after)).most
+
+pub returns-clause-stays : goal.returns-clause-stays
+returns-clause-stays g c = stays_then c.own_marked.result (g.S.Store.disk c.args.store.now) (g.S.Store.disk c.bits.new.store) (g.S.Store.disk c.own_marked.new.store) c.in_ok-bits.ensures.stays c.own_marked.ensures.stays
+
+pub returns-clause-err : goal.returns-clause-err
+returns-clause-err g c = fails_then c.own_marked.result c.args.tables.now.parts.file c.args.tables.now.parts.file (g.S.Store.disk c.args.store.now) (g.S.Store.disk c.bits.new.store) (g.S.Store.disk c.own_marked.new.store) c.in_ok-bits.ensures.stays refl c.own_marked.ensures.err

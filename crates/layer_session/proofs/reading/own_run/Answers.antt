@@ -1,4 +1,4 @@
-use Rattle.std.proofs.Common.{◌≡◌, true, ◌+◌, ◌*◌, ◌%◌, ◌/◌, ◌^◌, ap, sym, subst, ◌∙◌, inl}
+use Rattle.std.proofs.Common.{◌≡◌, true, ◌+◌, ◌*◌, ◌%◌, ◌/◌, ◌^◌, ◌≤◌, length, refl, ap, sym, subst, ◌∙◌, arith, inl, inr}
 use Rattle.std.specs.Prelude.{min, ◌-◌}
 use Rattle.vx_base.specs.Fields.{zeros}
 use Rattle.vhdx_format.specs.Fields.{megabyte}
@@ -8,10 +8,13 @@ use Rattle.vhdx_format.specs.Layers.{entry_of, state_at, table_entry}
 use Rattle.table_pages.specs.declared.tables.TableParts.{TableParts}
 use Rattle.table_pages.specs.Held.{held_file, shape_of}
 use Rattle.layer_session.specs.TablesRead.{AreReadable, HasRead}
-use Rattle.layer_session.proofs.Parted.{absent_owned, full_owned, ok_then, owned_again, start_is, stored_again, zeros_owned}
-use Rattle.layer_session.proofs.Planned.{entry_reads, read_again, read_then}
+use Rattle.layer_session.proofs.Parted.{absent_owned, full_owned, ok_then, owned_again, part_again, run_within, start_is, stored_again, zeros_owned}
+use Rattle.layer_session.proofs.Planned.{bits_there_again, entry_reads, read_again, read_then}
 use Rattle.bat_entry.proofs.Standing.{absent, here, marked}
+use Rattle.layer_session.proofs.Spots.{in_chunk}
 use Rattle.bat_entry.proofs.Standing as standing
+use Rattle.vx_base.proofs.Handed.{failed_for, not_ok}
+use Rattle.layer_session.proofs.Handing.{bytes_of, fails_then, sectors_of, stays_then, there_still}
 use Rattle.layer_session.proofs.reading.own_run.Goals as goal
 
 pub returns-in-Here-clause-owned : goal.returns-in-Here-clause-owned
@@ -90,3 +93,144 @@ pub own_part-requires-clause-parent : goal.own_part-requires-clause-parent
 own_part-requires-clause-parent g c =
     subst (λ (p : TableParts). p.parent ≡ true) (sym c.entry.ensures.as_held.parts_are)
     (marked c.args.tables.now.parts.parent c.in_ok-word.word _ c.in-Marked.is c.sectors_of.ensures).1
+
+pub entry_index-requires-clause-parts : goal.entry_index-requires-clause-parts
+entry_index-requires-clause-parts g c = c.requires.readable.sizes
+
+pub entry-requires-clause-there : goal.entry-requires-clause-there
+entry-requires-clause-there g c = c.requires.readable.there
+
+pub entry-requires-clause-parts : goal.entry-requires-clause-parts
+entry-requires-clause-parts g c = c.requires.readable.sizes
+
+pub entry-requires-clause-index : goal.entry-requires-clause-index
+entry-requires-clause-index g c = c.entry_index.ensures.inside
+
+pub entry-requires-clause-tables : goal.entry-requires-clause-tables
+entry-requires-clause-tables g c = c.requires.readable.tables
+
+pub returns-in_err-word-clause-owned : goal.returns-in_err-word-clause-owned
+returns-in_err-word-clause-owned g c = not_ok c.from_residual.result c.in_err-word.field-0.0 c.from_residual.ensures.1 _
+
+pub returns-in_err-word-clause-stays : goal.returns-in_err-word-clause-stays
+returns-in_err-word-clause-stays g c = not_ok c.from_residual.result c.in_err-word.field-0.0 c.from_residual.ensures.1 _
+
+pub returns-in_err-word-clause-reads : goal.returns-in_err-word-clause-reads
+returns-in_err-word-clause-reads g c = entry_reads _ _ _ c.entry.ensures.as_held c.entry.ensures.places
+
+pub returns-in_err-word-clause-err : goal.returns-in_err-word-clause-err
+returns-in_err-word-clause-err g c = failed_for c.from_residual.result c.in_err-word.field-0.0 c.from_residual.ensures.1 _ c.in_err-word.ensures.err
+
+pub offset_in_block-requires-clause-parts : goal.offset_in_block-requires-clause-parts
+offset_in_block-requires-clause-parts g c = c.requires.readable.sizes
+
+pub take_run-requires-clause-there : goal.take_run-requires-clause-there
+take_run-requires-clause-there g c = there_still c.args.tables.now.parts.file (g.S.Store.disk c.args.store.now) (g.S.Store.disk c.entry.new.store) c.in_ok-word.ensures.stays c.requires.readable.there
+
+pub take_run-requires-clause-out : goal.take_run-requires-clause-out
+take_run-requires-clause-out g c = c.requires.out
+
+pub take_run-requires-clause-mask : goal.take_run-requires-clause-mask
+take_run-requires-clause-mask g c = c.requires.mask
+
+pub take_run-requires-clause-ends : goal.take_run-requires-clause-ends
+take_run-requires-clause-ends g c = c.requires.ends
+
+pub take_run-requires-in-Absent-clause-there : goal.take_run-requires-in-Absent-clause-there
+take_run-requires-in-Absent-clause-there g c = there_still c.args.tables.now.parts.file (g.S.Store.disk c.args.store.now) (g.S.Store.disk c.entry.new.store) c.in_ok-word.ensures.stays c.requires.readable.there
+
+pub take_run-requires-in-Absent-clause-out : goal.take_run-requires-in-Absent-clause-out
+take_run-requires-in-Absent-clause-out g c = c.requires.out
+
+pub take_run-requires-in-Absent-clause-mask : goal.take_run-requires-in-Absent-clause-mask
+take_run-requires-in-Absent-clause-mask g c = c.requires.mask
+
+pub take_run-requires-in-Absent-clause-ends : goal.take_run-requires-in-Absent-clause-ends
+take_run-requires-in-Absent-clause-ends g c = c.requires.ends
+
+pub take_run-requires-in-Absent-clause-inside : goal.take_run-requires-in-Absent-clause-inside
+take_run-requires-in-Absent-clause-inside g c = λ e. cc
+
+pub own_part-requires-clause-on_disk : goal.own_part-requires-clause-on_disk
+own_part-requires-clause-on_disk g c = sectors_of c.args.tables.now.parts c.entry.new.self.parts (c.args.first + c.args.count) c.entry.ensures.as_held.parts_are c.requires.on_disk
+
+pub own_part-requires-clause-out : goal.own_part-requires-clause-out
+own_part-requires-clause-out g c = bytes_of c.args.tables.now.parts c.entry.new.self.parts (length c.args.out.now) c.args.count c.entry.ensures.as_held.parts_are c.requires.out
+
+pub own_part-requires-clause-mask : goal.own_part-requires-clause-mask
+own_part-requires-clause-mask g c = c.requires.mask
+
+pub own_part-requires-clause-ends : goal.own_part-requires-clause-ends
+own_part-requires-clause-ends g c = c.requires.ends
+
+pub own_part-requires-clause-chunk : goal.own_part-requires-clause-chunk
+own_part-requires-clause-chunk g c = in_chunk (shape_of c.args.tables.now.parts) (record { sector = c.requires.readable.sizes.sector; block = c.requires.readable.sizes.block }) c.args.first c.args.count c.requires.some c.requires.run
+
+pub own_part-requires-clause-bitmap : goal.own_part-requires-clause-bitmap
+own_part-requires-clause-bitmap g c =
+    λ some t after.
+    bits_there_again c.args.tables.now c.entry.new.self (g.S.Store.disk c.args.store.now) c.args.first (entry_reads c.args.tables.now c.entry.new.self (g.S.Store.disk c.args.store.now) c.entry.ensures.as_held c.entry.ensures.places)
+    (λ t told.
+    let held = held_file c.args.tables.now t in
+    let word : table_entry (shape_of c.args.tables.now.parts) held (entry_of (shape_of c.args.tables.now.parts) c.args.first) ≡ c.in_ok-word.word =
+    sym (c.in_ok-word.ensures.entry t told ∙ ap (table_entry (shape_of c.args.tables.now.parts) held) c.entry_index.ensures.index) in
+    let seven : state_at (shape_of c.args.tables.now.parts) held (entry_of (shape_of c.args.tables.now.parts) c.args.first) ≡ 7 = ap (λ w. w % 8) word ∙ (marked c.args.tables.now.parts.parent c.in_ok-word.word _ c.in-Marked.is c.sectors_of.ensures).0 in
+    (c.requires.readable.bitmaps t told).there c.args.first (omega (arith, c.requires.some, c.requires.on_disk)) (marked c.args.tables.now.parts.parent c.in_ok-word.word _ c.in-Marked.is c.sectors_of.ensures).1 seven)
+    t (ap (λ d. d.told) (sym c.in_ok-word.ensures.stays) ∙ after)
+
+pub own_part-requires-clause-part : goal.own_part-requires-clause-part
+own_part-requires-clause-part g c =
+    λ some t after.
+    part_again c.args.tables.now c.entry.new.self (g.S.Store.disk c.args.store.now) (entry_reads c.args.tables.now c.entry.new.self (g.S.Store.disk c.args.store.now) c.entry.ensures.as_held c.entry.ensures.places) c.args.first c.args.count c.place_in-place.result
+    (λ t told.
+    let held = held_file c.args.tables.now t in
+    let word : table_entry (shape_of c.args.tables.now.parts) held (entry_of (shape_of c.args.tables.now.parts) c.args.first) ≡ c.in_ok-word.word =
+    sym (c.in_ok-word.ensures.entry t told ∙ ap (table_entry (shape_of c.args.tables.now.parts) held) c.entry_index.ensures.index) in
+    let seven : state_at (shape_of c.args.tables.now.parts) held (entry_of (shape_of c.args.tables.now.parts) c.args.first) ≡ 7 = ap (λ w. w % 8) word ∙ (marked c.args.tables.now.parts.parent c.in_ok-word.word _ c.in-Marked.is c.sectors_of.ensures).0 in
+    record {
+      run = c.requires.run;
+      seven = seven;
+      place_is =
+          start_is c.args.tables.now.parts (seen (file_of t c.args.tables.now.parts.file)) held c.requires.readable.sizes (c.requires.stored t told) c.args.first c.args.count c.requires.on_disk c.requires.run (inr seven) c.requires.some c.place_in-place.result
+          (c.place_in-place.ensures ∙ ap (λ o. min (c.in_ok-word.word / 2 ^ 20 * megabyte + o) (2 ^ 64 - 1)) c.offset_in_block.ensures.is
+          ∙ ap (λ w. min (w / 2 ^ 20 * megabyte + c.args.first * c.args.tables.now.parts.sector % c.args.tables.now.parts.block) (2 ^ 64 - 1)) (sym word));
+    })
+    t (ap (λ d. d.told) (sym c.in_ok-word.ensures.stays) ∙ after)
+
+pub take_run-requires-clause-inside : goal.take_run-requires-clause-inside
+take_run-requires-clause-inside g c =
+    λ yes t after.
+    let told = ap (λ d. d.told) (sym c.in_ok-word.ensures.stays) ∙ after in
+    let held = held_file c.args.tables.now t in
+    let word : table_entry (shape_of c.args.tables.now.parts) held (entry_of (shape_of c.args.tables.now.parts) c.args.first) ≡ c.in_ok-word.word =
+    sym (c.in_ok-word.ensures.entry t told ∙ ap (table_entry (shape_of c.args.tables.now.parts) held) c.entry_index.ensures.index) in
+    let six : state_at (shape_of c.args.tables.now.parts) held (entry_of (shape_of c.args.tables.now.parts) c.args.first) ≡ 6 = ap (λ w. w % 8) word ∙ here c.args.tables.now.parts.parent c.in_ok-word.word _ c.in-Here.is c.sectors_of.ensures in
+    subst (λ n. n + c.args.tables.now.parts.sector * c.args.count ≤ length (seen (file_of t c.args.tables.now.parts.file))) (sym (
+    start_is c.args.tables.now.parts (seen (file_of t c.args.tables.now.parts.file)) held c.requires.readable.sizes (c.requires.stored t told) c.args.first c.args.count c.requires.on_disk c.requires.run (inl six) c.requires.some c.place_in-place.result
+    (c.place_in-place.ensures ∙ ap (λ o. min (c.in_ok-word.word / 2 ^ 20 * megabyte + o) (2 ^ 64 - 1)) c.offset_in_block.ensures.is
+    ∙ ap (λ w. min (w / 2 ^ 20 * megabyte + c.args.first * c.args.tables.now.parts.sector % c.args.tables.now.parts.block) (2 ^ 64 - 1)) (sym word))))
+    (run_within c.args.tables.now.parts (seen (file_of t c.args.tables.now.parts.file)) held c.requires.readable.sizes (c.requires.stored t told) c.args.first c.args.count c.requires.on_disk c.requires.run (inl six) c.requires.some)
+
+pub set_range-requires-clause-within : goal.set_range-requires-clause-within
+set_range-requires-clause-within g c = c.requires.mask
+
+pub returns-in-Here-clause-stays : goal.returns-in-Here-clause-stays
+returns-in-Here-clause-stays g c = stays_then c.take_run.result (g.S.Store.disk c.args.store.now) (g.S.Store.disk c.entry.new.store) (g.S.Store.disk c.take_run.new.store) c.in_ok-word.ensures.stays c.take_run.ensures.stays
+
+pub returns-in-Here-clause-err : goal.returns-in-Here-clause-err
+returns-in-Here-clause-err g c = fails_then c.take_run.result c.args.tables.now.parts.file c.args.tables.now.parts.file (g.S.Store.disk c.args.store.now) (g.S.Store.disk c.entry.new.store) (g.S.Store.disk c.take_run.new.store) c.in_ok-word.ensures.stays refl c.take_run.ensures.err
+
+pub returns-in-Absent-clause-stays : goal.returns-in-Absent-clause-stays
+returns-in-Absent-clause-stays g c = stays_then c.take_run-in-Absent.result (g.S.Store.disk c.args.store.now) (g.S.Store.disk c.entry.new.store) (g.S.Store.disk c.take_run-in-Absent.new.store) c.in_ok-word.ensures.stays c.take_run-in-Absent.ensures.stays
+
+pub returns-in-Absent-clause-err : goal.returns-in-Absent-clause-err
+returns-in-Absent-clause-err g c = fails_then c.take_run-in-Absent.result c.args.tables.now.parts.file c.args.tables.now.parts.file (g.S.Store.disk c.args.store.now) (g.S.Store.disk c.entry.new.store) (g.S.Store.disk c.take_run-in-Absent.new.store) c.in_ok-word.ensures.stays refl c.take_run-in-Absent.ensures.err
+
+pub returns-in-Marked-clause-stays : goal.returns-in-Marked-clause-stays
+returns-in-Marked-clause-stays g c = stays_then c.own_part.result (g.S.Store.disk c.args.store.now) (g.S.Store.disk c.entry.new.store) (g.S.Store.disk c.own_part.new.store) c.in_ok-word.ensures.stays c.own_part.ensures.stays
+
+pub returns-in-Marked-clause-err : goal.returns-in-Marked-clause-err
+returns-in-Marked-clause-err g c = fails_then c.own_part.result c.args.tables.now.parts.file c.entry.new.self.parts.file (g.S.Store.disk c.args.store.now) (g.S.Store.disk c.entry.new.store) (g.S.Store.disk c.own_part.new.store) c.in_ok-word.ensures.stays (ap (λ (p : TableParts). p.file) c.entry.ensures.as_held.parts_are) c.own_part.ensures.err
+
+pub returns-in-Zeros-clause-stays : goal.returns-in-Zeros-clause-stays
+returns-in-Zeros-clause-stays g c = c.in_ok-word.ensures.stays

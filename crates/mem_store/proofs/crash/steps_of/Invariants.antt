@@ -1,6 +1,6 @@
 use Rattle.std.proofs.Common.{◌≡◌, take}
 use Rattle.store_model.specs.Trace.{ops_of}
-use Rattle.mem_store.specs.Steps.{changes_of, ops_done}
+use Rattle.mem_file.specs.Steps.{changes_of, ops_done}
 use Rattle.mem_store.proofs.crash.steps_of.Given as goal
 
 abbrev pub invariant-loop-change : goal.invariant-loop-change

@@ -1,7 +1,7 @@
 use Rattle.std.proofs.Common.{◌≡◌, ◌<◌, ◌∙◌, ◌++◌, ◌∷◌, [], ap, arith, length, refl, rules, sym, take}
 use Rattle.std.proofs.lemmas.List.{take_more}
-use Rattle.mem_store.specs.Steps.{change_of, changes_of}
-use Rattle.mem_store.proofs.StepLemmas.{changes-append, changes-push}
+use Rattle.mem_file.specs.Steps.{change_of, changes_of}
+use Rattle.mem_file.proofs.StepLemmas.{changes-append, changes-push}
 use Rattle.mem_store.proofs.past.copied_order.Goals as goal
 
 pub loop-change-preserved : goal.loop-change-preserved

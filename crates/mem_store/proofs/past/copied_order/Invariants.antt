@@ -1,5 +1,5 @@
 use Rattle.std.proofs.Common.{◌≡◌, take}
-use Rattle.mem_store.specs.Steps.{changes_of}
+use Rattle.mem_file.specs.Steps.{changes_of}
 use Rattle.mem_store.proofs.past.copied_order.Given as goal
 
 abbrev pub invariant-loop-change : goal.invariant-loop-change

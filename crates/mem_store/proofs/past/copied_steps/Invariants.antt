@@ -1,5 +1,5 @@
 use Rattle.std.proofs.Common.{◌≡◌, take}
-use Rattle.mem_store.specs.Steps.{ops_done}
+use Rattle.mem_file.specs.Steps.{ops_done}
 use Rattle.mem_store.proofs.past.copied_steps.Given as goal
 
 abbrev pub invariant-loop-step : goal.invariant-loop-step

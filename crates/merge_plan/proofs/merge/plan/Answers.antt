@@ -1,12 +1,13 @@
-use Rattle.std.proofs.Common.{◌≡◌, ◌-◌, None, refl, sym, ap, subst, ◌∙◌, arith}
+use Rattle.std.proofs.Common.{◌≡◌, ◌-◌, ◌<◌, None, refl, sym, ap, subst, ◌∙◌, arith}
 use Rattle.store_model.specs.Disk.{Disk}
-use Rattle.merge_plan.specs.Attached.{IsAsOpened}
+use Rattle.merge_plan.specs.Attached.{CanStart, IsAsOpened}
 use Rattle.merge_plan.specs.Drawing.{JudgesDrawn, merge_ids}
 use Rattle.merge_plan.specs.Merging.{HasPages, child_place}
 use Rattle.merge_plan.specs.Planning.{Stops}
 use Rattle.merge_plan.specs.Steps.{files_of}
+use Rattle.merge_plan.proofs.Gathered.{not_if_ok_so, not_ok_so}
 use Rattle.merge_plan.proofs.Lines.{sound_locator}
-use Rattle.merge_plan.proofs.Planned.{AreLocators, can_plan, child_stops, has_plan, judge_stops, passed_on, source_stops}
+use Rattle.merge_plan.proofs.Planned.{AreLocators, are_short, can_plan, child_stops, has_plan, judge_stops, locators_stop, passed_on, source_there, source_stops}
 use Rattle.merge_plan.proofs.merge.plan.Goals as goal
 
 pub locators-requires-clause-source : goal.locators-requires-clause-source
@@ -93,3 +94,72 @@ returns-clause-planned g c =
     subst (λ (d : Disk). JudgesDrawn c.args.files.now d (merge_ids c.args.ids) None) (c.in_ok-relink.ensures.stays ∙ c.in_ok-twice.ensures.stays) c.in_ok-judge.ensures.fit in
     has_plan c.args.files.now old m (record { source = c.args.found.now.place; ids = c.args.ids; twice = c.in_ok-twice.twice; relink = c.in_ok-relink.relink }) c.args.found.now.place
     c.in_ok-new.new.twice c.in_ok-new.new.once can c.in_ok-new.ensures.typed c.requires.drawn refl (sym c.requires.found.place) fit l c.in_ok-twice.ensures.pages relink
+
+pub returns-in_err-new-clause-planned : goal.returns-in_err-new-clause-planned
+returns-in_err-new-clause-planned g c = not_if_ok_so c.from_residual.result c.from_residual.ensures.0 _
+
+pub returns-in_err-new-clause-ids : goal.returns-in_err-new-clause-ids
+returns-in_err-new-clause-ids g c = not_if_ok_so c.from_residual.result c.from_residual.ensures.0 _
+
+pub returns-in_err-new-clause-stays : goal.returns-in_err-new-clause-stays
+returns-in_err-new-clause-stays g c = not_ok_so c.from_residual.result c.from_residual.ensures.0 _
+
+pub update-requires-clause-short : goal.update-requires-clause-short
+update-requires-clause-short g c = (are_short c.in_ok-new.new.twice c.in_ok-new.new.once c.in_ok-new.ensures.short).0
+
+pub returns-in_err-new-clause-err : goal.returns-in_err-new-clause-err
+returns-in_err-new-clause-err g c =
+    let m = files_of c.args.files.now c.args.found.now in
+    let old = g.S.Store.disk c.args.store.now in
+    passed_on (Stops c.args.files.now old old m c.args.ids) c.from_residual.result c.in_err-new.field-0.0 c.from_residual.ensures.1 (locators_stop c.args.files.now old m c.args.ids c.in_err-new.field-0.0 c.in_err-new.ensures.err)
+
+pub returns-in_err-twice-clause-planned : goal.returns-in_err-twice-clause-planned
+returns-in_err-twice-clause-planned g c = not_if_ok_so c.from_residual-in_err-twice.result c.from_residual-in_err-twice.ensures.0 _
+
+pub returns-in_err-twice-clause-ids : goal.returns-in_err-twice-clause-ids
+returns-in_err-twice-clause-ids g c = not_if_ok_so c.from_residual-in_err-twice.result c.from_residual-in_err-twice.ensures.0 _
+
+pub returns-in_err-twice-clause-stays : goal.returns-in_err-twice-clause-stays
+returns-in_err-twice-clause-stays g c = not_ok_so c.from_residual-in_err-twice.result c.from_residual-in_err-twice.ensures.0 _
+
+pub returns-in_err-relink-clause-planned : goal.returns-in_err-relink-clause-planned
+returns-in_err-relink-clause-planned g c = not_if_ok_so c.from_residual-in_err-relink.result c.from_residual-in_err-relink.ensures.0 _
+
+pub returns-in_err-relink-clause-ids : goal.returns-in_err-relink-clause-ids
+returns-in_err-relink-clause-ids g c = not_if_ok_so c.from_residual-in_err-relink.result c.from_residual-in_err-relink.ensures.0 _
+
+pub returns-in_err-relink-clause-stays : goal.returns-in_err-relink-clause-stays
+returns-in_err-relink-clause-stays g c = not_ok_so c.from_residual-in_err-relink.result c.from_residual-in_err-relink.ensures.0 _
+
+pub returns-in_err-judge-clause-planned : goal.returns-in_err-judge-clause-planned
+returns-in_err-judge-clause-planned g c = not_if_ok_so c.from_residual-in_err-judge.result c.from_residual-in_err-judge.ensures.0 _
+
+pub returns-in_err-judge-clause-ids : goal.returns-in_err-judge-clause-ids
+returns-in_err-judge-clause-ids g c = not_if_ok_so c.from_residual-in_err-judge.result c.from_residual-in_err-judge.ensures.0 _
+
+pub returns-in_err-judge-clause-stays : goal.returns-in_err-judge-clause-stays
+returns-in_err-judge-clause-stays g c = not_ok_so c.from_residual-in_err-judge.result c.from_residual-in_err-judge.ensures.0 _
+
+pub judge-requires : goal.judge-requires
+judge-requires g c = subst (CanStart c.args.files.now) (sym (c.in_ok-relink.ensures.stays ∙ c.in_ok-twice.ensures.stays)) c.requires.can
+
+pub returns-clause-stays : goal.returns-clause-stays
+returns-clause-stays g c = c.in_ok-judge.ensures.stays ∙ c.in_ok-relink.ensures.stays ∙ c.in_ok-twice.ensures.stays
+
+pub update-requires-2-clause-short : goal.update-requires-2-clause-short
+update-requires-2-clause-short g c = (are_short c.in_ok-new.new.twice c.in_ok-new.new.once c.in_ok-new.ensures.short).1
+
+pub update-requires-clause-there : goal.update-requires-clause-there
+update-requires-clause-there g c =
+    subst (λ k. k < (g.S.Store.disk c.args.store.now).files) c.requires.found.place (source_there c.args.files.now (g.S.Store.disk c.args.store.now) (files_of c.args.files.now c.args.found.now) c.requires.can c.requires.found.files_are.files_are)
+
+pub overflow_sub-found : goal.overflow_sub-found
+overflow_sub-found g c = omega (arith, c.requires.found.place)
+
+pub update-requires-2-clause-there : goal.update-requires-2-clause-there
+update-requires-2-clause-there g c =
+    let there = source_there c.args.files.now (g.S.Store.disk c.args.store.now) (files_of c.args.files.now c.args.found.now) c.requires.can c.requires.found.files_are.files_are in
+    subst (λ (d : Disk). c.args.found.now.place - 1 < d.files) (sym c.in_ok-twice.ensures.stays) (omega (arith, there, c.requires.found.place))
+
+pub returns-clause-ids : goal.returns-clause-ids
+returns-clause-ids g c = refl

@@ -1,13 +1,14 @@
 use Rattle.std.proofs.Common.{refl, ap, is_some, sym, subst, ◌∙◌}
 use Rattle.chain_core.specs.Copying.{no_stripe, source_number, stamp_of}
 use Rattle.chain_core.specs.Refusing.{unfit}
-use Rattle.chain_core.specs.Sessions.{IsSound, seen, Session, leaf_number}
+use Rattle.chain_core.specs.Sessions.{AreReady, IsSound, seen, Session, leaf_number}
 use Rattle.chain_core.specs.declared.layers.Layers.{Layers}
 use Rattle.layer_session.specs.ReadOnly.{SomeReadFailed}
 use Rattle.guest_model.specs.declared.refusal.ChainRefusal.TheVariants.{ReadFault}
 use Rattle.chain_core.proofs.Copied.{fetch_stopped, fetched, room_counted, sound_counted, sound_read, unfetched, sound_refused}
-use Rattle.chain_core.proofs.Called.{nothing_done}
-use Rattle.chain_core.proofs.Stopped.{never_first, never_second, stopped_first, stopped_second}
+use Rattle.chain_core.proofs.Called.{nothing_done, read_session}
+use Rattle.chain_core.proofs.Stopped.{never_first, never_second, not_stopped, stopped_first, stopped_second}
+use Rattle.chain_core.proofs.MergeSpots.{stripe_merge, stripe_there}
 use Rattle.chain_core.proofs.chain.Chain.fetch_live.Goals as goal
 
 pub returns-in-Ok-clause-sound : goal.returns-in-Ok-clause-sound
@@ -100,3 +101,59 @@ returns-in_err-find_stripe g c =
       taken = nothing_done r _ same.0;
       told = fetch_stopped before.layers c.admit.new.self.layers before.disk (g.S.Store.disk c.admit.new.self.store) layers disk c.args.piece.now r same.0;
     }
+
+pub take-requires-clause-ready : goal.take-requires-clause-ready
+take-requires-clause-ready g c =
+    subst (λ k. AreReady k.layers (g.S.Store.disk k.store)) (sym c.admit.ensures.only) (c.requires.sound.ready c.in_ok-admit.ensures.whole)
+
+pub take-requires-clause-merge : goal.take-requires-clause-merge
+take-requires-clause-merge g c = stripe_merge c.args.stripe c.admit.new.self.layers c.in_ok-find_stripe.ensures.ok
+
+pub take-requires-clause-stripe : goal.take-requires-clause-stripe
+take-requires-clause-stripe g c = stripe_there c.args.stripe c.admit.new.self.layers c.in_ok-find_stripe.ensures.ok
+
+pub returns-in-Ok-clause-events : goal.returns-in-Ok-clause-events
+returns-in-Ok-clause-events g c = c.admit.ensures.events
+
+pub returns-in-Ok-clause-geometry : goal.returns-in-Ok-clause-geometry
+returns-in-Ok-clause-geometry g c = c.take.ensures.reads.geometry ∙ ap (λ k. k.layers.geometry) c.admit.ensures.only
+
+pub returns-in-Ok-clause-session : goal.returns-in-Ok-clause-session
+returns-in-Ok-clause-session g c = read_session c.admit.new.self.layers c.take.new.self c.take.ensures.reads.numbers ∙ ap (λ k. is_some k.layers.leaf) c.admit.ensures.only
+
+pub returns-in-Ok-clause-leaf : goal.returns-in-Ok-clause-leaf
+returns-in-Ok-clause-leaf g c = c.take.ensures.reads.leaf ∙ ap (λ k. leaf_number k.layers) c.admit.ensures.only
+
+pub returns-in-Ok-clause-merge : goal.returns-in-Ok-clause-merge
+returns-in-Ok-clause-merge g c = (c.take.ensures.reads.merge ∙ ap (λ k. k.layers.merge) c.admit.ensures.only, c.take.ensures.reads.retiring ∙ ap (λ k. k.layers.retiring) c.admit.ensures.only)
+
+pub returns-in-Ok-clause-history : goal.returns-in-Ok-clause-history
+returns-in-Ok-clause-history g c = ap (λ k. k.recorder) c.admit.ensures.only
+
+pub returns-in-Ok-clause-early : goal.returns-in-Ok-clause-early
+returns-in-Ok-clause-early g c =
+    let before : Session = seen g.S.Store.disk g.R.Recorder.noted g.R.Recorder.told c.args.self.now in
+    not_stopped (unfit before.events before.broken) (no_stripe c.args.stripe before.layers) _ _ c.in_ok-admit.ensures.ok (ap (λ (l : Layers). no_stripe c.args.stripe l) (sym (ap (λ k. k.layers) c.admit.ensures.only)) ∙ c.in_ok-find_stripe.ensures.ok)
+
+pub returns-in-Err-clause-events : goal.returns-in-Err-clause-events
+returns-in-Err-clause-events g c = c.admit.ensures.events
+
+pub returns-in-Err-clause-geometry : goal.returns-in-Err-clause-geometry
+returns-in-Err-clause-geometry g c = c.take.ensures.reads.geometry ∙ ap (λ k. k.layers.geometry) c.admit.ensures.only
+
+pub returns-in-Err-clause-session : goal.returns-in-Err-clause-session
+returns-in-Err-clause-session g c = read_session c.admit.new.self.layers c.take.new.self c.take.ensures.reads.numbers ∙ ap (λ k. is_some k.layers.leaf) c.admit.ensures.only
+
+pub returns-in-Err-clause-leaf : goal.returns-in-Err-clause-leaf
+returns-in-Err-clause-leaf g c = c.take.ensures.reads.leaf ∙ ap (λ k. leaf_number k.layers) c.admit.ensures.only
+
+pub returns-in-Err-clause-merge : goal.returns-in-Err-clause-merge
+returns-in-Err-clause-merge g c = (c.take.ensures.reads.merge ∙ ap (λ k. k.layers.merge) c.admit.ensures.only, c.take.ensures.reads.retiring ∙ ap (λ k. k.layers.retiring) c.admit.ensures.only)
+
+pub returns-in-Err-clause-history : goal.returns-in-Err-clause-history
+returns-in-Err-clause-history g c = ap (λ k. k.recorder) c.admit.ensures.only
+
+pub returns-in-Err-clause-early : goal.returns-in-Err-clause-early
+returns-in-Err-clause-early g c =
+    let before : Session = seen g.S.Store.disk g.R.Recorder.noted g.R.Recorder.told c.args.self.now in
+    not_stopped (unfit before.events before.broken) (no_stripe c.args.stripe before.layers) _ _ c.in_ok-admit.ensures.ok (ap (λ (l : Layers). no_stripe c.args.stripe l) (sym (ap (λ k. k.layers) c.admit.ensures.only)) ∙ c.in_ok-find_stripe.ensures.ok)

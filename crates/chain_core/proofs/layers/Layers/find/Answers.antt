@@ -1,9 +1,61 @@
-use Rattle.std.proofs.Common.{rules, ◌≡◌, ◌*◌, length}
+use Rattle.std.proofs.Common.{◌≡◌, ◌+◌, ◌*◌, ◌≤◌, ap, arith, length, subst, sym, ◌∙◌}
+use Rattle.std.specs.Prelude.{IfErr}
+use Rattle.layer_session.specs.ReadOnly.{SomeReadFailed}
+use Rattle.store_model.specs.Disk.{Disk}
+use Rattle.vx_base.specs.declared.parts.Geometry.{Geometry}
 use Rattle.chain_core.proofs.Finding.{finds}
+use Rattle.vx_base.proofs.Handed.{failed_for, on_ok_map}
+use Rattle.chain_core.proofs.Onward.{not_ok, reads_on}
 use Rattle.chain_core.proofs.layers.Layers.find.Goals as goal
+
+pub own_leaf-requires-clause-ready : goal.own_leaf-requires-clause-ready
+own_leaf-requires-clause-ready g c = c.requires.ready
+
+pub own_leaf-requires-clause-on_disk : goal.own_leaf-requires-clause-on_disk
+own_leaf-requires-clause-on_disk g c = c.requires.on_disk
+
+pub own_leaf-requires-clause-out : goal.own_leaf-requires-clause-out
+own_leaf-requires-clause-out g c = c.requires.out
+
+pub own_leaf-requires-clause-mask : goal.own_leaf-requires-clause-mask
+own_leaf-requires-clause-mask g c = c.requires.few
+
+pub returns-in_err-own_leaf-clause-reads : goal.returns-in_err-own_leaf-clause-reads
+returns-in_err-own_leaf-clause-reads g c = c.in_err-own_leaf.ensures.reads
+
+pub returns-in_err-own_leaf-clause-finds : goal.returns-in_err-own_leaf-clause-finds
+returns-in_err-own_leaf-clause-finds g c = not_ok c.from_residual.result c.from_residual.ensures.0 _
+
+pub returns-in_err-own_leaf-clause-stays : goal.returns-in_err-own_leaf-clause-stays
+returns-in_err-own_leaf-clause-stays g c = not_ok c.from_residual.result c.from_residual.ensures.0 _
+
+pub returns-in_err-own_leaf-clause-err : goal.returns-in_err-own_leaf-clause-err
+returns-in_err-own_leaf-clause-err g c = failed_for c.from_residual.result c.in_err-own_leaf.field-0.0 c.from_residual.ensures.1 (SomeReadFailed (g.S.Store.disk c.args.store.now) (g.S.Store.disk c.own_leaf.new.store)) c.in_err-own_leaf.ensures.err
+
+pub own_below-requires-clause-ready : goal.own_below-requires-clause-ready
+own_below-requires-clause-ready g c = c.in_ok-own_leaf.ensures.reads.ready
+
+pub own_below-requires-clause-on_disk : goal.own_below-requires-clause-on_disk
+own_below-requires-clause-on_disk g c = subst (λ (x : Geometry). c.args.first + c.args.count ≤ x.sectors) (sym c.in_ok-own_leaf.ensures.reads.geometry) c.requires.on_disk
+
+pub own_below-requires-clause-out : goal.own_below-requires-clause-out
+own_below-requires-clause-out g c = c.own_leaf.auto.out ∙ c.requires.out ∙ ap (λ (x : Geometry). x.sector * c.args.count) (sym c.in_ok-own_leaf.ensures.reads.geometry)
+
+pub own_below-requires-clause-mask : goal.own_below-requires-clause-mask
+own_below-requires-clause-mask g c = let few = c.requires.few in let len : length c.own_leaf.new.mask ≡ 256 = c.own_leaf.auto.mask in omega (arith, few, len)
+
+pub returns-clause-reads : goal.returns-clause-reads
+returns-clause-reads g c =
+    reads_on c.args.self.now c.own_leaf.new.self c.own_below.new.self (g.S.Store.disk c.args.store.now) (g.S.Store.disk c.own_leaf.new.store) (g.S.Store.disk c.own_below.new.store) c.in_ok-own_leaf.ensures.reads c.own_below.ensures.reads
 
 pub returns-clause-finds : goal.returns-clause-finds
 returns-clause-finds g c =
-    let len : length c.own_below.new.out ≡ c.args.self.now.geometry.sector * c.args.count = search rules in
+    let len : length c.own_below.new.out ≡ c.args.self.now.geometry.sector * c.args.count = c.own_below.auto.out ∙ c.own_leaf.auto.out ∙ c.requires.out in
     finds c.args.self.now c.own_leaf.new.self (g.S.Store.disk c.args.store.now) (g.S.Store.disk c.own_leaf.new.store) c.args.first c.args.count c.own_leaf.new.mask c.own_below.new.mask c.args.out.now c.own_leaf.new.out c.own_below.new.out c.own_below.result
     c.requires.few c.requires.on_disk len c.in_ok-own_leaf.ensures.reads c.in_ok-own_leaf.ensures.stays c.in_ok-own_leaf.ensures.adds c.own_below.ensures.adds
+
+pub returns-clause-stays : goal.returns-clause-stays
+returns-clause-stays g c = on_ok_map c.own_below.result _ _ (λ same. same ∙ c.in_ok-own_leaf.ensures.stays) c.own_below.ensures.stays
+
+pub returns-clause-err : goal.returns-clause-err
+returns-clause-err g c = subst (λ (d : Disk). IfErr c.own_below.result (SomeReadFailed d (g.S.Store.disk c.own_below.new.store))) c.in_ok-own_leaf.ensures.stays c.own_below.ensures.err

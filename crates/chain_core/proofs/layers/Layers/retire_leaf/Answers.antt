@@ -3,7 +3,7 @@ use Rattle.chain_core.specs.Finished.{Finishes}
 use Rattle.chain_core.specs.declared.layers.Layers.{Layers}
 use Rattle.chain_core.proofs.Handing.{handed}
 use Rattle.chain_core.proofs.LeafPuts.{some_kept}
-use Rattle.chain_core.proofs.RetireLeaf.{clear_low, finish_retired, first_ready, hand_can, identify_next, identify_ready, identify_session, identify_there, retire_can, second_ready, settle_low, stopped_fifth, stopped_first, stopped_fourth, stopped_second, stopped_sixth, stopped_third}
+use Rattle.chain_core.proofs.RetireLeaf.{clear_low, clear_merge, clear_settled, finish_retired, first_ready, hand_can, hand_session, hand_target, hand_there, identify_merge, identify_next, identify_ready, identify_session, identify_there, leaf_session, retire_can, retire_merge, retire_session, second_ready, settle_low, stopped_fifth, stopped_first, stopped_fourth, stopped_second, stopped_sixth, stopped_third, target_low, target_session}
 use Rattle.chain_core.proofs.layers.Layers.retire_leaf.Goals as goal
 
 pub returns-in_err-settle : goal.returns-in_err-settle
@@ -164,3 +164,105 @@ returns g c =
     let kept = some_kept L0.retiring q.merge in
     let r = kept.0 in
     finish_retired L0 r d0 q.none kept.1 q.copied q.ready c.settle.new.self (g.S.Store.disk c.settle.new.store) c.in_ok-settle.ensures c.settle-2.new.self (g.S.Store.disk c.settle-2.new.store) c.in_ok-settle-2.ensures c.clear.new.self (g.S.Store.disk c.clear.new.store) c.in_ok-clear.ensures c.retire.new.self (g.S.Store.disk c.retire.new.store) c.in_ok-retire.ensures c.identify.new.self (g.S.Store.disk c.identify.new.store) c.in_ok-identify.ensures c.hand_over.new.self (g.S.Store.disk c.hand_over.new.store) c.in_ok-hand_over.ensures _ refl refl refl refl refl
+
+pub settle-requires-clause-session : goal.settle-requires-clause-session
+settle-requires-clause-session g c =
+    let L0 : Layers = c.args.self.now in
+    let d0 = g.S.Store.disk c.args.store.now in
+    let q = c.requires in
+    let kept = some_kept L0.retiring q.merge in
+    let r = kept.0 in
+    target_session L0 r d0 q.none kept.1 q.copied q.ready
+
+pub settle-requires-clause-ready : goal.settle-requires-clause-ready
+settle-requires-clause-ready g c = c.requires.ready
+
+pub settle-requires-clause-low : goal.settle-requires-clause-low
+settle-requires-clause-low g c =
+    let L0 : Layers = c.args.self.now in
+    let d0 = g.S.Store.disk c.args.store.now in
+    let q = c.requires in
+    let kept = some_kept L0.retiring q.merge in
+    let r = kept.0 in
+    target_low L0 r d0 q.none kept.1 q.copied q.ready q.low
+
+pub settle-requires-2-clause-session : goal.settle-requires-2-clause-session
+settle-requires-2-clause-session g c =
+    let L0 : Layers = c.args.self.now in
+    let d0 = g.S.Store.disk c.args.store.now in
+    let q = c.requires in
+    let kept = some_kept L0.retiring q.merge in
+    let r = kept.0 in
+    leaf_session L0 r d0 q.none kept.1 q.copied q.ready c.settle.new.self (g.S.Store.disk c.settle.new.store) c.in_ok-settle.ensures
+
+pub clear-requires-clause-merge : goal.clear-requires-clause-merge
+clear-requires-clause-merge g c =
+    let L0 : Layers = c.args.self.now in
+    let d0 = g.S.Store.disk c.args.store.now in
+    let q = c.requires in
+    let kept = some_kept L0.retiring q.merge in
+    let r = kept.0 in
+    clear_merge L0 r d0 q.none kept.1 q.copied q.ready c.settle.new.self (g.S.Store.disk c.settle.new.store) c.in_ok-settle.ensures c.settle-2.new.self (g.S.Store.disk c.settle-2.new.store) c.in_ok-settle-2.ensures
+
+pub clear-requires-clause-settled : goal.clear-requires-clause-settled
+clear-requires-clause-settled g c =
+    let L0 : Layers = c.args.self.now in
+    let d0 = g.S.Store.disk c.args.store.now in
+    let q = c.requires in
+    let kept = some_kept L0.retiring q.merge in
+    let r = kept.0 in
+    clear_settled L0 r d0 q.none kept.1 q.copied q.ready c.settle.new.self (g.S.Store.disk c.settle.new.store) c.in_ok-settle.ensures c.settle-2.new.self (g.S.Store.disk c.settle-2.new.store) c.in_ok-settle-2.ensures
+
+pub retire-requires-clause-merge : goal.retire-requires-clause-merge
+retire-requires-clause-merge g c =
+    let L0 : Layers = c.args.self.now in
+    let d0 = g.S.Store.disk c.args.store.now in
+    let q = c.requires in
+    let kept = some_kept L0.retiring q.merge in
+    let r = kept.0 in
+    retire_merge L0 r d0 q.none kept.1 q.copied q.ready c.settle.new.self (g.S.Store.disk c.settle.new.store) c.in_ok-settle.ensures c.settle-2.new.self (g.S.Store.disk c.settle-2.new.store) c.in_ok-settle-2.ensures c.clear.new.self (g.S.Store.disk c.clear.new.store) c.in_ok-clear.ensures
+
+pub retire-requires-clause-session : goal.retire-requires-clause-session
+retire-requires-clause-session g c =
+    let L0 : Layers = c.args.self.now in
+    let d0 = g.S.Store.disk c.args.store.now in
+    let q = c.requires in
+    let kept = some_kept L0.retiring q.merge in
+    let r = kept.0 in
+    retire_session L0 r d0 q.none kept.1 q.copied q.ready c.settle.new.self (g.S.Store.disk c.settle.new.store) c.in_ok-settle.ensures c.settle-2.new.self (g.S.Store.disk c.settle-2.new.store) c.in_ok-settle-2.ensures c.clear.new.self (g.S.Store.disk c.clear.new.store) c.in_ok-clear.ensures
+
+pub identify-requires-clause-merge : goal.identify-requires-clause-merge
+identify-requires-clause-merge g c =
+    let L0 : Layers = c.args.self.now in
+    let d0 = g.S.Store.disk c.args.store.now in
+    let q = c.requires in
+    let kept = some_kept L0.retiring q.merge in
+    let r = kept.0 in
+    identify_merge L0 r d0 q.none kept.1 q.copied q.ready c.settle.new.self (g.S.Store.disk c.settle.new.store) c.in_ok-settle.ensures c.settle-2.new.self (g.S.Store.disk c.settle-2.new.store) c.in_ok-settle-2.ensures c.clear.new.self (g.S.Store.disk c.clear.new.store) c.in_ok-clear.ensures c.retire.new.self (g.S.Store.disk c.retire.new.store) c.in_ok-retire.ensures
+
+pub hand_over-requires-clause-there : goal.hand_over-requires-clause-there
+hand_over-requires-clause-there g c =
+    let L0 : Layers = c.args.self.now in
+    let d0 = g.S.Store.disk c.args.store.now in
+    let q = c.requires in
+    let kept = some_kept L0.retiring q.merge in
+    let r = kept.0 in
+    hand_there L0 r d0 q.none kept.1 q.copied q.ready c.settle.new.self (g.S.Store.disk c.settle.new.store) c.in_ok-settle.ensures c.settle-2.new.self (g.S.Store.disk c.settle-2.new.store) c.in_ok-settle-2.ensures c.clear.new.self (g.S.Store.disk c.clear.new.store) c.in_ok-clear.ensures c.retire.new.self (g.S.Store.disk c.retire.new.store) c.in_ok-retire.ensures c.identify.new.self (g.S.Store.disk c.identify.new.store) c.in_ok-identify.ensures
+
+pub hand_over-requires-clause-target : goal.hand_over-requires-clause-target
+hand_over-requires-clause-target g c =
+    let L0 : Layers = c.args.self.now in
+    let d0 = g.S.Store.disk c.args.store.now in
+    let q = c.requires in
+    let kept = some_kept L0.retiring q.merge in
+    let r = kept.0 in
+    hand_target L0 r d0 q.none kept.1 q.copied q.ready c.settle.new.self (g.S.Store.disk c.settle.new.store) c.in_ok-settle.ensures c.settle-2.new.self (g.S.Store.disk c.settle-2.new.store) c.in_ok-settle-2.ensures c.clear.new.self (g.S.Store.disk c.clear.new.store) c.in_ok-clear.ensures c.retire.new.self (g.S.Store.disk c.retire.new.store) c.in_ok-retire.ensures c.identify.new.self (g.S.Store.disk c.identify.new.store) c.in_ok-identify.ensures
+
+pub hand_over-requires-clause-session : goal.hand_over-requires-clause-session
+hand_over-requires-clause-session g c =
+    let L0 : Layers = c.args.self.now in
+    let d0 = g.S.Store.disk c.args.store.now in
+    let q = c.requires in
+    let kept = some_kept L0.retiring q.merge in
+    let r = kept.0 in
+    hand_session L0 r d0 q.none kept.1 q.copied q.ready c.settle.new.self (g.S.Store.disk c.settle.new.store) c.in_ok-settle.ensures c.settle-2.new.self (g.S.Store.disk c.settle-2.new.store) c.in_ok-settle-2.ensures c.clear.new.self (g.S.Store.disk c.clear.new.store) c.in_ok-clear.ensures c.retire.new.self (g.S.Store.disk c.retire.new.store) c.in_ok-retire.ensures c.identify.new.self (g.S.Store.disk c.identify.new.store) c.in_ok-identify.ensures

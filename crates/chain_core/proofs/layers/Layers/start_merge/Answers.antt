@@ -8,7 +8,8 @@ use Rattle.chain_core.specs.MergeStarting.{StartsWithMerge, files_in, spent}
 use Rattle.chain_core.specs.Starting.{AreReadOf}
 use Rattle.chain_core.specs.declared.merge_start.MergeStartRefusal.TheVariants.{Begin, Plan}
 use Rattle.chain_core.proofs.Handing.{handed}
-use Rattle.chain_core.proofs.MergePlanned.{above_served, below_served, has_begun, leaf_numbers, low, no_room, none_of, not_begun, plan_at, spent_start, unplanned}
+use Rattle.chain_core.proofs.MergePlanned.{above_served, below_served, can_at, child_some, has_begun, leaf_numbers, low, no_room, none_of, not_begun, plan_at, spent_start, unplanned}
+use Rattle.chain_core.proofs.MergeSpots.{few_above, few_rest, not_first, not_last}
 use Rattle.chain_core.proofs.layers.Layers.start_merge.Goals as goal
 
 pub returns-in-Some : goal.returns-in-Some
@@ -167,3 +168,44 @@ returns g c =
     let n = files_in c.split-of.result in
     let new = g.S.Store.disk c.begin_merge.new.store in
     has_begun files name old before now merge c.requires none c.in_ok-merge.ensures.planned n c.split-of.ensures.files c.split-of.ensures.place mid new c.in_ok-merge.ensures.stays c.in_ok-layers.layers c.in_ok-layers.ensures
+
+pub prepare-requires : goal.prepare-requires
+prepare-requires g c = c.requires
+
+pub split-of-requires-clause-first : goal.split-of-requires-clause-first
+split-of-requires-clause-first g c = let p = c.in_ok-merge.ensures.planned in not_first p.m c.in_ok-merge.merge.source p.plan.place
+
+pub split-of-requires-clause-last : goal.split-of-requires-clause-last
+split-of-requires-clause-last g c = let p = c.in_ok-merge.ensures.planned in not_last p.m c.args.files.now c.in_ok-merge.merge.source p.begun.files_are.files_are p.plan.place
+
+pub new-requires-clause-few : goal.new-requires-clause-few
+new-requires-clause-few g c = few_above (files_in c.split-of.result) c.args.files.now c.behind_first.result.now c.split-of.ensures.files c.behind_first.ensures c.requires.few
+
+pub new-requires-clause-rest : goal.new-requires-clause-rest
+new-requires-clause-rest g c = few_rest (files_in c.split-of.result) c.args.files.now c.in_ok-merge.merge.source c.split-of.ensures.files c.split-of.ensures.place c.requires.few
+
+pub begin_merge-requires-clause-files : goal.begin_merge-requires-clause-files
+begin_merge-requires-clause-files g c =
+    let files = c.args.files.now in
+    let name = c.args.source.now in
+    let old = g.S.Store.disk c.args.store.now in
+    let before = g.I.Ids.drawn c.args.ids.now in
+    let mid = g.S.Store.disk c.prepare.new.store in
+    let now = g.I.Ids.drawn c.prepare.new.ids in
+    let none : spent files name ≡ None = sym c.high_number.ensures ∙ none_of c.high_number.result c.in_default.not-Some in
+    let merge = c.in_ok-merge.merge in
+    let n = files_in c.split-of.result in
+    can_at files name old before now merge c.requires none c.in_ok-merge.ensures.planned n c.split-of.ensures.files c.split-of.ensures.place mid c.in_ok-merge.ensures.stays
+
+pub begin_merge-requires-clause-child : goal.begin_merge-requires-clause-child
+begin_merge-requires-clause-child g c =
+    let files = c.args.files.now in
+    let name = c.args.source.now in
+    let old = g.S.Store.disk c.args.store.now in
+    let before = g.I.Ids.drawn c.args.ids.now in
+    let mid = g.S.Store.disk c.prepare.new.store in
+    let now = g.I.Ids.drawn c.prepare.new.ids in
+    let none : spent files name ≡ None = sym c.high_number.ensures ∙ none_of c.high_number.result c.in_default.not-Some in
+    let merge = c.in_ok-merge.merge in
+    let n = files_in c.split-of.result in
+    child_some files name old before now merge c.requires none c.in_ok-merge.ensures.planned n c.split-of.ensures.files c.split-of.ensures.place

@@ -1,4 +1,4 @@
-use Rattle.std.proofs.Common.{◌≡◌, ◌/◌, ◌^◌, List, length, true, rules, sym, subst, refl}
+use Rattle.std.proofs.Common.{◌≡◌, ◌/◌, ◌^◌, List, length, true, false, ap, ◌∙◌, inl, inr, rules, sym, subst, refl}
 use Rattle.std.specs.Prelude.{None}
 use Rattle.std.specs.Vec.{with_items}
 use Rattle.std.proofs.lemmas.List.{with_items_is}
@@ -6,13 +6,16 @@ use Rattle.store_model.specs.Disk.{Disk}
 use Rattle.table_pages.specs.Held.{shape_of}
 use Rattle.layer_session.specs.declared.file.Layer.{Layer}
 use Rattle.layer_session.specs.declared.planning.Plan.{Plan}
-use Rattle.layer_session.specs.Bringing.{AreBitsOf, AreNamed, HasBits, HasEntry, InChunk, LeadsTo, NamesBitmap, SpansBits}
+use Rattle.layer_session.specs.Bringing.{AreBitsOf, AreNamed, HasBits, HasEntry, InChunk, Leads, LeadsTo, NamesBitmap, SpansBits}
 use Rattle.layer_session.specs.Calls.{IsSame}
 use Rattle.layer_session.specs.Planning.{EachRun}
 use Rattle.layer_session.specs.Steps.{held_by}
 use Rattle.layer_session.proofs.Brought.{hand_then, made_told, named_same, names_new, no_bits, no_names, none_marks}
 use Rattle.layer_session.proofs.Leading.{leads_same, leads_then, planned_long, plans_same}
 use Rattle.layer_session.proofs.Readable.{same_self}
+use Rattle.vx_base.proofs.Handed.{err_is, not_ok}
+use Rattle.layer_session.proofs.Exits.{few_in, le_more, refused_for, says_self}
+use Rattle.layer_session.specs.ByTables.{most_made}
 use Rattle.layer_session.proofs.file.Layer.make_chunk.Goals as goal
 
 pub returns-then-not-missing-clause-leads : goal.returns-then-not-missing-clause-leads
@@ -70,7 +73,7 @@ returns-clause-there g c t told =
     let m : Layer = c.make_bitmap.new.self in
     let long : length c.name_bitmap.new.plans ≡ m.plans.len = search rules in
     subst (λ (plans : List Plan). EachRun (shape_of l.tables.parts) plans (InChunk (c.args.sector / 2 ^ 23) (NamesBitmap (shape_of l.tables.parts) (held_by m t))) 0 c.args.first c.args.count) (sym (with_items_is m.plans c.name_bitmap.new.plans long))
-    (names_new (shape_of l.tables.parts) (held_by m t) c.name_bitmap.new.plans c.args.sector c.args.first c.args.count c.in_ok-word.word (c.requires.parent (let e : c.args.missing ≡ true = search rules in e)) c.in_ok-word.ensures.six
+    (names_new (shape_of l.tables.parts) (held_by m t) c.name_bitmap.new.plans c.args.sector c.args.first c.args.count c.in_ok-word.word (c.requires.parent (let on : c.args.missing ≡ true = c.if-not-missing.false in on)) c.in_ok-word.ensures.six
     (made_told l m c.args.sector c.in_ok-word.word (g.S.Store.disk c.args.store.now).told (g.S.Store.disk c.make_bitmap.new.store).told t c.in_ok-word.ensures.made told) c.name_bitmap.ensures.word)
 
 pub returns-clause-named : goal.returns-clause-named
@@ -81,3 +84,129 @@ returns-clause-named g c =
     let items : c.as_mut_slice.result.now ≡ l.plans.items = search rules in
     subst (λ (plans : List Plan). AreNamed (shape_of l.tables.parts) (c.args.sector / 2 ^ 23) l.plans.items plans 0 c.args.first c.args.count) (sym (with_items_is m.plans c.name_bitmap.new.plans long))
     (subst (λ (plans : List Plan). AreNamed (shape_of l.tables.parts) (c.args.sector / 2 ^ 23) plans c.name_bitmap.new.plans 0 c.args.first c.args.count) items c.name_bitmap.ensures.named)
+
+pub returns-then-not-missing-clause-number : goal.returns-then-not-missing-clause-number
+returns-then-not-missing-clause-number g c = refl
+
+pub returns-then-not-missing-clause-header : goal.returns-then-not-missing-clause-header
+returns-then-not-missing-clause-header g c = refl
+
+pub returns-then-not-missing-clause-space : goal.returns-then-not-missing-clause-space
+returns-then-not-missing-clause-space g c = inl refl
+
+pub returns-then-not-missing-clause-keeps : goal.returns-then-not-missing-clause-keeps
+returns-then-not-missing-clause-keeps g c at h = h
+
+pub returns-in_default-clause-number : goal.returns-in_default-clause-number
+returns-in_default-clause-number g c = refl
+
+pub returns-in_default-clause-header : goal.returns-in_default-clause-header
+returns-in_default-clause-header g c = refl
+
+pub returns-in_default-clause-space : goal.returns-in_default-clause-space
+returns-in_default-clause-space g c = inl refl
+
+pub returns-in_default-clause-keeps : goal.returns-in_default-clause-keeps
+returns-in_default-clause-keeps g c at h = h
+
+pub returns-then-not-missing-clause-at_hand : goal.returns-then-not-missing-clause-at_hand
+returns-then-not-missing-clause-at_hand g c = c.requires.at_hand (let off : c.args.missing ≡ false = c.if-not-missing.true in off)
+
+pub returns-then-not-missing-clause-there : goal.returns-then-not-missing-clause-there
+returns-then-not-missing-clause-there g c t told = c.requires.there (let off : c.args.missing ≡ false = c.if-not-missing.true in off) t told
+
+pub bits_of-requires-clause-sizes : goal.bits_of-requires-clause-sizes
+bits_of-requires-clause-sizes g c = c.requires.ready.readable.sizes
+
+pub bits_of-requires-clause-on_disk : goal.bits_of-requires-clause-on_disk
+bits_of-requires-clause-on_disk g c = c.requires.on_disk
+
+pub make_bitmap-requires-clause-ready : goal.make_bitmap-requires-clause-ready
+make_bitmap-requires-clause-ready g c = c.requires.ready
+
+pub make_bitmap-requires-clause-sector : goal.make_bitmap-requires-clause-sector
+make_bitmap-requires-clause-sector g c = c.requires.sector
+
+pub make_bitmap-requires-clause-parent : goal.make_bitmap-requires-clause-parent
+make_bitmap-requires-clause-parent g c = c.requires.parent (let on : c.args.missing ≡ true = c.if-not-missing.false in on)
+
+pub make_bitmap-requires-clause-room : goal.make_bitmap-requires-clause-room
+make_bitmap-requires-clause-room g c = c.requires.room (let on : c.args.missing ≡ true = c.if-not-missing.false in on)
+
+pub make_bitmap-requires-clause-at_hand : goal.make_bitmap-requires-clause-at_hand
+make_bitmap-requires-clause-at_hand g c = c.requires.entry (let on : c.args.missing ≡ true = c.if-not-missing.false in on)
+
+pub make_bitmap-requires-clause-missing : goal.make_bitmap-requires-clause-missing
+make_bitmap-requires-clause-missing g c t told = c.requires.lacks (let on : c.args.missing ≡ true = c.if-not-missing.false in on) t told
+
+pub returns-in_err-word-clause-leads : goal.returns-in_err-word-clause-leads
+returns-in_err-word-clause-leads g c = subst (Leads c.args.self.now c.make_bitmap.new.self (g.S.Store.disk c.args.store.now) (g.S.Store.disk c.make_bitmap.new.store)) (sym (err_is c.from_residual.result c.in_err-word.field-0.0 c.from_residual.ensures.1)) c.in_err-word.ensures.leads
+
+pub returns-in_err-word-clause-refused : goal.returns-in_err-word-clause-refused
+returns-in_err-word-clause-refused g c = refused_for c.from_residual.result c.in_err-word.field-0.0 c.from_residual.ensures.1 _ _ (λ x. x) c.in_err-word.ensures.refused
+
+pub returns-in_err-word-clause-space : goal.returns-in_err-word-clause-space
+returns-in_err-word-clause-space g c = not_ok c.from_residual.result c.in_err-word.field-0.0 c.from_residual.ensures.1 _
+
+pub returns-in_err-word-clause-named : goal.returns-in_err-word-clause-named
+returns-in_err-word-clause-named g c = not_ok c.from_residual.result c.in_err-word.field-0.0 c.from_residual.ensures.1 _
+
+pub returns-in_err-word-clause-at_hand : goal.returns-in_err-word-clause-at_hand
+returns-in_err-word-clause-at_hand g c = not_ok c.from_residual.result c.in_err-word.field-0.0 c.from_residual.ensures.1 _
+
+pub returns-in_err-word-clause-there : goal.returns-in_err-word-clause-there
+returns-in_err-word-clause-there g c = not_ok c.from_residual.result c.in_err-word.field-0.0 c.from_residual.ensures.1 _
+
+pub returns-in_err-word-clause-says : goal.returns-in_err-word-clause-says
+returns-in_err-word-clause-says g c = not_ok c.from_residual.result c.in_err-word.field-0.0 c.from_residual.ensures.1 _
+
+pub returns-in_err-word-clause-number : goal.returns-in_err-word-clause-number
+returns-in_err-word-clause-number g c = c.make_bitmap.ensures.number
+
+pub returns-in_err-word-clause-header : goal.returns-in_err-word-clause-header
+returns-in_err-word-clause-header g c = c.make_bitmap.ensures.header
+
+pub returns-in_err-word-clause-keeps : goal.returns-in_err-word-clause-keeps
+returns-in_err-word-clause-keeps g c = c.make_bitmap.ensures.keeps
+
+pub returns-clause-number : goal.returns-clause-number
+returns-clause-number g c = c.make_bitmap.ensures.number
+
+pub returns-clause-header : goal.returns-clause-header
+returns-clause-header g c = c.make_bitmap.ensures.header
+
+pub returns-clause-keeps : goal.returns-clause-keeps
+returns-clause-keeps g c = c.make_bitmap.ensures.keeps
+
+pub returns-clause-space : goal.returns-clause-space
+returns-clause-space g c = inr ((let on : c.args.missing ≡ true = c.if-not-missing.false in on), c.in_ok-word.ensures.space)
+
+pub returns-then-not-missing-clause-pages : goal.returns-then-not-missing-clause-pages
+returns-then-not-missing-clause-pages g c = le_more (length c.args.self.now.tables.pending) (most_made c.args.missing (shape_of c.args.self.now.tables.parts) c.args.count)
+
+pub returns-in_default-clause-pages : goal.returns-in_default-clause-pages
+returns-in_default-clause-pages g c = le_more (length c.args.self.now.tables.pending) (most_made c.args.missing (shape_of c.args.self.now.tables.parts) c.args.count)
+
+pub name_bitmap-requires-clause-sizes : goal.name_bitmap-requires-clause-sizes
+name_bitmap-requires-clause-sizes g c = c.requires.ready.readable.sizes
+
+pub name_bitmap-requires-clause-on_disk : goal.name_bitmap-requires-clause-on_disk
+name_bitmap-requires-clause-on_disk g c = c.requires.on_disk
+
+pub bits_of-requires-clause-few : goal.bits_of-requires-clause-few
+bits_of-requires-clause-few g c = few_in _ (length c.as_slice.result.now) c.requires.few (ap length c.as_slice.ensures.value ∙ c.requires.ready.plans)
+
+pub make_bitmap-requires-clause-from : goal.make_bitmap-requires-clause-from
+make_bitmap-requires-clause-from g c = c.in-Some.ensures.span.from
+
+pub make_bitmap-requires-clause-some : goal.make_bitmap-requires-clause-some
+make_bitmap-requires-clause-some g c = c.in-Some.ensures.span.some
+
+pub make_bitmap-requires-clause-to : goal.make_bitmap-requires-clause-to
+make_bitmap-requires-clause-to g c = c.in-Some.ensures.span.to
+
+pub returns-then-not-missing-clause-says : goal.returns-then-not-missing-clause-says
+returns-then-not-missing-clause-says g c = says_self c.args.self.now (c.args.sector / 2 ^ 23) (g.S.Store.disk c.args.store.now).told
+
+pub returns-in_default-clause-says : goal.returns-in_default-clause-says
+returns-in_default-clause-says g c = says_self c.args.self.now (c.args.sector / 2 ^ 23) (g.S.Store.disk c.args.store.now).told

@@ -1,4 +1,4 @@
-use Rattle.std.proofs.Common.{◌≡◌, ℕ, ◌+◌, ◌-◌, ◌&&◌, ◌==◌, ◌∙◌, Bool, true, false, ap, refl, rules, sym, subst}
+use Rattle.std.proofs.Common.{◌≡◌, ℕ, ◌+◌, ◌*◌, ◌<◌, ◌≤◌, ◌-◌, ◌&&◌, ◌==◌, ◌∙◌, Bool, true, false, length, arith, ap, refl, sym, subst}
 use Rattle.std.proofs.lemmas.Bool.{eq-eqb}
 use Rattle.std.specs.Prelude.{Err, not}
 use Rattle.table_pages.specs.declared.tables.TableParts.{TableParts}
@@ -8,6 +8,12 @@ use Rattle.layer_session.specs.declared.file.LayerFault.{LayerFault}
 use Rattle.layer_session.specs.Bringing.{Leads}
 use Rattle.layer_session.proofs.AtHand.{entries_four, far_two, hand_four, lacks_four, lacks_three, near_two, prepared_five, room_four, room_three, there_four, wants_five}
 use Rattle.layer_session.proofs.Leading.{leads_on, leads_then, prepared_by}
+use Rattle.table_pages.specs.Held.{shape_of}
+use Rattle.log_write.specs.Sessions.{LogState}
+use Rattle.layer_session.specs.Blocks.{blocks_of}
+use Rattle.vx_base.proofs.Handed.{err_is, not_ok}
+use Rattle.layer_session.proofs.Exits.{first_on, last_on, pages_room, never_full, never_handed}
+use Rattle.layer_session.specs.Bringing.{most_bit_pages}
 use Rattle.layer_session.proofs.file.Layer.put_at_hand.Goals as goal
 
 pub bring_pages-requires-clause-near_there : goal.bring_pages-requires-clause-near_there
@@ -23,7 +29,7 @@ bring_pages-requires-clause-far_there g c =
 pub returns-in_err-bring_pages-clause-leads : goal.returns-in_err-bring_pages-clause-leads
 returns-in_err-bring_pages-clause-leads g c =
     let fault : LayerFault = c.in_err-bring_pages.field-0.0 in
-    let same : c.from_residual-in_err-bring_pages.result ≡ Err fault = search rules in
+    let same : c.from_residual-in_err-bring_pages.result ≡ Err fault = err_is c.from_residual-in_err-bring_pages.result c.in_err-bring_pages.field-0.0 c.from_residual-in_err-bring_pages.ensures.1 in
     subst (Leads c.args.self.now c.bring_pages.new.self (g.S.Store.disk c.args.store.now) (g.S.Store.disk c.bring_pages.new.store)) (sym same) (leads_on {T = Unit {0}} c.args.self.now c.make_room.new.self c.bring_pages.new.self (g.S.Store.disk c.args.store.now) (g.S.Store.disk c.make_room.new.store) (g.S.Store.disk c.bring_pages.new.store) (Err fault) c.in_ok-make_room.ensures.leads c.in_err-bring_pages.ensures.leads)
 
 pub make_chunk-requires-clause-room : goal.make_chunk-requires-clause-room
@@ -41,7 +47,7 @@ make_chunk-requires-clause-lacks g c =
 pub returns-in_err-make_chunk-clause-leads : goal.returns-in_err-make_chunk-clause-leads
 returns-in_err-make_chunk-clause-leads g c =
     let fault : LayerFault = c.in_err-make_chunk.field-0.0 in
-    let same : c.from_residual-in_err-make_chunk.result ≡ Err fault = search rules in
+    let same : c.from_residual-in_err-make_chunk.result ≡ Err fault = err_is c.from_residual-in_err-make_chunk.result c.in_err-make_chunk.field-0.0 c.from_residual-in_err-make_chunk.ensures.1 in
     subst (Leads c.args.self.now c.make_chunk.new.self (g.S.Store.disk c.args.store.now) (g.S.Store.disk c.make_chunk.new.store)) (sym same)
     (leads_on {T = Unit {0}} c.args.self.now c.bring_pages.new.self c.make_chunk.new.self (g.S.Store.disk c.args.store.now) (g.S.Store.disk c.bring_pages.new.store) (g.S.Store.disk c.make_chunk.new.store) (Err fault) (leads_then c.args.self.now c.make_room.new.self c.bring_pages.new.self (g.S.Store.disk c.args.store.now) (g.S.Store.disk c.make_room.new.store) (g.S.Store.disk c.bring_pages.new.store) c.in_ok-make_room.ensures.leads c.in_ok-bring_pages.ensures.leads) c.in_err-make_chunk.ensures.leads)
 
@@ -115,3 +121,120 @@ pub make_chunk-requires-2-clause-entry : goal.make_chunk-requires-2-clause-entry
 make_chunk-requires-2-clause-entry g c on =
     subst (λ (x : TableParts). IsBitmapEntryAtHand x (c.args.first + c.args.count - 1) c.make_chunk.new.self.tables.pending) (sym (c.in_ok-make_chunk.ensures.leads.parts ∙ c.in_ok-bring_pages.ensures.leads.parts))
     (c.make_chunk.ensures.keeps _ (c.in_ok-bring_pages.ensures.brings.far_entry (far_goes _ _ _ _ (ap (λ (m : Missing). m.far) (sym c.find_missing-missing.ensures) ∙ on)) on))
+
+pub pages_for-requires-clause-sizes : goal.pages_for-requires-clause-sizes
+pages_for-requires-clause-sizes g c = c.requires.ready.readable.sizes
+
+pub pages_for-requires-clause-few : goal.pages_for-requires-clause-few
+pages_for-requires-clause-few g c = c.requires.size
+
+pub make_room-requires-clause-ready : goal.make_room-requires-clause-ready
+make_room-requires-clause-ready g c = c.requires.ready
+
+pub make_room-requires-clause-numbers : goal.make_room-requires-clause-numbers
+make_room-requires-clause-numbers g c = c.requires.numbers
+
+pub make_room-requires-clause-few : goal.make_room-requires-clause-few
+make_room-requires-clause-few g c = c.pages_for.ensures.few
+
+pub returns-in_err-make_room-clause-leads : goal.returns-in_err-make_room-clause-leads
+returns-in_err-make_room-clause-leads g c = subst (Leads c.args.self.now c.make_room.new.self (g.S.Store.disk c.args.store.now) (g.S.Store.disk c.make_room.new.store)) (sym (err_is c.from_residual.result c.in_err-make_room.field-0.0 c.from_residual.ensures.1)) c.in_err-make_room.ensures.leads
+
+pub returns-in_err-make_room-clause-prepared : goal.returns-in_err-make_room-clause-prepared
+returns-in_err-make_room-clause-prepared g c = not_ok c.from_residual.result c.in_err-make_room.field-0.0 c.from_residual.ensures.1 _
+
+pub returns-in_err-make_room-clause-wants : goal.returns-in_err-make_room-clause-wants
+returns-in_err-make_room-clause-wants g c trims = not_ok c.from_residual.result c.in_err-make_room.field-0.0 c.from_residual.ensures.1 _
+
+pub returns-in_err-make_room-clause-never : goal.returns-in_err-make_room-clause-never
+returns-in_err-make_room-clause-never g c next e = never_handed c.from_residual.result c.in_err-make_room.field-0.0 c.from_residual.ensures.1 c.in_err-make_room.ensures.refused next e
+
+pub returns-in_err-bring_pages-clause-prepared : goal.returns-in_err-bring_pages-clause-prepared
+returns-in_err-bring_pages-clause-prepared g c = not_ok c.from_residual-in_err-bring_pages.result c.in_err-bring_pages.field-0.0 c.from_residual-in_err-bring_pages.ensures.1 _
+
+pub returns-in_err-bring_pages-clause-wants : goal.returns-in_err-bring_pages-clause-wants
+returns-in_err-bring_pages-clause-wants g c trims = not_ok c.from_residual-in_err-bring_pages.result c.in_err-bring_pages.field-0.0 c.from_residual-in_err-bring_pages.ensures.1 _
+
+pub returns-in_err-bring_pages-clause-never : goal.returns-in_err-bring_pages-clause-never
+returns-in_err-bring_pages-clause-never g c next e = c.in_err-bring_pages.ensures.never next (sym (err_is c.from_residual-in_err-bring_pages.result c.in_err-bring_pages.field-0.0 c.from_residual-in_err-bring_pages.ensures.1) ∙ e)
+
+pub returns-in_err-make_chunk-clause-prepared : goal.returns-in_err-make_chunk-clause-prepared
+returns-in_err-make_chunk-clause-prepared g c = not_ok c.from_residual-in_err-make_chunk.result c.in_err-make_chunk.field-0.0 c.from_residual-in_err-make_chunk.ensures.1 _
+
+pub returns-in_err-make_chunk-clause-wants : goal.returns-in_err-make_chunk-clause-wants
+returns-in_err-make_chunk-clause-wants g c trims = not_ok c.from_residual-in_err-make_chunk.result c.in_err-make_chunk.field-0.0 c.from_residual-in_err-make_chunk.ensures.1 _
+
+pub returns-in_err-make_chunk-clause-never : goal.returns-in_err-make_chunk-clause-never
+returns-in_err-make_chunk-clause-never g c next e = never_handed c.from_residual-in_err-make_chunk.result c.in_err-make_chunk.field-0.0 c.from_residual-in_err-make_chunk.ensures.1 c.in_err-make_chunk.ensures.refused next e
+
+pub returns-clause-never : goal.returns-clause-never
+returns-clause-never g c next e = never_full c.make_chunk-2.result c.make_chunk-2.ensures.refused next e
+
+pub returns-in_err-make_room-clause-number : goal.returns-in_err-make_room-clause-number
+returns-in_err-make_room-clause-number g c = c.make_room.ensures.number
+
+pub returns-in_err-make_room-clause-header : goal.returns-in_err-make_room-clause-header
+returns-in_err-make_room-clause-header g c = c.make_room.ensures.header
+
+pub returns-in_err-bring_pages-clause-number : goal.returns-in_err-bring_pages-clause-number
+returns-in_err-bring_pages-clause-number g c = subst (λ n. n ≤ c.args.self.now.log.number + 1) (sym (ap (λ (s : LogState). s.number) c.bring_pages.ensures.log)) c.make_room.ensures.number
+
+pub returns-in_err-bring_pages-clause-header : goal.returns-in_err-bring_pages-clause-header
+returns-in_err-bring_pages-clause-header g c = (ap (λ (s : LogState). s.header) c.bring_pages.ensures.log) ∙ c.make_room.ensures.header
+
+pub returns-in_err-make_chunk-clause-number : goal.returns-in_err-make_chunk-clause-number
+returns-in_err-make_chunk-clause-number g c = subst (λ n. n ≤ c.args.self.now.log.number + 1) (sym (c.make_chunk.ensures.number ∙ ap (λ (s : LogState). s.number) c.bring_pages.ensures.log)) c.make_room.ensures.number
+
+pub returns-in_err-make_chunk-clause-header : goal.returns-in_err-make_chunk-clause-header
+returns-in_err-make_chunk-clause-header g c = (c.make_chunk.ensures.header ∙ ap (λ (s : LogState). s.header) c.bring_pages.ensures.log) ∙ c.make_room.ensures.header
+
+pub returns-clause-number : goal.returns-clause-number
+returns-clause-number g c = subst (λ n. n ≤ c.args.self.now.log.number + 1) (sym (c.make_chunk-2.ensures.number ∙ (c.make_chunk.ensures.number ∙ ap (λ (s : LogState). s.number) c.bring_pages.ensures.log))) c.make_room.ensures.number
+
+pub returns-clause-header : goal.returns-clause-header
+returns-clause-header g c = (c.make_chunk-2.ensures.header ∙ (c.make_chunk.ensures.header ∙ ap (λ (s : LogState). s.header) c.bring_pages.ensures.log)) ∙ c.make_room.ensures.header
+
+pub bring_pages-requires-clause-ready : goal.bring_pages-requires-clause-ready
+bring_pages-requires-clause-ready g c = c.in_ok-make_room.ensures.leads.ready
+
+pub bring_pages-requires-clause-some : goal.bring_pages-requires-clause-some
+bring_pages-requires-clause-some g c = c.requires.some
+
+pub bring_pages-requires-clause-size : goal.bring_pages-requires-clause-size
+bring_pages-requires-clause-size g c = subst (λ (p : TableParts). p.sector * c.args.count ≤ 268435456) (sym c.in_ok-make_room.ensures.leads.parts) c.requires.size
+
+pub bring_pages-requires-clause-on_disk : goal.bring_pages-requires-clause-on_disk
+bring_pages-requires-clause-on_disk g c = subst (λ (p : TableParts). c.args.first + c.args.count ≤ p.sectors) (sym c.in_ok-make_room.ensures.leads.parts) c.requires.on_disk
+
+pub bring_pages-requires-clause-few : goal.bring_pages-requires-clause-few
+bring_pages-requires-clause-few g c = subst (λ (p : TableParts). blocks_of (shape_of p) c.args.first c.args.count ≤ 257) (sym c.in_ok-make_room.ensures.leads.parts) c.requires.few
+
+pub make_chunk-requires-clause-on_disk : goal.make_chunk-requires-clause-on_disk
+make_chunk-requires-clause-on_disk g c = subst (λ (p : TableParts). c.args.first + c.args.count ≤ p.sectors) (sym (c.in_ok-bring_pages.ensures.leads.parts ∙ c.in_ok-make_room.ensures.leads.parts)) c.requires.on_disk
+
+pub make_chunk-requires-clause-few : goal.make_chunk-requires-clause-few
+make_chunk-requires-clause-few g c = subst (λ (p : TableParts). blocks_of (shape_of p) c.args.first c.args.count ≤ 257) (sym (c.in_ok-bring_pages.ensures.leads.parts ∙ c.in_ok-make_room.ensures.leads.parts)) c.requires.few
+
+pub make_chunk-requires-2-clause-on_disk : goal.make_chunk-requires-2-clause-on_disk
+make_chunk-requires-2-clause-on_disk g c = subst (λ (p : TableParts). c.args.first + c.args.count ≤ p.sectors) (sym (c.in_ok-make_chunk.ensures.leads.parts ∙ (c.in_ok-bring_pages.ensures.leads.parts ∙ c.in_ok-make_room.ensures.leads.parts))) c.requires.on_disk
+
+pub make_chunk-requires-2-clause-few : goal.make_chunk-requires-2-clause-few
+make_chunk-requires-2-clause-few g c = subst (λ (p : TableParts). blocks_of (shape_of p) c.args.first c.args.count ≤ 257) (sym (c.in_ok-make_chunk.ensures.leads.parts ∙ (c.in_ok-bring_pages.ensures.leads.parts ∙ c.in_ok-make_room.ensures.leads.parts))) c.requires.few
+
+pub make_chunk-requires-clause-ready : goal.make_chunk-requires-clause-ready
+make_chunk-requires-clause-ready g c = c.in_ok-bring_pages.ensures.leads.ready
+
+pub make_chunk-requires-2-clause-ready : goal.make_chunk-requires-2-clause-ready
+make_chunk-requires-2-clause-ready g c = c.in_ok-make_chunk.ensures.leads.ready
+
+pub make_chunk-requires-clause-sector : goal.make_chunk-requires-clause-sector
+make_chunk-requires-clause-sector g c = subst (λ (p : TableParts). c.args.first < p.sectors) (sym (c.in_ok-bring_pages.ensures.leads.parts ∙ c.in_ok-make_room.ensures.leads.parts)) (first_on c.args.first c.args.count _ c.requires.some c.requires.on_disk)
+
+pub bring_pages-requires-clause-room : goal.bring_pages-requires-clause-room
+bring_pages-requires-clause-room g c = pages_room (length c.make_room.new.self.tables.pending) c.pages_for.result (most_bit_pages (shape_of c.make_room.new.self.tables.parts) c.args.count) (c.pages_for.ensures.is ∙ ap (λ (p : TableParts). 2 + 2 * (2 + most_bit_pages (shape_of p) c.args.count)) (sym c.in_ok-make_room.ensures.leads.parts)) c.in_ok-make_room.ensures.room
+
+pub make_chunk-requires-2-clause-sector : goal.make_chunk-requires-2-clause-sector
+make_chunk-requires-2-clause-sector g c = subst (λ (p : TableParts). c.args.first + c.args.count - 1 < p.sectors) (sym (c.in_ok-make_chunk.ensures.leads.parts ∙ (c.in_ok-bring_pages.ensures.leads.parts ∙ c.in_ok-make_room.ensures.leads.parts))) (last_on c.args.first c.args.count _ c.requires.some c.requires.on_disk)
+
+pub overflow_sub-last : goal.overflow_sub-last
+overflow_sub-last g c = let h = c.requires.some in omega (arith, h)

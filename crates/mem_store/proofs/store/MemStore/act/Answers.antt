@@ -1,10 +1,10 @@
 use Rattle.std.proofs.Common.{◌∙◌, ap, subst, sym, arith, set, length}
 use Rattle.std.proofs.lemmas.List.{length-set}
-use Rattle.mem_store.specs.MemFile.{Contents}
+use Rattle.mem_file.specs.MemFile.{Contents}
 use Rattle.mem_store.specs.MemStore.{IsTallied, all_contents, disk_of}
-use Rattle.mem_store.specs.Steps.{Fits, changes_of}
+use Rattle.mem_file.specs.Steps.{Fits, changes_of}
 use Rattle.mem_store.proofs.Telling.{seen_is, same_at, tallied_kept_at, tallied_push_at, changed_at}
-use Rattle.mem_store.proofs.StepLemmas.{changes-push}
+use Rattle.mem_file.proofs.StepLemmas.{changes-push}
 use Rattle.mem_store.proofs.store.MemStore.act.Goals as goal
 
 pub act-requires-clause-fits : goal.act-requires-clause-fits

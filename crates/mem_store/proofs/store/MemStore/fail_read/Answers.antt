@@ -1,6 +1,6 @@
 use Rattle.std.proofs.Common.{ap, arith}
 use Rattle.std.proofs.lemmas.List.{length-set}
-use Rattle.mem_store.specs.MemFile.{Contents}
+use Rattle.mem_file.specs.MemFile.{Contents}
 use Rattle.mem_store.proofs.Telling.{read_failed_at, tallied_kept_at}
 use Rattle.mem_store.proofs.store.MemStore.fail_read.Goals as goal
 

@@ -1,6 +1,6 @@
 use Rattle.std.proofs.Common.{◌≡◌, ◌∙◌, ap, arith, length, rules, subst, sym}
 use Rattle.store_model.specs.Bytes.{IsBytes}
-use Rattle.mem_store.specs.Steps.{half_of}
+use Rattle.mem_file.specs.Steps.{half_of}
 use Rattle.mem_store.specs.StoreTold.{seen_by}
 use Rattle.mem_store.proofs.Tearing.{bytes-half, length-half, seen_bytes}
 use Rattle.mem_store.proofs.store.MemStore.leave_half.Goals as goal

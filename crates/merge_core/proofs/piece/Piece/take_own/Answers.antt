@@ -1,11 +1,11 @@
-use Rattle.std.proofs.Common.{◌≡◌, ◌≤◌, ℕ, List, rules, sym, subst}
+use Rattle.std.proofs.Common.{◌≡◌, ◌≤◌, ◌+◌, ◌∙◌, ℕ, List, ap, length, arith, rules, sym, subst}
 use Rattle.std.proofs.lemmas.List.{places, with_items_is}
 use Rattle.std.specs.Vec.{with_items}
 use Rattle.merge_core.specs.Pieces.{IsTaken, Tells, piece_of}
 use Rattle.merge_core.specs.declared.piece.Piece.{Piece as KeptPiece}
 use Rattle.layer_session.specs.declared.file_layer.FileLayer.TheVariants.{Session}
 use Rattle.layer_session.proofs.FileLayers.{has_held}
-use Rattle.merge_core.proofs.PieceLemmas.{holds_off, is_taken, on_ok, some_sectors}
+use Rattle.merge_core.proofs.PieceLemmas.{disk_size, holds_off, err_empty, few_sectors, is_taken, ok_filled, on_ok, sector_size, some_sectors}
 use Rattle.merge_core.proofs.piece.Piece.take_own.Goals as goal
 
 pub returns-clause-held : goal.returns-clause-held
@@ -26,3 +26,68 @@ returns-clause-held g c =
 pub returns-clause-taken : goal.returns-clause-taken
 returns-clause-taken g c =
     on_ok c.read_own-done.result _ _ (λ held file trace told h. held file.member.layer trace told (has_held (Session c.args.source.now) trace file h)) (returns-clause-held g c)
+
+pub invariant_of-self : goal.invariant_of-self
+invariant_of-self g c =
+    let size = sector_size (Session c.args.source.now) (g.S.Store.disk c.args.store.now) c.args.geometry c.requires.readable in
+    let bytes_len = c.read_own-done.auto.bytes ∙ c.as_mut_slice-bytes.ensures.len in
+    let mask_len = c.read_own-done.auto.mask ∙ c.as_mut_slice-mask.ensures.len in
+    record {
+      place = c.stripe_range-first.ensures.begins;
+      size = size;
+      few = c.stripe_range-first.ensures.long;
+      bits = omega (arith, c.stripe_range-first.ensures.most, few_sectors c.args.geometry.sector size);
+      long = ap length (with_items_is c.args.self.now.bytes c.read_own-done.new.bytes bytes_len) ∙ c.read_own-done.auto.bytes ∙ ap length c.as_mut_slice-bytes.ensures.value ∙ c.args.self.now.long;
+      masks = ap length (with_items_is c.args.self.now.mask c.read_own-done.new.mask mask_len) ∙ c.read_own-done.auto.mask ∙ ap length c.as_mut_slice-mask.ensures.value ∙ c.args.self.now.masks;
+    }
+
+pub returns-clause-filled : goal.returns-clause-filled
+returns-clause-filled g c = ok_filled c.read_own-done.result c.note.new.self.filled (ap (λ (p : KeptPiece). p.filled) c.note.ensures ∙ c.is_ok.ensures.value)
+
+pub returns-clause-empty : goal.returns-clause-empty
+returns-clause-empty g c = err_empty c.read_own-done.result c.note.new.self.filled (ap (λ (p : KeptPiece). p.filled) c.note.ensures ∙ c.is_ok.ensures.value)
+
+pub returns-clause-fits : goal.returns-clause-fits
+returns-clause-fits g c = λ parts z n. record {
+  sector = ap (λ (p : KeptPiece). p.sector) c.note.ensures ∙ sym z;
+  on_disk = subst (λ (p : KeptPiece). p.first + p.count ≤ parts.sectors) (sym c.note.ensures) (subst (λ k. c.stripe_range-first.result.0 + c.stripe_range-first.result.1 ≤ k) (sym n) c.stripe_range-first.ensures.on_disk);
+}
+
+pub returns-clause-stripe : goal.returns-clause-stripe
+returns-clause-stripe g c = ap (λ (p : KeptPiece). p.stripe) c.note.ensures
+
+pub returns-clause-stamp : goal.returns-clause-stamp
+returns-clause-stamp g c = ap (λ (p : KeptPiece). p.stamp) c.note.ensures
+
+pub returns-clause-same : goal.returns-clause-same
+returns-clause-same g c = c.read_own-done.ensures.same
+
+pub returns-clause-stays : goal.returns-clause-stays
+returns-clause-stays g c = c.read_own-done.ensures.stays
+
+pub returns-clause-err : goal.returns-clause-err
+returns-clause-err g c = c.read_own-done.ensures.err
+
+pub stripe_range-first-requires-clause-sector : goal.stripe_range-first-requires-clause-sector
+stripe_range-first-requires-clause-sector g c = sector_size (Session c.args.source.now) (g.S.Store.disk c.args.store.now) c.args.geometry c.requires.readable
+
+pub stripe_range-first-requires-clause-size : goal.stripe_range-first-requires-clause-size
+stripe_range-first-requires-clause-size g c = disk_size (Session c.args.source.now) (g.S.Store.disk c.args.store.now) c.args.geometry c.requires.readable
+
+pub read_own-done-requires-clause-readable : goal.read_own-done-requires-clause-readable
+read_own-done-requires-clause-readable g c = c.requires.readable.can
+
+pub read_own-done-requires-clause-sector : goal.read_own-done-requires-clause-sector
+read_own-done-requires-clause-sector g c = sym c.requires.readable.sector
+
+pub read_own-done-requires-clause-on_disk : goal.read_own-done-requires-clause-on_disk
+read_own-done-requires-clause-on_disk g c = subst (λ n. c.stripe_range-first.result.0 + c.stripe_range-first.result.1 ≤ n) (sym c.requires.readable.sectors) c.stripe_range-first.ensures.on_disk
+
+pub read_own-done-requires-clause-bytes : goal.read_own-done-requires-clause-bytes
+read_own-done-requires-clause-bytes g c = omega (arith, ap length c.as_mut_slice-bytes.ensures.value, c.args.self.now.long, c.stripe_range-first.ensures.long)
+
+pub read_own-done-requires-clause-few : goal.read_own-done-requires-clause-few
+read_own-done-requires-clause-few g c = omega (arith, c.stripe_range-first.ensures.most, few_sectors c.args.geometry.sector (sector_size (Session c.args.source.now) (g.S.Store.disk c.args.store.now) c.args.geometry c.requires.readable))
+
+pub read_own-done-requires-clause-mask : goal.read_own-done-requires-clause-mask
+read_own-done-requires-clause-mask g c = omega (arith, ap length c.as_mut_slice-mask.ensures.value, c.args.self.now.masks, read_own-done-requires-clause-few g c)

@@ -1,5 +1,0 @@
-use Rattle.std.proofs.Common.{length}
-use Rattle.mem_store.proofs.replay.+image.Given as goal
-
-abbrev pub decreases-image : goal.decreases-image
-decreases-image l = length l.steps.now
