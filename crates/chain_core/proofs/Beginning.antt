@@ -5,6 +5,7 @@ use Rattle.std.proofs.Common.{drop, take, ◌-◌, ◌≡◌, ◌≢◌, ℕ, su
 use Rattle.std.specs.Prelude.{Option, Some, None, option_map, ◌⊎◌, IfSome, Result, Ok, Err, IfOk, OnOk}
 use Rattle.std.specs.List.{AllByRecursion}
 use Rattle.std.specs.Option.{option_or}
+use Rattle.layer_session.proofs.FileLayers.{phase_others}
 use Rattle.vx_base.specs.declared.parts.Geometry.{Geometry}
 use Rattle.vx_base.specs.declared.parts.Parts.{Parts}
 use Rattle.vhdx_format.specs.FileParts.{HasNumbers, shape_of}
@@ -49,7 +50,7 @@ use Rattle.merge_plan.specs.declared.drawing.NewIds.{NewIds}
 use Rattle.chain_core.specs.declared.starting.StartRefusal.{StartRefusal}
 use Rattle.chain_core.specs.Sessions.{AreApart, AreReady, AtMostOne, CanRelink, CanRetire, HasNoMerge, IsLow, IsMergeOf, IsReadyLeaf, IsRetiringOf, leaf_number}
 use Rattle.chain_core.specs.States.{AreHeld, AreWritten, IsCourse, IsRetiring, IsServing, WasSynced, plain, seen_in}
-use Rattle.chain_core.proofs.Steps.{phase_others, still_once, still_read}
+use Rattle.chain_core.proofs.Steps.{still_once, still_read}
 
 -- ---- lists
 

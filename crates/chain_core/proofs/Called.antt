@@ -70,10 +70,6 @@ declined who call s t e (Err x) same sound events noted told layers disk broken 
 pub out_of_memory : (who : Caller) (call : Call) (s t : Session) → IsSound s → t.events ≡ counted s.events → t.noted ≡ s.noted → t.told ≡ s.told → t.layers ≡ s.layers → t.disk ≡ s.disk → t.broken ≡ s.broken → s.broken ≡ None → IsDeclined who call s t (Err NoRoom)
 out_of_memory who call s t sound events noted told layers disk broken whole = declined_by who call s t NoRoom sound events noted told layers disk broken (λ fit. refl) (λ fit. whole)
 
-pub nothing_done : {A : Type 0} (result : Result A ChainRefusal) (P : Type 0) → IsErr result → OnOk result P
-nothing_done (Ok a) P err = absurd (cc)
-nothing_done (Err e) P err = tt
-
 pub still_room : (e : ChainRefusal) (result : Result ℕ ChainRefusal) → IsErrAnd result (λ x. x ≡ e) → result ≡ Err NoRoom → ◌≡◌ {A = Result (Unit {0}) ChainRefusal} (Err e) (Err NoRoom)
 still_room e (Ok place) same is = absurd same
 still_room e (Err x) same is = ap Err (sym same ∙ (let one : x ≡ NoRoom = cc in one))

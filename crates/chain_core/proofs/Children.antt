@@ -3,6 +3,9 @@ use Rattle.std.proofs.Common.{◌≡◌, ℕ, suc, ◌-◌, ◌==◌, true, fals
 use Rattle.std.specs.Prelude.{Option, Some, None, option_map, IfSome}
 use Rattle.std.specs.List.{AllByRecursion}
 use Rattle.std.proofs.lemmas.List.{append_assoc, map-append}
+use Rattle.chain_core.proofs.MergeServed.{last_child}
+use Rattle.layer_session.proofs.FileLayers.{phase_others}
+use Rattle.chain_model.proofs.Showing.{all_right}
 use Rattle.store_model.specs.Trace.{Trace}
 use Rattle.table_pages.specs.declared.tables.TableParts.{TableParts}
 use Rattle.chain_model.specs.Images.{NoneLoose, Placed, members_of}
@@ -28,7 +31,7 @@ use Rattle.chain_core.specs.States.{AreHeld, AreWritten, IsCourse, IsRetiring, I
 use Rattle.chain_core.proofs.Putting.{apart_around, have_all, have_parts}
 use Rattle.chain_core.proofs.Replaced.{written_at}
 use Rattle.chain_core.proofs.Rests.{leaf_survives}
-use Rattle.chain_core.proofs.Steps.{all_right, goes_over, names_behind, phase_beside, phase_others, relinks_alike, still_once, still_read}
+use Rattle.chain_core.proofs.Steps.{goes_over, names_behind, phase_beside, relinks_alike, still_once, still_read}
 
 -- ---- a change of a file failed
 
@@ -54,11 +57,6 @@ target_failed v top above source target below m layers trace now serving written
     (λ s none. refl) refl serving.loose serving.loose).moments
 
 -- ---- a child that stands below the leaf
-
--- the last of the files above the source
-pub last_child : (top : Placed) (pre : List Placed) (child : Placed) → child_of top (pre ++ child ∷ []) ≡ child
-last_child top [] child = refl
-last_child top (p ∷ pre) child = last_child p pre child
 
 none_but : (s : ℕ) (pre : List Placed) (child after : Placed) (rest : List Placed) → after.is_loose s ≡ false → NoneLoose s ((pre ++ child ∷ []) ++ rest) → NoneLoose s ((pre ++ after ∷ []) ++ rest)
 none_but s [] child after rest tight none = (tight, none.1)

@@ -1,6 +1,8 @@
 -- What a session answers of a call, from what its layers answer.
 use Rattle.std.proofs.Common.{◌≡◌, ℕ, Bool, true, false, ◌||◌, refl, sym, subst}
 use Rattle.std.specs.Prelude.{Option, Some, None, Result, Ok, Err, IsErr}
+use Rattle.chain_model.proofs.Showing.{all_right}
+use Rattle.store_model.proofs.Told.{both_from}
 use Rattle.store_model.specs.Disk.{Disk, WhereBothTold}
 use Rattle.store_model.specs.declared.fault.StoreFault.{StoreFault}
 use Rattle.store_model.specs.Trace.{Trace}
@@ -20,15 +22,9 @@ use Rattle.layer_session.specs.declared.file.LayerFault.TheVariants as layer
 use Rattle.chain_core.specs.declared.layers.Layers.{Layers}
 use Rattle.chain_core.specs.States.{State, IsNextPlace, IsServing, entry, files_of, sector_of, wide}
 use Rattle.chain_core.specs.Answering.{Answers, FailsByChange, LayerAnswers, LayerRoomIs, LayerTold, NeedsNoRoom, RoomIs, answer_of, as_change}
-use Rattle.chain_core.proofs.Steps.{all_right, at_rest, failed}
+use Rattle.chain_core.proofs.Steps.{at_rest, failed}
 
 -- ---- where the store tells its content
-
-pub both_told : {T : Type 0} (P Q : T → T → Type 0) (old new : Option T) → ((a b : T) → P a b → Q a b) → WhereBothTold P old new → WhereBothTold Q old new
-both_told P Q None None weaker h = tt
-both_told P Q None (Some b) weaker h = h
-both_told P Q (Some a) None weaker h = h
-both_told P Q (Some a) (Some b) weaker h = weaker a b h
 
 pub same_told : {T : Type 0} (P : T → T → Type 0) (o : Option T) → ((a : T) → P a a) → WhereBothTold P o o
 same_told P None h = tt
@@ -54,7 +50,7 @@ answered who call next place layers0 layers1 layers2 layers3 disk0 disk1 disk2 d
     let a = subst (λ (l : Layers). LayerTold next call l layers2 disk1 disk2 answer) l1 told in
     let b = subst (λ (d : Disk). LayerTold next call layers0 layers2 d disk2 answer) d1 a in
     let done : SessionTold next (entry who call) layers0 layers2 disk0 disk2 (answer_of place answer) =
-    both_told (λ trace now. (who : Caller) (v : State) → IsServing layers0 v trace → IsNextPlace next v → LayerAnswers (entry who call) v layers2 trace now answer)
+    both_from (λ trace now. (who : Caller) (v : State) → IsServing layers0 v trace → IsNextPlace next v → LayerAnswers (entry who call) v layers2 trace now answer)
     (λ trace now. (v : State) → IsServing layers0 v trace → IsNextPlace next v → Answers (entry who call) v layers2 trace now (answer_of place answer)) disk0.told disk2.told
     (λ trace now each v serving next_is. layer_answered (entry who call) v layers2 trace now place answer (each who v serving next_is)) b in
     let to_layers = subst (λ (l : Layers). SessionTold next (entry who call) layers0 l disk0 disk2 (answer_of place answer)) (sym l3) done in

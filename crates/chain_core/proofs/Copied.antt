@@ -2,6 +2,7 @@
 use Rattle.std.proofs.Common.{◌≡◌, ℕ, is_some, ◌||◌, ◌+◌, ◌-◌, ◌^◌, ◌≤◌, ◌<◌, Bool, true, false, cond, List, [], ◌∷◌, refl, sym, ap, subst, ◌∙◌, arith, ltb-true}
 use Rattle.std.specs.Prelude.{Option, Some, None, Result, Ok, Err, IfSome, IsErr, OnOk, OnErr, nat_lt, if◌then◌else◌}
 use Rattle.std.specs.List.{AllByRecursion}
+use Rattle.store_model.proofs.Told.{both_from}
 use Rattle.vx_base.specs.declared.parts.Geometry.{Geometry}
 use Rattle.store_model.specs.Disk.{Disk, WhereBothTold}
 use Rattle.store_model.specs.Trace.{Trace}
@@ -24,7 +25,6 @@ use Rattle.chain_core.specs.Refusing.{broken_by, counted, misplaced, or_else, re
 use Rattle.guest_model.specs.declared.call.Call.{Call}
 use Rattle.chain_core.specs.Sessions.{AreReady, HasNoMerge, IsLow, IsSound, KeepsMerge, Session, has_merge, log_numbers, marks_in, slack}
 use Rattle.chain_core.specs.States.{IsServing, State}
-use Rattle.chain_core.proofs.Concluding.{both_told}
 use Rattle.chain_core.proofs.Looking.{both_same}
 use Rattle.chain_core.proofs.Steps.{at_rest}
 
@@ -224,7 +224,7 @@ module _ (s0 s1 s2 : Session) (done : Result (Unit {0}) StoreFault) (layers : s1
   finish_told =
       subst (λ (d : Disk). Told s0.layers d) disk
       (subst (λ (l : Layers). Told l s1.disk) layers
-      (both_told (λ trace now. (v : State) → IsServing s1.layers v trace → FinishesTo s1.layers.retiring v s2.layers trace now done)
+      (both_from (λ trace now. (v : State) → IsServing s1.layers v trace → FinishesTo s1.layers.retiring v s2.layers trace now done)
       (λ trace now. (v : State) → IsServing s1.layers v trace → FinishAnswers s1.layers.retiring v s2.layers trace now (refused_by (as_change done)))
       s1.disk.told s2.disk.told (λ trace now told v serving. by_answer v trace now done (told v serving)) finishes.told))
     where
@@ -286,10 +286,6 @@ sound_behind s t done sound whole one few noted geometry merge ready low fault =
 pub noted_most : (done : Result (Unit {0}) LayerFault) (before noted after : ℕ) → noted ≡ before + 1 → OnOk done (after ≡ noted) → OnErr done (after ≡ noted - 1) → after ≤ before + 1
 noted_most (Ok t) before noted after one ok err = omega (arith, one, ok)
 noted_most (Err f) before noted after one ok err = omega (arith, one, err)
-
-pub ok_map : {A B : Type 0} (done : Result (Unit {0}) LayerFault) → (A → B) → OnOk done A → OnOk done B
-ok_map (Ok t) f a = f a
-ok_map (Err e) f a = tt
 
 pub room_accepted : (call : Call) (s : Session) (n : ℕ) → refused call s ≡ None → n ≡ s.events + 1 → n ≤ 2 ^ 63
 room_accepted call s n fit one = room_counted s.events n s.broken (first_none (unfit s.events s.broken) (misplaced call s.layers) fit) one

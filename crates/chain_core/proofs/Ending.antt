@@ -3,6 +3,7 @@ use Rattle.std.proofs.Common.{◌≡◌, ◌≢◌, ℕ, Bool, true, false, List
 use Rattle.std.specs.Prelude.{Option, Some, None, IfErr, IfSome, OnOk, Result, Ok, Err}
 use Rattle.std.specs.List.{AllByRecursion}
 use Rattle.std.proofs.lemmas.List.{append-nil, append_assoc, map-append}
+use Rattle.chain_model.proofs.Showing.{all_left, all_right}
 use Rattle.store_model.specs.declared.fault.StoreFault.{StoreFault}
 use Rattle.store_model.specs.Disk.{Disk, WhereBothTold}
 use Rattle.store_model.specs.File.{is_synced}
@@ -26,32 +27,28 @@ use Rattle.layer_session.specs.declared.file_layer.FileLayer.TheVariants.{Sessio
 use Rattle.layer_session.specs.Calls.{HasEnded as HasEndedLeaf, IsBeside, KeepsOver, own_file, settled}
 use Rattle.layer_session.specs.FileLayers.{AreOthers, FileHasEnded, FileIsReady, FileKeepsOver, HasFile, HasSession, HaveFiles, LeavesOthers as LeavesOtherFiles, file_numbers, log_number, number_of}
 use Rattle.layer_session.specs.Keeping.{IsReady, Serves}
-use Rattle.layer_session.proofs.FileLayers.{file_layers_stand, others_stand}
+use Rattle.layer_session.proofs.FileLayers.{file_layers_stand, others_stand, phase_others}
 use Rattle.layer_session.proofs.Standing.{layers_stand}
 use Rattle.chain_core.specs.declared.layers.Layers.{Layers}
 use Rattle.chain_core.specs.Answering.{EachOpensNow, EndsTold, HasClosed, HasEnded, HasEndedWhole}
 use Rattle.chain_core.specs.Ending.{AreAllReady, AreNumbered, EndsOn, EndsOnTold, HasEndedFile, IsEnding, IsInSession, SomeChangeFailed}
 use Rattle.chain_core.specs.Sessions.{AreApart, AreReady, IsLow}
 use Rattle.chain_core.specs.States.{AreHeld, AreWritten, IsLoose, IsServing, Rest, State, WasSynced, dirty_now, disk_now, files_of, is_session, merging, others_of, plain, retiring, sector_of}
-use Rattle.chain_core.proofs.Concluding.{both_told, same_told}
+use Rattle.chain_core.proofs.Concluding.{same_told}
 use Rattle.chain_core.proofs.Links.{served_links}
 use Rattle.chain_core.proofs.Putting.{apart_around}
 use Rattle.chain_core.proofs.Rests.{opens_now}
 use Rattle.chain_core.proofs.Showing.{tight_others}
 use Rattle.chain_core.proofs.Standing.{leaf_of}
-use Rattle.chain_core.proofs.Steps.{all_right, goes_over, names_behind, phase_others, still_once, still_read}
-use Rattle.store_model.proofs.Told.{both_join}
+use Rattle.chain_core.proofs.Steps.{goes_over, names_behind, still_once, still_read}
+use Rattle.store_model.proofs.Told.{both_join, both_from}
 
 -- ---- where the store tells its content
 
 both_map : (R Q : Trace → Trace → Type 0) (a b : Option Trace) → WhereBothTold R a b → ((t u : Trace) → R t u → Q t u) → WhereBothTold Q a b
-both_map R Q a b h weaker = both_told R Q a b weaker h
+both_map R Q a b h weaker = both_from R Q a b weaker h
 
 -- ---- lists
-
-pub all_left : {A : Type 0} (P : A → Type 0) (a b : List A) → AllByRecursion P (a ++ b) → AllByRecursion P a
-all_left P [] b all = tt
-all_left P (x ∷ a) b all = (all.0, all_left P a b all.1)
 
 apart_left : (a b : List ℕ) → AreApart (a ++ b) → AreApart a
 apart_left [] b h = tt

@@ -27,8 +27,7 @@ use Rattle.chain_core.specs.Answering.{EachOpensNow, HasEnded}
 use Rattle.chain_core.specs.Finished.{ChangesFile, Finishes, FinishesTo, IsAllMarked, IsExchanged, IsFinished, IsReplaced, IsTargetOrChild, LeavesBy, Settles, UpdatesBy, at_leaf, at_lower, leaf_left, look_of, numbers_left}
 use Rattle.chain_core.specs.Sessions.{AreReady, AtMostOne, CanRelink, CanRetire, IsLow, IsMergeOf, IsRetiringOf, leaf_number, number_of_leaf}
 use Rattle.chain_core.specs.States.{AreHeld, AreWritten, IsCourse, IsServing, IsUnder, Merging, Relinks, Rest, State, child_of, child_parts, dirty_now, disk_now, merging, plain, retiring, sector_of}
-use Rattle.chain_core.proofs.Children.{child_failed, child_settled, ended_by, last_child, leaf_failed, target_failed}
-use Rattle.chain_core.proofs.Concluding.{both_told}
+use Rattle.chain_core.proofs.Children.{child_failed, child_settled, ended_by, leaf_failed, target_failed}
 use Rattle.chain_core.proofs.Ending.{failed_later}
 use Rattle.chain_core.proofs.Exchanged.{change_failed, child_turned, exchanged_leaf, exchanged_low, exchanged_numbers, exchanged_session, finishing_before, is_child, is_target, parts_stay, parts_was, relinking_leaves, settling_leaves, still_ready, was_ready}
 use Rattle.chain_core.proofs.Relinked.{child_relinked, into_spelled, leaf_relinked, relinked_child, relinks_then, with_locator}
@@ -42,7 +41,8 @@ use Rattle.chain_model.proofs.Merging.{marked_is_whole}
 use Rattle.chain_model.specs.Merges.{HasAllOf}
 use Rattle.chain_model.specs.Sessions.{IsServed, LooseAtTop}
 use Rattle.std.proofs.lemmas.List.{append_assoc, length-append, length-map}
-use Rattle.store_model.proofs.Told.{both_and, both_join}
+use Rattle.chain_core.proofs.MergeServed.{last_child}
+use Rattle.store_model.proofs.Told.{both_and, both_join, both_from}
 
 -- ---- lists
 
@@ -315,7 +315,7 @@ module _ (L0 L1 : Layers) (u : Underway) (d0 d1 : Disk) (merge_is : L0.merge ≡
 
     pub finish_stopped_first : Finishes L0 L1 d0 d1 (Err fault)
     finish_stopped_first = record {
-      told = both_told (KeepsOver t.was) (λ trace now. (v : State) → IsServing L0 v trace → FinishesTo L0.retiring v L1 trace now (Err fault)) d0.told d1.told (λ x y over v serving. target_broken v v.rest x y serving over) t.changed.moments;
+      told = both_from (KeepsOver t.was) (λ trace now. (v : State) → IsServing L0 v trace → FinishesTo L0.retiring v L1 trace now (Err fault)) d0.told d1.told (λ x y over v serving. target_broken v v.rest x y serving over) t.changed.moments;
       ready = tt;
       low = tt;
       session = exchanged_session (u.source + 2) t.was t.now L0 L1 t.exchanged;

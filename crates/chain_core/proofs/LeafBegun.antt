@@ -2,6 +2,7 @@
 use Rattle.std.proofs.Common.{◌≡◌, ℕ, ◌+◌, ◌^◌, ◌-◌, ◌<◌, ◌≤◌, true, false, List, [], ◌∷◌, length, map, refl, sym, ap, subst, ◌∙◌, arith}
 use Rattle.std.specs.Prelude.{Option, Some, None, IfSome, is_some, option_map, min, Err, Ok}
 use Rattle.std.specs.List.{AllByRecursion}
+use Rattle.store_model.proofs.Told.{counts_join}
 use Rattle.vx_base.specs.declared.parts.Geometry.{Geometry}
 use Rattle.vx_base.specs.declared.parts.Header.{Header}
 use Rattle.vhdx_format.specs.FileParts.{HasNumbers}
@@ -44,7 +45,7 @@ use Rattle.chain_core.proofs.Beginning.{none_logged, one_geometry}
 use Rattle.chain_core.proofs.LeafPhases.{AtBegun, AtHeir, AtLinked}
 use Rattle.chain_core.proofs.LeafServed.{AreGiven, ClearsAt, have_below, leaf_turns, serves_leaf_merge, target_turns}
 use Rattle.chain_core.proofs.LeafStages.{OpenedOf, begun_stage, begun_told, heir_serves, heir_stage, heir_told, leaf_turned, linked_stage, linked_told, moments_of}
-use Rattle.chain_core.proofs.MergeAsked.{begins_not, only_told, ready_still}
+use Rattle.chain_core.proofs.MergeAsked.{begins_not, ready_still}
 use Rattle.chain_core.proofs.MergeLayers.{CountFrom, IsMade, count_read, counted_apart, counted_others, made_read, made_ready}
 use Rattle.chain_core.proofs.MergeStages.{all_but}
 use Rattle.chain_core.proofs.MergeTold.{fresh_at, is_found, served_at, told_from, told_last}
@@ -115,7 +116,7 @@ module _ (m : LeafFiles) (merge : LeafMerge) (d : Disk) (can : CanStart (leaf_ch
 
       pub behind_linked : (next : Layer) → WhereBothTold (HasUpdated leaf next laid) a.told b.told → b ≡ record a { told = b.told } → Behind (λ t. AtLinked t m ids pages next) b
       behind_linked next updated counts = record {
-        counts = only_told d a b r.counts counts;
+        counts = counts_join d a b r.counts counts;
         at = linked_stage m ids pages d can plan.links leaf a.told r.at of.table plan.twice.has.pages_are plan.twice.has.told b.told twice_over next
             (subst (λ (ps : List Page). WhereBothTold (HasUpdated leaf next ps) a.told b.told) laid_is updated);
       }
@@ -139,11 +140,11 @@ module _ (m : LeafFiles) (merge : LeafMerge) (d : Disk) (can : CanStart (leaf_ch
       heir_stops fault fails = stops (1 ∷ 0 ∷ 0 ∷ []) b fault (refl, (refl, (refl, tt))) opened_all (begins_not is_first_two 1 d a b fault refl r.counts fails)
 
       pub no_layers : b ≡ record a { told = b.told } → BeginsLeafMerge m merge d b (Err NoRoom)
-      no_layers counts = stops (1 ∷ 0 ∷ 0 ∷ []) b NoRoom (refl, (refl, (refl, tt))) opened_all (only_told d a b r.counts counts)
+      no_layers counts = stops (1 ∷ 0 ∷ 0 ∷ []) b NoRoom (refl, (refl, (refl, tt))) opened_all (counts_join d a b r.counts counts)
 
       pub behind_heir : (target : Layer) → WhereBothTold (HasBegun m.target.parts session 1 target) a.told b.told → b ≡ record a { told = b.told } → Behind (λ t. AtHeir t m ids pages leaf target) b
       behind_heir target begun counts = record {
-        counts = only_told d a b r.counts counts;
+        counts = counts_join d a b r.counts counts;
         at = heir_stage m ids pages d can plan.links leaf a.told r.at b.told heir_over target
             (subst (λ (s : SessionIds). WhereBothTold (HasBegun m.target.parts s 1 target) a.told b.told) session_is begun);
       }

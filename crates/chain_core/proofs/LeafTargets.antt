@@ -4,6 +4,8 @@ use Rattle.std.specs.Prelude.{Option, Some, None, IfSome, option_map}
 use Rattle.std.specs.List.{AllByRecursion}
 use Rattle.std.specs.Option.{option_or}
 use Rattle.std.proofs.lemmas.Bool.{or_parts, or_from, cases_eq}
+use Rattle.layer_session.proofs.FileLayers.{phase_others}
+use Rattle.chain_model.proofs.Showing.{all_right}
 use Rattle.store_model.specs.File.{is_synced}
 use Rattle.store_model.specs.Trace.{Trace, file_of}
 use Rattle.guest_model.specs.History.{either}
@@ -38,7 +40,7 @@ use Rattle.chain_core.specs.Merging.{IsCopied, is_in, with_piece}
 use Rattle.chain_core.specs.States.{AreHeld, AreWritten, IsCleared, IsCourse, IsLeaving, IsRetiring, IsServing, Renames, State, dirty_now, retiring, sector_of, seen_in, target_parts}
 use Rattle.chain_core.proofs.Children.{ended_by}
 use Rattle.chain_core.proofs.Putting.{HasFailedPut, IsKeptAs, IsPut, apart_around}
-use Rattle.chain_core.proofs.Steps.{all_right, cleared_alike, fewer_marks, goes_over, names_behind, phase_beside, phase_others, still_once, still_read}
+use Rattle.chain_core.proofs.Steps.{cleared_alike, fewer_marks, goes_over, names_behind, phase_beside, still_once, still_read}
 
 -- what is seen through three layers is there still, where the middle one owns more
 there_behind : (a t o r : Option (List ℕ)) → (is_some t ≡ true → is_some o ≡ true) → is_some (option_or a (option_or t r)) ≡ true → is_some (option_or a (option_or o r)) ≡ true

@@ -52,6 +52,5 @@ pub mod Retires
 pub mod RetireStays
 pub mod RetireLeaf
 pub mod Noting
-pub mod Handing
 pub mod Called
 pub mod Stopped

@@ -1,6 +1,7 @@
 -- Which files each image of a session's moment is linked by.
 use Rattle.std.proofs.Common.{ℕ, List, [], ◌∷◌, ◌++◌, sym, subst}
 use Rattle.std.specs.List.{AllByRecursion}
+use Rattle.chain_model.proofs.Serving.{all_shown}
 use Rattle.store_model.specs.Trace.{NamedBytes, Trace}
 use Rattle.guest_model.specs.Calls.{Disk}
 use Rattle.guest_model.specs.History.{History}
@@ -10,10 +11,6 @@ use Rattle.chain_model.specs.PhaseLaws.{IsNamedOnce}
 use Rattle.chain_model.specs.Sessions.{IsKept, IsServed}
 use Rattle.chain_model.proofs.Showing.{each_shows, images_link_alike}
 use Rattle.chain_core.specs.Answering.{EachLinks}
-
-all_shown : (trace : Trace) (image : List NamedBytes) (files : List Placed) → IsCleanImage trace image → AllByRecursion (IsKept trace) files → AllByRecursion (IsShown image) files
-all_shown trace image [] clean kept = tt
-all_shown trace image (p ∷ files) clean kept = (each_shows trace image p clean kept.0.within kept.0.name kept.0.shows, all_shown trace image files clean kept.1)
 
 pub served_links : (z : ℕ) (opening : Disk) (h : History) (leaf : List ℕ) (retired chain : List Placed) (now : Trace) → IsNamedOnce now → IsServed z opening h leaf retired chain now → EachLinks leaf (names_of (members_of chain)) now
 served_links z opening h leaf retired chain now once served image clean r c linked =

@@ -55,10 +55,6 @@ begins_not changes file old mid new (Store fault) one is (inr h) =
     let own : FailsToChange file (record old { told = mid.told }) new fault = subst (λ (d : Disk). FailsToChange file d new fault) is h in
     record { file = file; one = one; fails = inr (record { stays = own.stays; of_file = own.of_file; count = own.count }) }
 
--- one change of content behind another
-pub only_told : (a b c : Disk) → b ≡ record a { told = b.told } → c ≡ record b { told = c.told } → c ≡ record a { told = c.told }
-only_told a b c first second = second ∙ ap (λ (d : Disk). (let x : Disk = record d { told = c.told } in x)) first
-
 -- ---- each of the four files
 
 module _ (m : MergeFiles) (merge : Merge) (d : Disk) (can : CanStart (chain_files m) d) (plan : HasPlan (chain_files m) d m merge) where

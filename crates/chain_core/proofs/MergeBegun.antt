@@ -3,6 +3,8 @@ use Rattle.std.proofs.Common.{◌≡◌, ◌==◌, ◌||◌, ℕ, suc, ◌+◌, 
 use Rattle.std.proofs.lemmas.List.{length-append}
 use Rattle.std.specs.Prelude.{Option, Some, None, IfSome, is_some, nat_lt, option_map, Ok, Err}
 use Rattle.std.specs.List.{AllByRecursion}
+use Rattle.chain_model.proofs.Showing.{all_left, all_right, all_append}
+use Rattle.store_model.proofs.Told.{counts_join}
 use Rattle.vx_base.specs.declared.parts.Geometry.{Geometry}
 use Rattle.vx_base.specs.declared.parts.Parts.{Parts}
 use Rattle.vhdx_format.specs.declared.log_entry.Page.{Page}
@@ -44,18 +46,16 @@ use Rattle.chain_core.specs.declared.layers.Layers.{Layers}
 use Rattle.chain_core.specs.declared.layers.Underway.{Underway}
 use Rattle.chain_core.specs.declared.merge_start.Room.{Room}
 use Rattle.chain_core.proofs.Beginning.{none_logged, one_geometry}
-use Rattle.chain_core.proofs.Ending.{all_left}
-use Rattle.chain_core.proofs.MergeAsked.{begins_not, child_fresh, child_there, leaf_fresh, leaf_numbers, only_told, ready_still, source_fresh, source_there, target_fresh, target_there}
+use Rattle.chain_core.proofs.MergeAsked.{begins_not, child_fresh, child_there, leaf_fresh, leaf_numbers, ready_still, source_fresh, source_there, target_fresh, target_there}
 use Rattle.chain_core.proofs.MergeChild.{child_stage, child_told, leaf_only}
 use Rattle.chain_core.proofs.MergeFound.{files_split, lower_files, rest_found}
-use Rattle.chain_core.proofs.MergeLayers.{CountFrom, IsMade, Low, all_behind, count_both, count_read, counted_apart, counted_others, front_len, is_merge, low_two, made_read, made_ready, read_len}
+use Rattle.chain_core.proofs.MergeLayers.{CountFrom, IsMade, Low, all_behind, count_both, count_read, counted_apart, counted_others, front_len, is_merge, low_two, made_read, made_ready}
 use Rattle.chain_core.proofs.MergePhases.{AtChild, AtLeaf, AtLocator, AtSource, AtTarget}
 use Rattle.chain_core.proofs.MergeRelinks.{child_turns_by, some_told}
 use Rattle.chain_core.proofs.MergeReady.{serves_told}
-use Rattle.chain_core.proofs.MergeServed.{all_both, child_written, target_written}
+use Rattle.chain_core.proofs.MergeServed.{child_written, target_written, read_count}
 use Rattle.chain_core.proofs.MergeStages.{OpenedBy, end_stage, end_told, leaf_stage, leaf_told, locator_stage, locator_told, moments_of, serve_on, source_serves, source_stage, source_told, source_turns, still_of, target_serves, target_stage, target_told}
 use Rattle.chain_core.proofs.MergeTold.{served_at, told_last}
-use Rattle.chain_core.proofs.Steps.{all_right}
 
 or_left : (a b : Bool) → a ≡ true → (a || b) ≡ true
 or_left true b h = refl
@@ -153,7 +153,7 @@ module _ (m : MergeFiles) (merge : Merge) (d : Disk) (can : CanStart (chain_file
 
       pub behind_source : (source : Layer) → WhereBothTold (HasBegun m.source.parts session (source_place m) source) a.told b.told → b ≡ record a { told = b.told } → Behind (λ t. AtSource t m ids pages leaf source) b
       behind_source source begun counts = record {
-        counts = only_told d a b r.counts counts;
+        counts = counts_join d a b r.counts counts;
         at = source_stage m ids pages d can plan.links leaf a.told r.at source b.told source_over
             (subst (λ (s : SessionIds). WhereBothTold (HasBegun m.source.parts s (source_place m) source) a.told b.told) session_is begun);
       }
@@ -178,7 +178,7 @@ module _ (m : MergeFiles) (merge : Merge) (d : Disk) (can : CanStart (chain_file
 
       pub behind_locator : (next : Layer) → WhereBothTold (HasUpdated source next laid) a.told b.told → b ≡ record a { told = b.told } → Behind (λ t. AtLocator t m ids pages leaf next) b
       behind_locator next updated counts = record {
-        counts = only_told d a b r.counts counts;
+        counts = counts_join d a b r.counts counts;
         at = locator_stage m ids pages d can plan.links leaf source a.told r.at of.table plan.twice.has.pages_are plan.twice.has.told next b.told twice_over
             (subst (λ (ps : List Page). WhereBothTold (HasUpdated source next ps) a.told b.told) laid_is updated);
       }
@@ -240,7 +240,7 @@ module _ (m : MergeFiles) (merge : Merge) (d : Disk) (can : CanStart (chain_file
       pub behind_target : (target : Layer) → WhereBothTold (HasBegun m.target.parts session (target_place m) target) a.told b.told → b ≡ record a { told = b.told }
           → Behind (λ t. AtTarget t m ids pages leaf source target) b
       behind_target target begun counts = record {
-        counts = only_told d a b r.counts counts;
+        counts = counts_join d a b r.counts counts;
         at = target_stage m ids pages d can plan.links leaf source a.told r.at target b.told target_over
             (subst (λ (s : SessionIds). WhereBothTold (HasBegun m.target.parts s (target_place m) target) a.told b.told) session_is begun);
       }
@@ -282,7 +282,7 @@ module _ (m : MergeFiles) (merge : Merge) (d : Disk) (can : CanStart (chain_file
 
       pub behind_child : (child : Option Layer) → WhereBothTold (ChildBegun ids.child m.child.parts (child_place m) child) a.told b.told → b ≡ record a { told = b.told }
           → Behind (λ t. AtChild t m ids pages ids.child leaf source target child) b
-      behind_child child begun counts = record { counts = only_told d a b r.counts counts; at = child_stage m ids pages leaf source target d.told a.told b.told some r.at over child begun }
+      behind_child child begun counts = record { counts = counts_join d a b r.counts counts; at = child_stage m ids pages leaf source target d.told a.told b.told some r.at over child begun }
 
   -- ---- the source's session ends
 
@@ -308,7 +308,7 @@ module _ (m : MergeFiles) (merge : Merge) (d : Disk) (can : CanStart (chain_file
       no_layers counts =
           stops (source_place m ∷ child_place m ∷ target_place m ∷ source_place m ∷ source_place m ∷ 0 ∷ []) b NoRoom
           (source_changed, (child_changed, (target_changed, (source_changed, (source_changed, (refl, tt))))))
-          (end_told m ids pages d can plan.links ids.child leaf source target child a.told b.told r.at keeps) (only_told d a b r.counts counts)
+          (end_told m ids pages d can plan.links ids.child leaf source target child a.told b.told r.at keeps) (counts_join d a b r.counts counts)
 
   -- ---- the layers
 
@@ -394,12 +394,12 @@ module _ (m : MergeFiles) (merge : Merge) (d : Disk) (can : CanStart (chain_file
           front_counts (f ∷ files) reads None of is made = absurd (leaf_only (length files) is)
           front_counts (f ∷ files) reads (Some l) of is made =
               count_both 1 reads (Session l ∷ []) (count_read 1 files reads of)
-              ((made.of.number ∙ (let many : length reads ≡ length files = read_len 1 files reads of in let e : suc (length files) ≡ 1 + length reads = omega (arith, many) in e)), tt)
+              ((made.of.number ∙ (let many : length reads ≡ length files = read_count 1 files reads of in let e : suc (length files) ≡ 1 + length reads = omega (arith, many) in e)), tt)
 
       made_all : AllByRecursion (IsMade g b) below
       made_all =
-          all_both (IsMade g b) (room.above.items ++ session_of child) (Read source ∷ Session target ∷ room.below.items)
-          (all_both (IsMade g b) room.above.items (session_of child)
+          all_append (IsMade g b) (room.above.items ++ session_of child) (Read source ∷ Session target ∷ room.below.items)
+          (all_append (IsMade g b) room.above.items (session_of child)
           (made_read g b 1 (behind_first m.above) room.above.items for.above (above_there m.above (omega (arith, many_files, b_files))) (all_behind (λ (f : LinkedFile). f.parts.geometry ≡ g) m.above above_geometry)) (child_in child child_made)) (
             (
               (can_read.there, can_read.sizes),
@@ -521,7 +521,7 @@ module _ (m : MergeFiles) (merge : Merge) (d : Disk) (can : CanStart (chain_file
         record {
           moments = moments_of m numbers d.told b.told over;
           still = still_of m numbers (source_changed, (child_changed, (target_changed, (source_changed, (source_changed, (refl, tt)))))) d.told b.told over;
-          begun = begun b (only_told d a b r.counts counts) room for some leaf target begun_source child source both leaf_made target_made child_made source_of source_parts can_read layers u geometry leaf_is merge_is none_now below_is place marks relink_is serving;
+          begun = begun b (counts_join d a b r.counts counts) room for some leaf target begun_source child source both leaf_made target_made child_made source_of source_parts can_read layers u geometry leaf_is merge_is none_now below_is place marks relink_is serving;
           err = tt;
         }
       where

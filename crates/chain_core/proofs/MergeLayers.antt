@@ -3,6 +3,7 @@ use Rattle.std.proofs.Common.{◌≡◌, ◌≢◌, ℕ, suc, ◌+◌, ◌-◌, 
 use Rattle.std.proofs.lemmas.List.{length-append}
 use Rattle.std.specs.Prelude.{⊤, Option, Some, None, IfSome, is_some, nat_lt}
 use Rattle.std.specs.List.{AllByRecursion}
+use Rattle.chain_core.proofs.MergeServed.{read_count}
 use Rattle.vx_base.specs.declared.parts.Geometry.{Geometry}
 use Rattle.store_model.specs.Disk.{Disk}
 use Rattle.store_model.specs.Trace.{Trace}
@@ -118,19 +119,13 @@ low_two (l ∷ a) b first second = (first.0, low_two a b first.1 second)
 
 -- ---- the files above the source
 
-pub read_len : (n : ℕ) (files : List LinkedFile) (layers : List FileLayer) → AreReadOf n files layers → length layers ≡ length files
-read_len n [] [] of = refl
-read_len n [] (l ∷ layers) of = absurd of
-read_len n (f ∷ files) [] of = absurd of
-read_len n (f ∷ files) (l ∷ layers) of = ap suc (read_len (n + 1) files layers of.1)
-
 -- as many as stand there but for the leaf, the child among them unless it is the leaf
 pub front_len : (files : List LinkedFile) (reads : List FileLayer) (l : Option Layer) → AreReadOf 1 (behind_first files) reads → is_some l ≡ nat_lt 0 (length files) → length (reads ++ session_of l) ≡ length files
 front_len [] [] None of some = refl
 front_len [] [] (Some l) of some = absurd (let never : true ≡ false = some in cc)
 front_len [] (x ∷ reads) l of some = absurd of
 front_len (f ∷ files) reads None of some = absurd (leaf_only (length files) some)
-front_len (f ∷ files) reads (Some l) of some = let one : length (reads ++ Session l ∷ []) ≡ length reads + 1 = length-append reads (Session l ∷ []) in let many : length reads ≡ length files = read_len 1 files reads of in omega (arith, one, many)
+front_len (f ∷ files) reads (Some l) of some = let one : length (reads ++ Session l ∷ []) ≡ length reads + 1 = length-append reads (Session l ∷ []) in let many : length reads ≡ length files = read_count 1 files reads of in omega (arith, one, many)
 
 pub at_second : (a : List FileLayer) (x : FileLayer) (l : Layer) (b : List FileLayer) → is_session_at (a ++ x ∷ Session l ∷ b) (suc (length a)) ≡ true
 at_second [] x l b = refl
@@ -145,7 +140,7 @@ pub child_at : (files : List LinkedFile) (reads : List FileLayer) (l : Option La
 child_at [] reads l b of some more = absurd (omega (arith, more))
 child_at (f ∷ files) reads None b of some more = absurd (leaf_only (length files) some)
 child_at (f ∷ files) reads (Some l) b of some more =
-    let same : suc (length files) - 1 ≡ length reads = omega (arith, read_len 1 files reads of) in subst (λ (n : ℕ). is_session_at ((reads ++ Session l ∷ []) ++ b) n ≡ true) (sym same) (last_session reads l b)
+    let same : suc (length files) - 1 ≡ length reads = omega (arith, read_count 1 files reads of) in subst (λ (n : ℕ). is_session_at ((reads ++ Session l ∷ []) ++ b) n ≡ true) (sym same) (last_session reads l b)
 
 -- the files below the leaf, with their merge
 module _ (files : List LinkedFile) (reads rest : List FileLayer) (child : Option Layer) (source : ReadLayer) (target : Layer) (of : AreReadOf 1 (behind_first files) reads) (some : is_some child ≡ nat_lt 0 (length files)) where

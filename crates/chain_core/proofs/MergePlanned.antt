@@ -2,6 +2,7 @@
 use Rattle.std.proofs.Common.{is_some, nat_lt, ◌≡◌, ℕ, zero, suc, ◌<◌, false, List, [], ◌∷◌, length, get_or, refl, sym, ap, subst, ◌∙◌, arith}
 use Rattle.std.specs.Prelude.{Option, Some, None, All, Result, Ok, Err}
 use Rattle.std.specs.List.{AllByRecursion}
+use Rattle.chain_model.proofs.Showing.{all_left, all_right}
 use Rattle.vhdx_format.specs.FileParts.{HasNumbers}
 use Rattle.store_model.specs.Disk.{Disk}
 use Rattle.store_model.specs.Trace.{Trace, file_of}
@@ -24,9 +25,7 @@ use Rattle.chain_core.proofs.MergeFound.{files_split, lower_files}
 use Rattle.chain_core.proofs.MergeLayers.{all_behind}
 use Rattle.chain_core.proofs.MergeSplit.{same_merge}
 use Rattle.chain_core.proofs.MergeTold.{served_at, told_self}
-use Rattle.chain_core.proofs.Ending.{all_left}
 use Rattle.chain_core.proofs.Spending.{are_low}
-use Rattle.chain_core.proofs.Steps.{all_right}
 
 pub by_index : {A : Type 0} (P : A → Type 0) (xs : List A) → AllByRecursion P xs → (k : ℕ) (d : A) → k < length xs → P (get_or xs k d)
 by_index P [] all k d less = absurd (omega (arith, less))

@@ -4,6 +4,7 @@ use Rattle.std.proofs.lemmas.List.{append_assoc, length-append}
 use Rattle.std.specs.Prelude.{Option, Some, None, IfSome, slice_index_or}
 use Rattle.std.specs.List.{AllByRecursion}
 use Rattle.std.specs.Option.{option_or}
+use Rattle.chain_model.proofs.Showing.{all_append}
 use Rattle.vhdx_format.specs.Locators.{locator_bytes}
 use Rattle.vhdx_format.specs.declared.log_entry.Page.{Page}
 use Rattle.store_model.specs.File.{is_synced, seen}
@@ -111,11 +112,7 @@ synced_on writes t0 now n (f ∷ files) beside o = ((λ w. ap is_synced (beside 
 
 -- ---- lists
 
-pub all_both : {A : Type 0} (P : A → Type 0) (a b : List A) → AllByRecursion P a → AllByRecursion P b → AllByRecursion P (a ++ b)
-all_both P [] b first second = second
-all_both P (x ∷ a) b first second = (first.0, all_both P a b first.1 second)
-
-read_count : (n : ℕ) (files : List LinkedFile) (layers : List FileLayer) → AreReadOf n files layers → length layers ≡ length files
+pub read_count : (n : ℕ) (files : List LinkedFile) (layers : List FileLayer) → AreReadOf n files layers → length layers ≡ length files
 read_count n [] [] of = refl
 read_count n [] (l ∷ layers) of = absurd of
 read_count n (f ∷ files) [] of = absurd of
@@ -125,7 +122,7 @@ placed_length : (t : Trace) (n : ℕ) (files : List LinkedFile) → length (plac
 placed_length t n [] = refl
 placed_length t n (f ∷ files) = ap suc (placed_length t (n + 1) files)
 
-last_child : (top : Placed) (a : List Placed) (x : Placed) → child_of top (a ++ x ∷ []) ≡ x
+pub last_child : (top : Placed) (a : List Placed) (x : Placed) → child_of top (a ++ x ∷ []) ≡ x
 last_child top [] x = refl
 last_child top (p ∷ a) x = last_child p a x
 
@@ -241,9 +238,9 @@ module _ (t0 now : Trace) (first : LinkedFile) (above : List LinkedFile) (child 
       have = subst (HaveFiles layers_in now) mid_is
           (have_all reads (Session layer) [] now (placed_from t0 1 above) begun [] (read_on t0 now 1 above reads beside of above_opened) serves tt);
       counts = subst (λ (ps : List Placed). length layers_in ≡ length ps) mid_is (length-append reads (Session layer ∷ []) ∙ ap (λ (n : ℕ). n + 1) count_is ∙ sym (length-append (placed_from t0 1 above) (begun ∷ [])));
-      written = all_both (λ (l : FileLayer). is_written files (number_of l) ≡ (is_session l)) reads (Session layer ∷ []) (none_written (is_written files) 1 above reads unwritten_above of) ((ap (is_written files) number ∙ child_is_written), tt);
+      written = all_append (λ (l : FileLayer). is_written files (number_of l) ≡ (is_session l)) reads (Session layer ∷ []) (none_written (is_written files) 1 above reads unwritten_above of) ((ap (is_written files) number ∙ child_is_written), tt);
       synced = subst (AllByRecursion (WasSynced (is_written files) now)) mid_is
-          (all_both (WasSynced (is_written files) now) (placed_from t0 1 above) (begun ∷ []) (synced_on (is_written files) t0 now 1 above beside above_opened)
+          (all_append (WasSynced (is_written files) now) (placed_from t0 1 above) (begun ∷ []) (synced_on (is_written files) t0 now 1 above beside above_opened)
           ((λ w. absurd (let never : true ≡ false = sym child_is_written ∙ w in cc)), tt));
       parts = layer.tables.parts;
       goes_by = goes_by_child;
@@ -314,12 +311,12 @@ module _ (t0 now : Trace) (m : MergeFiles) (ids : MergeIds) (pages relink : List
 
   written_below : AreWritten (is_written m) (front ++ Read source ∷ Session target ∷ reads)
   written_below =
-      all_both (λ (l : FileLayer). is_written m (number_of l) ≡ is_session l) front (Read source ∷ Session target ∷ reads) f.written
+      all_append (λ (l : FileLayer). is_written m (number_of l) ≡ is_session l) front (Read source ∷ Session target ∷ reads) f.written
       ((ap (is_written m) (sym reads_source.number) ∙ unwritten_source), ((ap (is_written m) number_of_target ∙ target_written m), none_written (is_written m) (target_place m + 1) m.below reads unwritten_rest of))
 
   synced_below : AllByRecursion (WasSynced (is_written m) now) (above_in ++ source_in t0 m ids pages ∷ target_in t0 m ids ∷ rest_found t0 m)
   synced_below =
-      all_both (WasSynced (is_written m) now) above_in (source_in t0 m ids pages ∷ target_in t0 m ids ∷ rest_found t0 m) f.synced
+      all_append (WasSynced (is_written m) now) above_in (source_in t0 m ids pages ∷ target_in t0 m ids ∷ rest_found t0 m) f.synced
       ((λ w. synced_source), ((λ w. absurd (let never : true ≡ false = sym (target_written m) ∙ w in cc)), synced_on (is_written m) t0 now (target_place m + 1) m.below beside_rest (rest_opened t0 m are)))
 
   whole_in : (s : ℕ) → s < (leaf_of m).parts.geometry.sectors → is_some (seen_in chain s) ≡ true

@@ -2,6 +2,7 @@
 use Rattle.std.proofs.Common.{◌≡◌, ℕ, zero, suc, ◌<◌, List, [], ◌∷◌, ◌++◌, length, map, get_or, set, refl, sym, ap, subst, ◌∙◌, arith, is_some, false, true}
 use Rattle.std.specs.Prelude.{Option, Some, None, Result, Ok, Err, IfErr, IfSome, OnErr, OnOk}
 use Rattle.std.specs.List.{AllByRecursion}
+use Rattle.layer_session.proofs.Handing.{file_there}
 use Rattle.vx_base.specs.declared.parts.Geometry.{Geometry}
 use Rattle.store_model.specs.Disk.{Disk, ReadFailed, WhereTold}
 use Rattle.store_model.specs.Trace.{Trace}
@@ -118,10 +119,6 @@ ready_there g disk layers place x at all = one_of (IsReadyFile g disk) at.before
 pub readable_of : (layers : Layers) (u : Underway) (disk : Disk) (x : FileLayer) → AreReady layers disk → IsAt layers.below.items u.source x → IsReadableFile layers.geometry disk x
 readable_of layers u disk x ready at =
     one_of (IsReadableFile layers.geometry disk) at.before x at.behind (subst (AreReadableFiles layers.geometry disk) at.parts (others_stand.can layers.geometry disk layers.below.items ready.below))
-
-file_there : (x : FileLayer) (disk : Disk) → FileCanBeRead x disk → number_of x < disk.files
-file_there (Session l) disk can = can.there
-file_there (Read l) disk can = can.there
 
 pub some_failed : (x : FileLayer) (before after : Disk) (answer : Result (Unit {0}) StoreFault) → FileCanBeRead x before → IfErr answer (ReadFailed (number_of x) before after) → IfErr answer (SomeReadFailed before after)
 some_failed x before after (Ok done) can failed = tt

@@ -43,8 +43,10 @@ use Rattle.table_pages.specs.declared.tables.TableParts.{TableParts}
 use Rattle.layer_session.specs.FileLayers.{table_parts}
 use Rattle.std.specs.Prelude.{option_map}
 use Rattle.std.proofs.Common.{cond, get_or, ◌-◌}
+use Rattle.layer_session.proofs.FileLayers.{phase_others}
+use Rattle.chain_model.proofs.Showing.{all_right}
 use Rattle.chain_core.specs.States.{Relinks, child_of, child_parts, AreHeld, AreWritten, IsCourse, IsServing, IsUnder, Merging, State, dirty_now, merging, sector_of, seen_in, WasSynced, IsRetiring}
-use Rattle.chain_core.proofs.Steps.{all_right, apart, goes_over, names_behind, phase_beside, phase_others, still_once, still_read}
+use Rattle.chain_core.proofs.Steps.{apart, goes_over, names_behind, phase_beside, still_once, still_read}
 
 -- ---- one file among others
 

@@ -4,6 +4,8 @@ use Rattle.std.specs.Prelude.{Option, Some, None, IfSome}
 use Rattle.std.specs.List.{AllByRecursion}
 use Rattle.std.specs.Option.{option_or}
 use Rattle.std.proofs.lemmas.List.{append_assoc}
+use Rattle.layer_session.proofs.FileLayers.{phase_others}
+use Rattle.chain_model.proofs.Showing.{all_right}
 use Rattle.store_model.specs.Trace.{Trace}
 use Rattle.vhdx_format.specs.declared.log_entry.Page.{Page}
 use Rattle.chain_model.specs.Layers.{Layer as SectorLayer, through}
@@ -29,7 +31,7 @@ use Rattle.chain_core.specs.declared.layers.Underway.{Underway}
 use Rattle.chain_core.specs.Answering.{EachOpensNow}
 use Rattle.chain_core.specs.States.{AreHeld, AreWritten, IsCourse, IsRetiring, IsServing, IsUnder, Merging, Relinks, State, dirty_now, is_session, merging, plain, seen_in, WasSynced}
 use Rattle.chain_core.proofs.Putting.{apart_around, have_all, have_parts, layers_append}
-use Rattle.chain_core.proofs.Steps.{all_right, names_behind, phase_beside, phase_others, still_once, still_read}
+use Rattle.chain_core.proofs.Steps.{names_behind, phase_beside, still_once, still_read}
 
 -- ---- the child's ties
 

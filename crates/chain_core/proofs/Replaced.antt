@@ -2,6 +2,7 @@
 use Rattle.std.proofs.Common.{◌≡◌, ◌≢◌, ℕ, zero, suc, ◌+◌, ◌-◌, ◌<◌, ◌≤◌, Bool, List, [], ◌∷◌, ◌++◌, length, map, get_or, refl, sym, ap, subst, ◌∙◌, arith}
 use Rattle.std.specs.Prelude.{Option, Some, None, option_map, IfSome}
 use Rattle.std.specs.List.{AllByRecursion}
+use Rattle.chain_model.proofs.Phasing.{all_skip_one}
 use Rattle.vx_base.specs.declared.parts.Geometry.{Geometry}
 use Rattle.store_model.specs.Disk.{Disk, WhereBothTold}
 use Rattle.store_model.specs.Trace.{Trace}
@@ -150,11 +151,6 @@ leaf_parts_then g leaf next below before after parts_are parts others files is =
       apart = parts.apart;
     }
 
--- one of the others leaves
-all_but : {A : Type 0} (P : A → Type 0) (a : List A) (x : A) (b : List A) → AllByRecursion P (a ++ x ∷ b) → AllByRecursion P (a ++ b)
-all_but P [] x b all = all.1
-all_but P (y ∷ a) x b all = (all.0, all_but P a x b all.1)
-
 apart_but : (a : List FileLayer) (x : FileLayer) (b : List FileLayer) → AreApart (file_numbers (a ++ x ∷ b)) → AreApart (file_numbers (a ++ b))
 apart_but [] x b apart = apart.1
 apart_but (y ∷ a) x b apart = (by_numbers a apart.0, apart_but a x b apart.1)
@@ -164,11 +160,11 @@ apart_but (y ∷ a) x b apart = (by_numbers a apart.0, apart_but a x b apart.1)
     by_numbers (z ∷ a) all = (all.0, by_numbers a all.1)
 
 pub parts_without : (g : Geometry) (top : Option Layer) (a : List FileLayer) (x : FileLayer) (b : List FileLayer) (disk : Disk) → AreParts g top (a ++ x ∷ b) disk → AreParts g top (a ++ b) disk
-parts_without g top a x b disk parts = record { leaf = by_leaf top parts.leaf; below = all_but (IsReadyFile g disk) a x b parts.below; apart = apart_but a x b parts.apart }
+parts_without g top a x b disk parts = record { leaf = by_leaf top parts.leaf; below = all_skip_one (IsReadyFile g disk) a x b parts.below; apart = apart_but a x b parts.apart }
   where
     by_leaf : (o : Option Layer) → IfSome o (IsReadyLeaf g (a ++ x ∷ b) disk) → IfSome o (IsReadyLeaf g (a ++ b) disk)
     by_leaf None leaf = tt
-    by_leaf (Some l) leaf = record { ready = leaf.ready; sector = leaf.sector; sectors = leaf.sectors; apart = all_but (λ k. number_of k ≢ own_file l) a x b leaf.apart }
+    by_leaf (Some l) leaf = record { ready = leaf.ready; sector = leaf.sector; sectors = leaf.sectors; apart = all_skip_one (λ k. number_of k ≢ own_file l) a x b leaf.apart }
 
 -- ---- the session
 

@@ -27,13 +27,12 @@ use Rattle.chain_core.specs.declared.layers.Retiring.{Retiring}
 use Rattle.chain_core.specs.Answering.{EachOpensNow, HasEnded}
 use Rattle.chain_core.specs.Finished.{ChangesFile, FinishesTo, HandsOver, Identifies, IsAllMarked, IsExchanged, IsSucceeded, LeavesBy, Look, Settles, UpdatesBy, at_leaf, at_lower, look_of, named_anew}
 use Rattle.chain_core.specs.States.{AreWritten, IsCleared, IsLeaving, IsRetiring, IsServing, Renames, Rest, State, merging, plain, retiring, sector_of, target_parts, with_retired}
-use Rattle.chain_core.proofs.Concluding.{both_told}
 use Rattle.chain_core.proofs.LeafTargets.{serves_target}
 use Rattle.chain_core.proofs.Relinked.{there_without}
 use Rattle.chain_core.proofs.Steps.{renames_alike}
 use Rattle.chain_core.proofs.Succeeding.{CanSucceed, IsLeft, Stands, chain_on, end_left, end_moves, gone_left, gone_moves, named_left, named_moves, start_moves, start_stands, succeeded, target_moves, target_stands, top_moves, top_stands}
 use Rattle.chain_core.proofs.Finishes.{joined}
-use Rattle.store_model.proofs.Told.{both_and, both_join}
+use Rattle.store_model.proofs.Told.{both_and, both_join, both_from}
 
 -- ---- a change of the leaf, and of the first file below it
 
@@ -196,7 +195,7 @@ module _ (L0 : Layers) (r : Retiring) where
         }
 
     pub broken_first : WhereBothTold Breaks d0.told d1.told
-    broken_first = both_told (KeepsOver t.was) Breaks d0.told d1.told
+    broken_first = both_from (KeepsOver t.was) Breaks d0.told d1.told
         (λ x y over v target below first before serving.
         let serves : Serves t.was x target = serves_target v target below first before L0 a t.was t.rest x serving leaf_is t.was_there in
         start_moves v target below first before L0 a t.was t.rest x serving leaf_is t.was_there y (over.over target serves) (finishing v target below first before x serving).target_written) t.changed.moments
@@ -205,7 +204,7 @@ module _ (L0 : Layers) (r : Retiring) where
     AtFirst v target below y = StandsIn v v.top (settled target) below L1 y
 
     pub reached_first : WhereBothTold (HasCommitted t.was t.now) d0.told d1.told → WhereBothTold (Reaches AtFirst) d0.told d1.told
-    reached_first has = both_told (λ x y. KeepsOver t.was x y × HasCommitted t.was t.now x y) (Reaches AtFirst) d0.told d1.told
+    reached_first has = both_from (λ x y. KeepsOver t.was x y × HasCommitted t.was t.now x y) (Reaches AtFirst) d0.told d1.told
         (λ x y told v target below first before serving.
         let serves : Serves t.was x target = serves_target v target below first before L0 a t.was t.rest x serving leaf_is t.was_there in
         let known = finishing v target below first before x serving in
@@ -246,7 +245,7 @@ module _ (L0 : Layers) (r : Retiring) where
     reached_unchanged none same same_disk =
         subst (λ (d : Disk). WhereBothTold (Reaches (AtThird L3)) d0.told d.told) (sym same_disk)
         (subst (λ (k : Layers). WhereBothTold (Reaches (AtThird k)) d0.told d2.told) (sym same)
-        (both_told (Reaches (λ v target below y. StandsIn v (settled v.top) (settled target) below L2 y)) (Reaches (AtThird L2)) d0.told d2.told
+        (both_from (Reaches (λ v target below y. StandsIn v (settled v.top) (settled target) below L2 y)) (Reaches (AtThird L2)) d0.told d2.told
         (λ x y so v target below first before serving.
         let was = so v target below first before serving in
         let clear : target.member.ties.retired ≡ None = subst (λ o. IsCleared was.0.lower.bat_len o target) none was.0.clears in
@@ -433,7 +432,7 @@ module _ (L0 : Layers) (r : Retiring) where
         let never : IsRetiring (sector_of v) v.writes v.history L0 (Some r) v.top (merging above source target below m) = subst (λ o. IsRetiring (sector_of v) v.writes v.history L0 o v.top (merging above source target below m)) kept_is serving.leaving in never
 
     pub broken_told : (L : Layers) (fault : StoreFault) (a b : Option Trace) → WhereBothTold Breaks a b → WhereBothTold (λ trace now. (v : State) → IsServing L0 v trace → FinishesTo L0.retiring v L trace now (Err fault)) a b
-    broken_told L fault a b breaks = both_told Breaks (λ trace now. (v : State) → IsServing L0 v trace → FinishesTo L0.retiring v L trace now (Err fault)) a b (λ x y so v serving. by_rest x y so v v.rest serving) breaks
+    broken_told L fault a b breaks = both_from Breaks (λ trace now. (v : State) → IsServing L0 v trace → FinishesTo L0.retiring v L trace now (Err fault)) a b (λ x y so v serving. by_rest x y so v v.rest serving) breaks
       where
         by_rest : (x y : Trace) → Breaks x y → (v : State) (rest : Rest) → IsServing L0 (record v { rest = rest }) x → HasEnded (record v { rest = rest }) x y
         by_rest x y so v (plain others) serving = absurd (never_plain v others x serving)
@@ -444,7 +443,7 @@ module _ (L0 : Layers) (r : Retiring) where
 
     pub reached_told : (L : Layers) (a b : Option Trace) → WhereBothTold (Reaches (λ v target below y. IsSucceeded r.third v target below L y)) a b → WhereBothTold (λ trace now. (v : State) → IsServing L0 v trace → FinishesTo L0.retiring v L trace now (Ok tt)) a b
     reached_told L a b reached =
-        both_told (Reaches (λ v target below y. IsSucceeded r.third v target below L y)) (λ trace now. (v : State) → IsServing L0 v trace → FinishesTo L0.retiring v L trace now (Ok tt)) a b (λ x y so v serving. by_rest x y so v v.rest serving) reached
+        both_from (Reaches (λ v target below y. IsSucceeded r.third v target below L y)) (λ trace now. (v : State) → IsServing L0 v trace → FinishesTo L0.retiring v L trace now (Ok tt)) a b (λ x y so v serving. by_rest x y so v v.rest serving) reached
       where
         by_rest : (x y : Trace) → Reaches (λ v target below y. IsSucceeded r.third v target below L y) x y → (v : State) (rest : Rest) → IsServing L0 (record v { rest = rest }) x → FinishesTo L0.retiring (record v { rest = rest }) L x y (Ok tt)
         by_rest x y so v (plain others) serving = absurd (never_plain v others x serving)

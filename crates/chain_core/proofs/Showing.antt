@@ -12,7 +12,7 @@ use Rattle.chain_model.specs.Images.{NoneLoose, Placed, members_of}
 use Rattle.chain_model.specs.PhaseLaws.{IsNamedOnce}
 use Rattle.chain_model.specs.Sessions.{IsKept}
 use Rattle.chain_model.proofs.Serving.{held_chains_open}
-use Rattle.chain_model.proofs.Showing.{held_by_name}
+use Rattle.chain_model.proofs.Showing.{held_by_name, all_right}
 use Rattle.layer_session.specs.declared.file.Layer.{Layer}
 use Rattle.layer_session.specs.declared.file_layer.FileLayer.{FileLayer}
 use Rattle.layer_session.specs.declared.file_layer.FileLayer.TheVariants.{Session, Read}
@@ -28,7 +28,7 @@ use Rattle.chain_core.specs.Sessions.{AreApart}
 use Rattle.chain_core.specs.States.{AreHeld, AreWritten, IsCourse, IsLoose, IsRetiring, Rest, State, files_of, merging, others_of, plain, retiring, sector_of, WasSynced}
 use Rattle.chain_core.specs.declared.layers.Retiring.{Retiring}
 use Rattle.guest_model.specs.History.{History}
-use Rattle.chain_core.proofs.Steps.{all_right, apart, names_behind, numbers_apart}
+use Rattle.chain_core.proofs.Steps.{apart, names_behind, numbers_apart}
 
 -- ---- one file
 

@@ -44,8 +44,9 @@ use Rattle.chain_model.proofs.Stamping.{stamps_by_call}
 use Rattle.merge_core.specs.Copied.{marks_of}
 use Rattle.merge_core.specs.Stamping.{stamps_of}
 use Rattle.std.proofs.Math.Bool.{and-true}
+use Rattle.chain_model.proofs.Showing.{all_right}
 use Rattle.chain_core.specs.Answering.{IsDone, IsRefused, HasBroken, LayerAnswers, EachOpensNow}
-use Rattle.layer_session.proofs.FileLayers.{file_layers_stand}
+use Rattle.layer_session.proofs.FileLayers.{file_layers_stand, phase_others, phase_attached}
 use Rattle.chain_core.proofs.Rests.{call_survives, leaf_survives, loose_after, opens_now, top_loose, new_top}
 
 -- ---- the leaf's answer, of its file
@@ -80,20 +81,6 @@ pub record LeafStep (old new : Layers) (leaf next : Layer) : Type 0 where
   pub now : new.leaf ≡ Some next
 
 -- ---- other files
-
-pub all_right : {A : Type 0} (P : A → Type 0) (a b : List A) → AllByRecursion P (a ++ b) → AllByRecursion P b
-all_right P [] b all = all
-all_right P (x ∷ a) b all = all_right P a b all.1
-
--- a phase leaves the files' names
-pub phase_attached : (file : ℕ) (P : List ℕ → Type 0) (old now : Trace) → IsPhase file P old now → now.attached ≡ old.attached
-unfolding at_moment
-phase_attached file P old now phase = ap (λ t. t.attached) phase.since
-
--- and the other files
-pub phase_others : (file : ℕ) (P : List ℕ → Type 0) (old now : Trace) → IsPhase file P old now → (other : ℕ) → other ≢ file → file_of now other ≡ file_of old other
-phase_others file P old now phase other ne =
-    subst (λ t. file_of t other ≡ file_of old other) (at_moment-now now) ((phase.each (moment now) phase.later (omega arith)).others other ne)
 
 pub phase_beside : (file : ℕ) (P : List ℕ → Type 0) (old now : Trace) → IsPhase file P old now → (other : ℕ) → other ≢ file → IsBeside other old now
 phase_beside file P old now phase other ne =

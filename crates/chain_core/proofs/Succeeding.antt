@@ -3,6 +3,7 @@ use Rattle.std.proofs.Common.{◌⊎◌, ◌≡◌, ◌≢◌, ◌<◌, ◌==◌
 use Rattle.std.specs.Prelude.{Some, None, IfSome}
 use Rattle.std.specs.List.{AllByRecursion}
 use Rattle.std.specs.Option.{option_or}
+use Rattle.chain_model.proofs.Showing.{all_right}
 use Rattle.store_model.specs.File.{is_synced}
 use Rattle.store_model.specs.Trace.{Trace, file_of}
 use Rattle.vx_base.specs.declared.parts.Geometry.{Geometry}
@@ -24,7 +25,7 @@ use Rattle.layer_session.specs.Calls.{settled}
 use Rattle.layer_session.specs.FileLayers.{HaveFiles, number_of}
 use Rattle.layer_session.specs.Keeping.{Serves}
 use Rattle.layer_session.proofs.Crashes.{layers_are_kept}
-use Rattle.layer_session.proofs.FileLayers.{file_layers_stand}
+use Rattle.layer_session.proofs.FileLayers.{file_layers_stand, phase_others}
 use Rattle.layer_session.proofs.Standing.{layers_stand}
 use Rattle.chain_core.specs.declared.layers.Layers.{Layers}
 use Rattle.chain_core.specs.Answering.{EachOpensNow, HasEnded}
@@ -33,7 +34,7 @@ use Rattle.chain_core.specs.States.{AreHeld, AreWritten, IsCourse, IsRetiring, I
 use Rattle.chain_core.proofs.LeafTargets.{round}
 use Rattle.chain_core.proofs.Putting.{apart_around}
 use Rattle.chain_core.proofs.Rests.{leaf_survives}
-use Rattle.chain_core.proofs.Steps.{all_right, goes_over, names_behind, phase_beside, phase_others, still_once, still_read}
+use Rattle.chain_core.proofs.Steps.{goes_over, names_behind, phase_beside, still_once, still_read}
 
 -- ---- what a change of a file leaves
 

@@ -44,7 +44,7 @@ marked_some stripe u None p is m = cc
 marked_some stripe u (Some w) None is m = absurd m
 marked_some stripe u (Some w) (Some made) is m = (made, (refl, subst (λ (k : Underway). IsMarked (with_mark stripe (marks_of k.marks)) k made) (let same : w ≡ u = cc in same) m))
 
-still_none : (stripe : ℕ) (o p : Option Retiring) → o ≡ None → MarksToo stripe o p → p ≡ None
+pub still_none : (stripe : ℕ) (o p : Option Retiring) → o ≡ None → MarksToo stripe o p → p ≡ None
 still_none stripe None None none m = refl
 still_none stripe None (Some w) none m = absurd m
 still_none stripe (Some r) p none m = absurd (let never : ◌≡◌ {A = Option Retiring} (Some r) None = none in cc)

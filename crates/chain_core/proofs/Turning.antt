@@ -1,6 +1,7 @@
 -- The pages that a merge keeps turn its child's metadata still, while files are read, written and committed.
 use Rattle.std.proofs.Common.{◌≡◌, ◌≢◌, ◌<◌, is_some, ℕ, zero, suc, ◌-◌, ◌≤◌, ◌==◌, Bool, true, false, cond, List, [], ◌∷◌, ◌++◌, length, map, get_or, refl, sym, ap, subst, ◌∙◌}
 use Rattle.std.specs.Prelude.{⊤, All, Option, Some, None, option_map, IfSome, Result, Ok, Err, OnOk}
+use Rattle.store_model.proofs.Told.{both_from}
 use Rattle.vx_base.specs.declared.parts.Geometry.{Geometry}
 use Rattle.vhdx_format.specs.MetadataTables.{read_metadata}
 use Rattle.vhdx_format.specs.declared.log_entry.Page.{Page}
@@ -29,7 +30,6 @@ use Rattle.guest_model.specs.declared.call.Call.{Call}
 use Rattle.chain_core.specs.Copying.{MarksToo, Touches}
 use Rattle.chain_core.specs.Sessions.{AtMostOne, CanRelink, CanRetire, IsRetiringOf, child_layer, first_layer, header_at, is_session_at}
 use Rattle.log_write.specs.Writing.{HasNextNumber}
-use Rattle.chain_core.proofs.Concluding.{both_told}
 
 -- ---- one file
 
@@ -302,12 +302,12 @@ KeepsUnlessBroken (Err (FileFull n)) l next a b = WhereBothTold (KeepsTies l nex
 KeepsUnlessBroken (Err (Write f)) l next a b = ⊤
 
 kept_ties : (l next : Layer) (a b : Option Trace) → WhereBothTold (HasKept l next) a b → WhereBothTold (KeepsTies l next) a b
-kept_ties l next a b = both_told (HasKept l next) (KeepsTies l next) a b (λ t u h. record { keeps = λ file serves. (file, (h.serves file serves, (refl, refl))) })
+kept_ties l next a b = both_from (HasKept l next) (KeepsTies l next) a b (λ t u h. record { keeps = λ file serves. (file, (h.serves file serves, (refl, refl))) })
 
 pub put_ties : (l next : Layer) (first count : ℕ) (layer : chain.Layer → chain.Layer) (a b : Option Trace) (answer : Result (Unit {0}) LayerFault) → OnOk answer (WhereBothTold (HasPut l next first count layer) a b)
     → OnRefused answer (WhereBothTold (HasKept l next) a b) → KeepsUnlessBroken answer l next a b
 put_ties l next first count layer a b (Ok done) put kept =
-    both_told (HasPut l next first count layer) (KeepsTies l next) a b (λ t u h. record { keeps = λ file serves. (_, (h.serves file serves, (refl, refl))) }) put
+    both_from (HasPut l next first count layer) (KeepsTies l next) a b (λ t u h. record { keeps = λ file serves. (_, (h.serves file serves, (refl, refl))) }) put
 put_ties l next first count layer a b (Err (ReadFault f)) put kept = kept_ties l next a b kept
 put_ties l next first count layer a b (Err (FileFull n)) put kept = kept_ties l next a b kept
 put_ties l next first count layer a b (Err (Write f)) put kept = tt
@@ -315,10 +315,10 @@ put_ties l next first count layer a b (Err (Write f)) put kept = tt
 pub piece_ties : (l next : Layer) (piece : Piece) (a b : Option Trace) (answer : Result (Unit {0}) LayerFault) → OnOk answer (WhereBothTold (HasPutPiece l next piece) a b)
     → OnRefused answer (WhereBothTold (HasKept l next) a b) → KeepsUnlessBroken answer l next a b
 piece_ties l next piece a b (Ok done) put kept =
-    both_told (HasPutPiece l next piece) (KeepsTies l next) a b (λ t u h. record { keeps = λ file serves. (_, (h.serves file serves, (refl, refl))) }) put
+    both_from (HasPutPiece l next piece) (KeepsTies l next) a b (λ t u h. record { keeps = λ file serves. (_, (h.serves file serves, (refl, refl))) }) put
 piece_ties l next piece a b (Err (ReadFault f)) put kept = kept_ties l next a b kept
 piece_ties l next piece a b (Err (FileFull n)) put kept = kept_ties l next a b kept
 piece_ties l next piece a b (Err (Write f)) put kept = tt
 
 pub commit_ties : (l next : Layer) (a b : Option Trace) → WhereBothTold (HasCommitted l next) a b → WhereBothTold (KeepsTies l next) a b
-commit_ties l next a b = both_told (HasCommitted l next) (KeepsTies l next) a b (λ t u h. record { keeps = λ file serves. (_, (h.serves file serves, (refl, refl))) })
+commit_ties l next a b = both_from (HasCommitted l next) (KeepsTies l next) a b (λ t u h. record { keeps = λ file serves. (_, (h.serves file serves, (refl, refl))) })

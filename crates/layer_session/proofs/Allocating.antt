@@ -1,6 +1,7 @@
 -- A place that is taken for a block: the file grows, or a freed place is made zeros.
 use Rattle.std.proofs.Common.{◌≡◌, ℕ, ◌+◌, ◌<◌, ◌≤◌, ◌⊎◌, ◌||◌, Bool, true, false, List, length, get_or, refl, sym, subst, ◌∙◌, arith, inl, inr}
 use Rattle.std.proofs.lemmas.Bool.{cases_lt, cases_Bool, or_from}
+use Rattle.vx_base.proofs.ByteLists.{length-overwritten, length-extended}
 use Rattle.vx_base.specs.Fields.{extended, written_over}
 use Rattle.vx_base.specs.declared.parts.Header.{Header}
 use Rattle.vhdx_format.specs.Fields.{megabyte}
@@ -8,12 +9,12 @@ use Rattle.vhdx_format.specs.FileParts.{shape_of}
 use Rattle.vhdx_format.specs.HeldBlocks.{IsPayloadEntry, payload, bitmap}
 use Rattle.vhdx_format.specs.Layers.{Shape, entry_of, place_at}
 use Rattle.vhdx_format.proofs.LayerLemmas.{sector_entries}
-use Rattle.vhdx_format.proofs.SettledBytes.{get_or-extended, length-extended}
+use Rattle.vhdx_format.proofs.SettledBytes.{get_or-extended}
 use Rattle.store_model.specs.File.{File, Grow, IsFileImage, Write, seen, with_op}
 use Rattle.store_model.specs.Trace.{Trace, file_of, with_change}
 use Rattle.store_model.proofs.Spans.{file_of-with_change}
 use Rattle.table_pages.specs.Held.{held}
-use Rattle.table_pages.proofs.Laying.{length_over, over_out}
+use Rattle.table_pages.proofs.Laying.{over_out}
 use Rattle.log_write.specs.Laws.{MayWrite}
 use Rattle.log_write.specs.Sessions.{IsKept, SettlesNear}
 use Rattle.log_write.proofs.Commits.{running_stands}
@@ -50,7 +51,7 @@ module _ (l : Layer) (trace : Trace) (file : Placed) (serves : Serves l trace fi
     sizes = safe.sizes;
     long = safe.long;
     committed = record {
-      long = let a = serves.committed.long in omega (arith, a, length-extended len (seen F));
+      long = let a = serves.committed.long in omega (arith, a, length-extended (seen F) len);
       numbers = serves.committed.numbers;
       sound = serves.committed.sound;
       same = λ i below kept. by_side i (serves.committed.same i below kept);
@@ -155,7 +156,7 @@ module _ (l : Layer) (trace : Trace) (file : Placed) (serves : Serves l trace fi
       sizes = safe.sizes;
       long = safe.long;
       committed = record {
-        long = let a = serves.committed.long in omega (arith, a, length_over (seen F) bytes place free.within);
+        long = let a = serves.committed.long in omega (arith, a, length-overwritten (seen F) bytes place free.within);
         numbers = serves.committed.numbers;
         sound = serves.committed.sound;
         same = same;

@@ -35,7 +35,7 @@ use Rattle.layer_session.proofs.Tally.{HasBlock, Tally, as_one, takes, tally}
 use Rattle.layer_session.proofs.Wanting.{IsStep, has_by, names_alone, names_by, planned_parent}
 
 -- the same plans
-items_same : (l2 l : Layer) → l.plans ≡ l2.plans → l.plans.items ≡ l2.plans.items
+pub items_same : (l2 l : Layer) → l.plans ≡ l2.plans → l.plans.items ≡ l2.plans.items
 items_same l2 l e = ap (λ v. v.items) e
 
 -- a told trace is one alone

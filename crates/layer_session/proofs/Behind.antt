@@ -2,13 +2,13 @@
 use Rattle.std.proofs.Common.{◌≡◌, ℕ, ◌+◌, ◌*◌, ◌^◌, ◌≤◌, ◌⊎◌, All, List, length, sym, ap, subst, ◌∙◌, arith, inl, inr}
 use Rattle.vx_base.specs.Fields.{extended}
 use Rattle.std.proofs.lemmas.Bool.{and_parts, leb-true}
+use Rattle.vx_base.proofs.ByteLists.{length-extended}
 use Rattle.table_pages.proofs.Words.{held_long}
 use Rattle.vx_base.specs.declared.parts.Header.{Header}
 use Rattle.vx_base.specs.declared.parts.Parts.{Parts}
 use Rattle.vhdx_format.specs.Fields.{megabyte}
 use Rattle.vhdx_format.specs.FileParts.{shape_of}
 use Rattle.vhdx_format.specs.HeldBlocks.{Area, HoldsBlock}
-use Rattle.vhdx_format.proofs.SettledBytes.{length-extended}
 use Rattle.store_model.specs.File.{Grow, seen}
 use Rattle.store_model.specs.Trace.{Trace, file_of, with_change}
 use Rattle.store_model.proofs.Spans.{file_of-with_change}
@@ -42,7 +42,7 @@ module _ (l : Layer) (trace : Trace) (file : Placed) (serves : Serves l trace fi
   file_new = ap seen (file_of-with_change file.number (Grow len) trace)
 
   new_len : length (seen (file_of new file.number)) ≡ len
-  new_len = ap length file_new ∙ (let e = length-extended len F in let a = serves.running.state.long in omega (arith, e, a, longer))
+  new_len = ap length file_new ∙ (let e = length-extended F len in let a = serves.running.state.long in omega (arith, e, a, longer))
 
   parts_are : grown.parts ≡ serves.parts
   parts_are = grown_parts l trace file serves len longer most space freed next
@@ -67,7 +67,7 @@ module _ (l : Layer) (trace : Trace) (file : Placed) (serves : Serves l trace fi
   back : (j : ℕ) (block : Area) → HoldsBlock (shape_of serves.parts) (held l.tables.pending (extended F len)) j block → HoldsBlock (shape_of serves.parts) (held l.tables.pending F) j block
   back j block h =
       holds_alike serves.parts (held l.tables.pending F) (held l.tables.pending (extended F len))
-      (omega (arith, held_as_long l trace file serves, held_long l.tables.parts (extended F len) l.tables.pending l.tables.cache (grown_pages l trace file serves len longer), length-extended len F))
+      (omega (arith, held_as_long l trace file serves, held_long l.tables.parts (extended F len) l.tables.pending l.tables.cache (grown_pages l trace file serves len longer), length-extended F len))
       (sizes l trace file serves) serves.as_held.numbers serves.as_held.sound (λ i t b. grown_byte l trace file serves len longer i) (long l trace file serves) j block h
 
   low_held : (j : ℕ) (block : Area) → HoldsBlock (shape_of serves.parts) (held l.tables.pending F) j block → (range.at + range.len ≤ block.at) ⊎ (block.at + block.len ≤ range.at)

@@ -93,10 +93,6 @@ pub two_if : {T E A P B Q R : Type 0} (result : Result T E) → ((A → P) → (
 two_if (Ok x) f h k = f h k
 two_if (Err e) f h k = tt
 
-pub any_ok : {T E P : Type 0} (result : Result T E) → P → OnOk result P
-any_ok (Ok x) h = h
-any_ok (Err e) h = tt
-
 pub named_by : (missing : Bool) (p : Shape) (chunk : ℕ) (old new : List Plan) (P : ℕ → ℕ → Plan → Type 0) (first count : ℕ) → (missing ≡ true → new ≡ old) → (missing ≡ false → AreNamed p chunk old new 0 first count)
     → EachRun p old P 0 first count → AreNamed p chunk old new 0 first count
 named_by true p chunk old new P first count same named all = subst (λ (z : List Plan). AreNamed p chunk old z 0 first count) (sym (same refl)) (named_same p chunk old P 0 first count all)

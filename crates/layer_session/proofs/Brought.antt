@@ -185,11 +185,6 @@ pages_brought old new disk place sector readable below parts within tables same 
         let is = t.2 in
         inr (bitmap (bitmap_entry_of (shape_of old.parts) sector) ((sector_entries (shape_of old.parts) (record { sector = readable.sizes.sector; block = readable.sizes.block })).bitmap sector t.0 below) t.1 (omega (arith, low, is)) (omega (arith, high, is)))
 
--- what an answer of no fault tells
-pub where_ok : {T E P Q : Type 0} (result : Result T E) → (P → Q) → OnOk result P → OnOk result Q
-where_ok (Ok x) f h = f h
-where_ok (Err e) f h = tt
-
 -- the same by the numbers that the tables had before
 pub hand_then : (parts : TableParts) (t : Tables) → t.parts ≡ parts → HasTables parts → (old new : List Plan) (chunk first count word : ℕ) (bits : Bits) → SpansBits (shape_of parts) old chunk 0 first count bits
     → AreNamed (shape_of parts) chunk old new 0 first count → EachRun (shape_of parts) new (InChunk chunk (λ s n plan. plan.bitmap ≡ word)) 0 first count

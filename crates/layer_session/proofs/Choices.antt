@@ -2,6 +2,7 @@
 use Rattle.std.proofs.Common.{◌≡◌, ◌≢◌, ◌⊎◌, ℕ, ◌%◌, ◌<◌, ◌&&◌, ◌==◌, Bool, true, false, List, refl, sym, ap, subst, ◌∙◌, arith, inl, inr}
 use Rattle.std.proofs.lemmas.Bool.{ne_eqb}
 use Rattle.std.specs.Prelude.{Result, Ok, Err, IfOk, Some}
+use Rattle.layer_session.proofs.Tests.{and_both}
 use Rattle.vhdx_format.specs.Layers.{Shape, bitmap_entry_of, entry_of, table_entry}
 use Rattle.store_model.specs.Disk.{Disk, WhereTold}
 use Rattle.store_model.specs.Trace.{Trace}
@@ -14,9 +15,6 @@ use Rattle.layer_session.specs.declared.planning.Plan.{Plan}
 use Rattle.layer_session.specs.declared.planning.Step.TheVariants.{Drop, Leave, Write, Mark, Make, MakePart}
 use Rattle.layer_session.proofs.Planned.{both_not, read_again, same_held}
 
-both : (x y : Bool) → x ≡ true → y ≡ true → (x && y) ≡ true
-both x y e f = rw (e, f) refl
-
 -- ---- the block's entry is the one at this index, and has this value
 
 module _ (p : Shape) (file : List ℕ) (trims : Bool) (first count word index : ℕ) (at : index ≡ entry_of p first) (is : word ≡ table_entry p file index) where
@@ -25,10 +23,10 @@ module _ (p : Shape) (file : List ℕ) (trims : Bool) (first count word index : 
 
   -- a block that is trimmed whole stays one of zeros, or becomes one
   pub chosen_leave : trims ≡ true → is_whole p first count ≡ true → word ≡ 2 → IsPlanned p file trims first count (record { step = Leave; word = word; bitmap = 0 })
-  chosen_leave t w two = record { step = rw (both trims (is_whole p first count) t w, sym held, two) refl; word = held; bitmap = λ e. cc }
+  chosen_leave t w two = record { step = rw (and_both trims (is_whole p first count) t w, sym held, two) refl; word = held; bitmap = λ e. cc }
 
   pub chosen_drop : trims ≡ true → is_whole p first count ≡ true → word ≢ 2 → IsPlanned p file trims first count (record { step = Drop; word = word; bitmap = 0 })
-  chosen_drop t w other = record { step = rw (both trims (is_whole p first count) t w, sym held, ne_eqb word 2 other) refl; word = held; bitmap = λ e. cc }
+  chosen_drop t w other = record { step = rw (and_both trims (is_whole p first count) t w, sym held, ne_eqb word 2 other) refl; word = held; bitmap = λ e. cc }
 
   -- one that is partially present is written, and its sectors are marked, if they aren't all
   pub chosen_write : (bitmap : ℕ) → (trims && is_whole p first count) ≡ false → word % 8 ≡ 7 → are_marked p file first count ≡ true → IsPlanned p file trims first count (record { step = Write; word = word; bitmap = bitmap })

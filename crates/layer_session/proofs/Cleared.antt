@@ -1,5 +1,6 @@
 -- A part of a place that is nobody's is written: the place is nobody's still.
 use Rattle.std.proofs.Common.{◌≡◌, ℕ, ◌+◌, ◌-◌, ◌<◌, ◌≤◌, ◌⊎◌, List, length, get_or, sym, ap, subst, ◌∙◌, arith, inl, inr}
+use Rattle.vx_base.proofs.ByteLists.{length-overwritten}
 use Rattle.vx_base.specs.Fields.{written_over}
 use Rattle.vx_base.specs.declared.parts.Parts.{Parts}
 use Rattle.vhdx_format.specs.FileParts.{shape_of}
@@ -8,7 +9,7 @@ use Rattle.store_model.specs.File.{Write, seen}
 use Rattle.store_model.specs.Trace.{Trace, file_of, with_change}
 use Rattle.store_model.proofs.Spans.{file_of-with_change}
 use Rattle.table_pages.specs.Held.{held}
-use Rattle.table_pages.proofs.Laying.{length_over, over_in, over_out}
+use Rattle.table_pages.proofs.Laying.{over_in, over_out}
 use Rattle.chain_model.specs.Images.{Placed}
 use Rattle.layer_session.specs.declared.file.Layer.{Layer}
 use Rattle.layer_session.specs.Keeping.{IsNobodys, IsPlaced, Serves}
@@ -68,13 +69,13 @@ module _ (l : Layer) (trace : Trace) (file : Placed) (serves : Serves l trace fi
   bytes_are = taken_bytes l trace file serves place bytes some part_placed part_committed part_held
 
   same_len : length (written_over F place bytes) ≡ length F
-  same_len = length_over F bytes place part_placed.within
+  same_len = length-overwritten F bytes place part_placed.within
 
   held_new : held l.tables.pending (written_over F place bytes) ≡ written_over H place bytes
   held_new = taken_held l trace file serves place bytes some part_placed part_committed part_held
 
   pub held_len : length (held l.tables.pending (written_over F place bytes)) ≡ length H
-  held_len = ap length held_new ∙ length_over H bytes place (let a = part_placed.within in omega (arith, a, held_as_long l trace file serves))
+  held_len = ap length held_new ∙ length-overwritten H bytes place (let a = part_placed.within in omega (arith, a, held_as_long l trace file serves))
 
   back : (j : ℕ) (block : Area) → HoldsBlock (shape_of serves.parts) (held l.tables.pending (written_over F place bytes)) j block → HoldsBlock (shape_of serves.parts) H j block
   back j block h =

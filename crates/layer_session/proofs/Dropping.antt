@@ -6,6 +6,7 @@ use Rattle.std.proofs.Math.Nat.{add-mul, mul-div_cancel}
 use Rattle.std.proofs.lemmas.List.Elements.{All-append}
 use Rattle.vx_base.specs.Fields.{u64_bytes, written_over}
 use Rattle.std.proofs.lemmas.Nat.{div-add-mod', mod_below, pow-add}
+use Rattle.vhdx_format.proofs.MadeOpen.{block_units}
 use Rattle.vhdx_format.specs.AllocationTables.{IsBlockSize, state_of, unit_of}
 use Rattle.vhdx_format.specs.Fields.{megabyte}
 use Rattle.vhdx_format.specs.FileParts.{shape_of}
@@ -39,14 +40,6 @@ use Rattle.layer_session.proofs.Apart.{beside_self}
 use Rattle.layer_session.proofs.Entries.{apart_of}
 use Rattle.layer_session.proofs.Numbers.{are_numbers}
 use Rattle.layer_session.proofs.Payload.{within}
-
--- a block has whole units
-pub whole_units : (block : ℕ) → IsBlockSize block → block / megabyte * megabyte ≡ block
-whole_units block h =
-    let b = block_power block h in
-    let split : block ≡ 2 ^ b.power * megabyte = b.is ∙ ap (λ n. 2 ^ n) (let e : 20 + b.power ≡ b.power + 20 = omega arith in e) ∙ pow-add 2 b.power 20 in
-    let million : 0 < megabyte = omega arith in
-    ap (λ n. n / megabyte * megabyte) split ∙ (ap (λ n. n * megabyte) (mul-div_cancel (2 ^ b.power) million) ∙ sym split)
 
 -- ---- the sectors of a block
 
@@ -258,7 +251,7 @@ module _ (l : Layer) (t : Tables) (disk : Disk) (first count index : ℕ) (some 
       holds = payload payload_here there
 
       units_of : q.block / megabyte * megabyte ≡ q.block
-      units_of = whole_units q.block sized.block
+      units_of = block_units q.block sized.block
 
       area_is : area_of left ≡ block
       area_is = λ i. record { at = ap (λ w. unit_of w * megabyte) old_word i; len = units_of i }

@@ -5,6 +5,8 @@ use Rattle.std.specs.List.{Any}
 use Rattle.std.specs.Int.{bit_at}
 use Rattle.std.proofs.lemmas.Bool.{and_parts, lt-ltb, ltb-true, cases_Bool, cases_eq, cases_lt, leb-true}
 use Rattle.std.proofs.lemmas.List.{ext_get_or, get_or-drop}
+use Rattle.store_model.proofs.Parts.{length-part}
+use Rattle.vx_base.proofs.ByteLists.{length-overwritten}
 use Rattle.byteorder.specs.Numbers.{length-bytes_low_first, little_number-reads_back}
 use Rattle.vx_base.specs.Fields.{bytes_at, number_at, u64_at, u64_bytes, written_over}
 use Rattle.vx_base.specs.declared.parts.Parts.{Parts}
@@ -16,7 +18,7 @@ use Rattle.vhdx_format.specs.Layers.{Shape, bitmap_entry_of, block_count, chunk_
 use Rattle.vhdx_format.specs.SectorBitmaps.{bit_of}
 use Rattle.vhdx_format.proofs.LayerLemmas.{by_state-full, div-div_ceil, entries_within, sector_entries}
 use Rattle.vhdx_format.proofs.SizeLemmas.{ratio_in_range}
-use Rattle.table_pages.proofs.Laying.{length_over, over_in, over_out, part_byte, part_len}
+use Rattle.table_pages.proofs.Laying.{over_in, over_out, part_byte}
 use Rattle.layer_session.specs.Keeping.{IsPlaced, IsTablePlace, bitmap as bitmap_place, entries, metadata, regions}
 use Rattle.layer_session.proofs.Alike.{AreSizes, bitmap_there, block_in_file, by_state_other, off_range}
 use Rattle.chain_model.specs.Images.{metadata_of}
@@ -35,8 +37,8 @@ word_back s at w within small = sym (read_back (written_over s at (u64_bytes w))
     fits = omega (arith, within, long)
 
     part : bytes_at (written_over s at (u64_bytes w)) at 8 ≡ u64_bytes w
-    part = ext_get_or 0 _ _ (part_len (written_over s at (u64_bytes w)) at 8 (omega (arith, within, length_over s (u64_bytes w) at fits)) ∙ sym long)
-        (λ i l. byte i (omega (arith, l, part_len (written_over s at (u64_bytes w)) at 8 (omega (arith, within, length_over s (u64_bytes w) at fits)))))
+    part = ext_get_or 0 _ _ (length-part (written_over s at (u64_bytes w)) at 8 (omega (arith, within, length-overwritten s (u64_bytes w) at fits)) ∙ sym long)
+        (λ i l. byte i (omega (arith, l, length-part (written_over s at (u64_bytes w)) at 8 (omega (arith, within, length-overwritten s (u64_bytes w) at fits)))))
       where
         byte : (i : ℕ) → i < 8 → get_or (bytes_at (written_over s at (u64_bytes w)) at 8) i 0 ≡ get_or (u64_bytes w) i 0
         byte i l = part_byte (written_over s at (u64_bytes w)) at 8 i l ∙ (over_in s (u64_bytes w) at (at + i) fits (omega arith) (omega (arith, l, long)) ∙ ap (λ k. get_or (u64_bytes w) k 0) (let e : at + i - at ≡ i = omega arith in e))
@@ -99,7 +101,7 @@ module _ (parts : Parts) (sizes : AreSizes parts) (old : List ℕ) (numbers : re
   fits = let e = table_end in omega (arith, e, inside, word_long)
 
   pub as_long : length set_file ≡ length old
-  as_long = length_over old (u64_bytes word) at fits
+  as_long = length-overwritten old (u64_bytes word) at fits
 
   -- outside the table nothing has changed, and of it no other entry
   pub beside_entry : (i : ℕ) → (i < at) ⊎ (at + 8 ≤ i) → get_or set_file i 0 ≡ get_or old i 0

@@ -58,10 +58,6 @@ not_full (Err x) f is cause w next e = no_write cause next (sym (is ∙ w) ∙ e
     err_same : {T E : Type 0} (x y : E) → ◌≡◌ {A = Result T E} (Err x) (Err y) → x ≡ y
     err_same x y e = cc
 
--- counts of one step and of the next
-pub counts_then : (old mid new : Disk) → mid ≡ record old { told = mid.told } → new ≡ record mid { told = new.told } → new ≡ record old { told = new.told }
-counts_then old mid new one two = two ∙ ap (λ (d : Disk). record d { told = new.told }) one
-
 -- ---- an answer that is done, or tells a failed change
 
 pub either_way : {T E : Type 0} (r : Result T E) (A P : Type 0) (B : E → Type 0) → OnOk r A → IfErr r B → (A → P) → ((e : E) → B e → P) → P
@@ -89,9 +85,6 @@ ok_not_full x next e = cc
 -- what lies in one block is no longer than a block can be
 pub block_few : (in_block long block : ℕ) → in_block + long ≤ block → IsBlockSize block → long ≤ 2 ^ 28
 block_few in_block long block fits size = let most = block_most block size in omega (arith, fits, most)
-
-pub first_on : (first count sectors : ℕ) → 0 < count → first + count ≤ sectors → first < sectors
-first_on first count sectors some on = omega (arith, some, on)
 
 -- ---- what a step takes
 

@@ -28,29 +28,6 @@ use Rattle.layer_session.proofs.Told.{both_map}
 
 -- ---- one file
 
--- the same, read once more
-pub same_session : (old new : Layer) (disk : Disk) → IsSame old new disk → IsSameFile (Session old) (Session new) disk
-same_session old new disk s = record {
-  parts = s.parts;
-  number = ap Some s.number;
-  header = ap Some s.header;
-  readable = s.readable;
-  ready = s.ready;
-  holds = λ trace layer told h. (h.0, subst (λ (p : TableParts). IsHeld new h.0 layer (seen (file_of trace p.file))) (sym s.parts) (s.holds trace h.0 layer told h.1));
-  has = s.serves;
-}
-
-pub same_read_file : (old new : ReadLayer) (disk : Disk) → IsSameRead old new disk → IsSameFile (Read old) (Read new) disk
-same_read_file old new disk s = record {
-  parts = s.parts;
-  number = refl;
-  header = refl;
-  readable = s.readable;
-  ready = λ r. s.readable;
-  holds = λ trace layer told h. (h.0, (s.reads trace h.0 told h.1.0, h.1.1));
-  has = s.reads;
-}
-
 -- a file that is served is held
 pub has_held : (l : FileLayer) (trace : Trace) (file : Placed) → HasFile l trace file → Holds l trace file.member.layer
 has_held (Session l) trace file s = (s.parts, subst (λ n. IsHeld l s.parts file.member.layer (seen (file_of trace n))) s.number s.as_held)
@@ -193,11 +170,11 @@ module _ (n : ℕ) (geometry : Geometry) (old new : Disk) (files : new.files ≡
 
 -- ---- a phase
 
-phase_attached : (file : ℕ) (P : List ℕ → Type 0) (old now : Trace) → IsPhase file P old now → now.attached ≡ old.attached
+pub phase_attached : (file : ℕ) (P : List ℕ → Type 0) (old now : Trace) → IsPhase file P old now → now.attached ≡ old.attached
 unfolding at_moment
 phase_attached file P old now phase = ap (λ t. t.attached) phase.since
 
-phase_others : (file : ℕ) (P : List ℕ → Type 0) (old now : Trace) → IsPhase file P old now → (other : ℕ) → other ≢ file → file_of now other ≡ file_of old other
+pub phase_others : (file : ℕ) (P : List ℕ → Type 0) (old now : Trace) → IsPhase file P old now → (other : ℕ) → other ≢ file → file_of now other ≡ file_of old other
 phase_others file P old now phase other ne =
     subst (λ t. file_of t other ≡ file_of old other) (at_moment-now now) ((phase.each (moment now) phase.later (omega arith)).others other ne)
 

@@ -8,7 +8,7 @@ use Rattle.block_alloc.specs.declared.freed.Freed.{Freed}
 use Rattle.block_alloc.specs.Spaces as spaces
 use Rattle.block_alloc.specs.Spaces.{Space, fits_in, is_usable, limit, usable}
 use Rattle.layer_session.specs.Steps.{HasRoomFor}
-use Rattle.block_alloc.proofs.Fitting.{fits_after_bitmap, given_if_fits}
+use Rattle.block_alloc.proofs.Fitting.{fits_after_bitmap, given_if_fits, count_cons}
 
 -- what the test means
 abbrev Fits : ℕ → ℕ → ℕ → ℕ → ℕ → Type 0
@@ -37,15 +37,12 @@ more_fits p u b c n free more l m (inr x) = inr (let e : (p - more) * u ≤ (p -
 pub fits_fewer : (p u b c : ℕ) (s : Space) → c ≤ b → fits_in p u b s ≡ true → fits_in p u c s ≡ true
 fits_fewer p u b c s l h = passes p u c s.next (usable u s) (more_fits p u b c s.next (usable u s) (usable u s) (omega arith) l (tested p u b s.next (usable u s) h))
 
-count_freed : (u : ℕ) (f : Freed) (fs : List Freed) → count_by (is_usable u) (f ∷ fs) ≡ cond (is_usable u f) 1 0 + count_by (is_usable u) fs
-count_freed u f fs = sum_by-cons (λ x. cond (is_usable u x) 1 0) f fs
-
 usable_more : (u : ℕ) (fs : List Freed) → count_by (is_usable u) fs ≤ count_by (is_usable u) (map spaces.committed fs)
 usable_more u [] = omega arith
 usable_more u (f ∷ fs) =
     let rest = usable_more u fs in
-    let one = count_freed u f fs in
-    let two = count_freed u (spaces.committed f) (map spaces.committed fs) in
+    let one = count_cons u f fs in
+    let two = count_cons u (spaces.committed f) (map spaces.committed fs) in
     let here : cond (is_usable u f) 1 0 ≤ cond (is_usable u (spaces.committed f)) 1 0 = by_test f.committed (f.units == u) in
     omega (arith, rest, one, two, here)
   where

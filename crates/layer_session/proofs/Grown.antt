@@ -7,8 +7,9 @@ use Rattle.vhdx_format.specs.HeldBlocks.{Area, HoldsBlock, bitmap}
 use Rattle.vhdx_format.specs.Layers.{Shape, place_at}
 use Rattle.vhdx_format.specs.SettledFiles.{byte_after}
 use Rattle.vhdx_format.specs.WrittenEntries.{page_update}
-use Rattle.vhdx_format.proofs.SettledBytes.{get_or-extended, get_or-with_updates, length-extended}
+use Rattle.vhdx_format.proofs.SettledBytes.{get_or-extended, get_or-with_updates}
 use Rattle.std.proofs.lemmas.Bool.{cases_lt}
+use Rattle.vx_base.proofs.ByteLists.{length-overwritten, length-extended}
 use Rattle.vhdx_format.specs.HeldBlocks.{IsPayloadEntry, payload}
 use Rattle.vhdx_format.specs.Layers.{entry_of}
 use Rattle.vhdx_format.proofs.LayerLemmas.{sector_entries}
@@ -17,7 +18,7 @@ use Rattle.store_model.specs.Trace.{Trace, file_of, with_change}
 use Rattle.store_model.proofs.Spans.{file_of-with_change}
 use Rattle.table_pages.specs.Held.{AreTables, held}
 use Rattle.table_pages.proofs.Changing.{held_beside_writes, stand_beside_writes}
-use Rattle.table_pages.proofs.Laying.{length_over, over_out, part_same}
+use Rattle.table_pages.proofs.Laying.{over_out, part_same}
 use Rattle.table_pages.proofs.Words.{held_long}
 use Rattle.log_write.specs.Sessions.{IsRunning, LogState}
 use Rattle.log_write.specs.Writing.{CanCommit}
@@ -170,10 +171,10 @@ module _ (l : Layer) (trace : Trace) (file : Placed) (serves : Serves l trace fi
 
   pub grown_pages : AreTables l.tables.parts (extended old len) l.tables.pending l.tables.cache
   grown_pages =
-      stand_beside_writes l.tables.parts old (extended old len) l.tables.pending l.tables.cache serves.as_held.pages (omega (arith, length-extended len old))
+      stand_beside_writes l.tables.parts old (extended old len) l.tables.pending l.tables.cache serves.as_held.pages (omega (arith, length-extended old len))
       (λ at a k.
       let last = table_within (at + 4095) (serves.only (at + 4095) (serves.kept at (at + 4095) a k (omega arith) (omega arith))) in
-      part_alike old (extended old len) at 4096 (omega (arith, last)) (omega (arith, length-extended len old)) (λ i b c. get_or-extended len old i))
+      part_alike old (extended old len) at 4096 (omega (arith, last)) (omega (arith, length-extended old len)) (λ i b c. get_or-extended len old i))
 
   pub grown_byte : (i : ℕ) → get_or (held l.tables.pending (extended old len)) i 0 ≡ get_or (held l.tables.pending old) i 0
   unfolding held
@@ -191,7 +192,7 @@ module _ (l : Layer) (trace : Trace) (file : Placed) (serves : Serves l trace fi
       sp = serves.space
 
       grown_len : length (extended old len) ≡ len
-      grown_len = let e = length-extended len old in let a = serves.running.state.long in omega (arith, e, a, longer)
+      grown_len = let e = length-extended old len in let a = serves.running.state.long in omega (arith, e, a, longer)
 
       long_old : length (held l.tables.pending old) ≡ length old
       long_old = held_long l.tables.parts old l.tables.pending l.tables.cache serves.as_held.pages
@@ -204,7 +205,7 @@ module _ (l : Layer) (trace : Trace) (file : Placed) (serves : Serves l trace fi
         header = refl;
         most = omega (arith, grown_len, most);
         pages = grown_pages;
-        longer = omega (arith, long_old, long_new, length-extended len old);
+        longer = omega (arith, long_old, long_new, length-extended old len);
         tables = λ i t. grown_byte i;
         sectors = λ s i below st. grown_byte i;
         running = file_grown l.log serves.tables (length serves.bytes) serves.written (file_of trace file.number) len serves.running longer;
@@ -215,7 +216,7 @@ module _ (l : Layer) (trace : Trace) (file : Placed) (serves : Serves l trace fi
         tight = omega (arith, grown_len, next);
         placed = subst (λ z. All (λ (f : Freed). IsPlaced serves.parts (length (extended old len)) (area_of f)) z) (sym freed)
             (λ k d b. let p = sp.placed k d b in
-            record { low = p.low; within = let w = p.within in omega (arith, w, length-extended len old); off_log = p.off_log; off_table = p.off_table; off_metadata = p.off_metadata });
+            record { low = p.low; within = let w = p.within in omega (arith, w, length-extended old len); off_log = p.off_log; off_table = p.off_table; off_metadata = p.off_metadata });
         freed = subst (λ z. All (λ (f : Freed). IsNobodys serves.parts (held l.tables.pending old) (area_of f)) z) (sym freed) sp.freed;
         free = subst (λ z. All (λ (f : Freed). f.committed ≡ true → IsNobodys serves.parts serves.bytes (area_of f)) z) (sym freed) sp.committed;
       }
@@ -271,7 +272,7 @@ module _ (l : Layer) (trace : Trace) (file : Placed) (serves : Serves l trace fi
       by_side (inl a) (inl b) (inr c) = absurd (clear place (serves.only place (of place c b)) (omega arith) (omega (arith, some)))
 
   same_len : length (written_over was place bytes) ≡ length was
-  same_len = length_over was bytes place fits
+  same_len = length-overwritten was bytes place fits
 
   pub taken_pages : AreTables l.tables.parts (written_over was place bytes) l.tables.pending l.tables.cache
   taken_pages =
@@ -316,9 +317,9 @@ module _ (l : Layer) (trace : Trace) (file : Placed) (serves : Serves l trace fi
       leaves : LeavesHeld l trace file serves l.log l.space written (with_op (Write place bytes) (file_of trace file.number))
       leaves = record {
         header = refl;
-        most = let e = length_over was bytes place fits in let m = serves.as_held.most in omega (arith, e, m);
+        most = let e = length-overwritten was bytes place fits in let m = serves.as_held.most in omega (arith, e, m);
         pages = taken_pages;
-        longer = omega (arith, ap length taken_held, length_over h_was bytes place (omega (arith, fits, long_was)));
+        longer = omega (arith, ap length taken_held, length-overwritten h_was bytes place (omega (arith, fits, long_was)));
         tables = λ i t. taken_byte i (clear i t);
         sectors = λ s i below st. taken_byte i (off_held s i below st);
         running = payload_written l.log serves.tables (length serves.bytes) serves.written written (file_of trace file.number) place bytes serves.running (may_take l trace file serves place bytes free unused unheld);

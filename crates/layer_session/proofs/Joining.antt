@@ -1,6 +1,6 @@
 -- What a call puts, one step behind another.
 use Rattle.std.proofs.Common.{◌≡◌, ℕ, ◌+◌, ◌-◌, ◌<◌, ◌≤◌, ◌⊎◌, ◌||◌, Bool, true, false, List, Option, Some, None, refl, sym, ap, subst, ◌∙◌, arith, inl, inr}
-use Rattle.std.proofs.lemmas.Bool.{cases_lt, or_cases}
+use Rattle.std.proofs.lemmas.Bool.{cases_lt, or_cases, or_parts}
 use Rattle.store_model.specs.Disk.{Disk, WhereBothTold}
 use Rattle.store_model.specs.Trace.{Trace}
 use Rattle.store_model.specs.Cause.{RoseAt}
@@ -35,10 +35,6 @@ pub part_outside : (first count a n : ℕ) → first ≤ a → a + n ≤ first +
 part_outside first count a n low high s off = not_true _ (λ h. let v = within a n s h in let from = v.0 in let to = v.1 in
     let here : is_among first count s ≡ true = among first count s (omega (arith, low, from)) (omega (arith, high, to)) in
     let wrong : true ≡ false = sym here ∙ off in let w : ⊥ = cc in w)
-
-pub or_parts : (x y : Bool) → (x || y) ≡ false → (x ≡ false) × (y ≡ false)
-or_parts false y h = (refl, h)
-or_parts true y h = cc
 
 pub or_none : (x y : Bool) → x ≡ false → y ≡ false → (x || y) ≡ false
 or_none x y e f = rw (e, f) refl
@@ -78,7 +74,7 @@ pub put_moves : (l mid : Layer) (first len : ℕ) (f : chain.Layer → chain.Lay
 put_moves l mid first len f agree t u put file serves = (f file.member.layer, (put.serves file serves, λ s off. agree file.member.layer s off))
 
 -- an image that shows the file with a few sectors loose shows it with more
-shows_looser : (file : Placed) (layer : chain.Layer) (less more : ℕ → Bool) (image : List ℕ) → ((s : ℕ) → more s ≡ false → (less s ≡ false) × (layer s ≡ file.member.layer s)) → Shows file.member.ties layer less image → Shows file.member.ties file.member.layer more image
+pub shows_looser : (file : Placed) (layer : chain.Layer) (less more : ℕ → Bool) (image : List ℕ) → ((s : ℕ) → more s ≡ false → (less s ≡ false) × (layer s ≡ file.member.layer s)) → Shows file.member.ties layer less image → Shows file.member.ties file.member.layer more image
 shows_looser file layer less more image h shows = record { held = shows.held; parts = shows.parts; reads = shows.reads; ties = shows.ties; clean = λ s e. let x = h s e in shows.clean s x.0 ∙ x.1 }
 
 pub keeps_puts : (l : Layer) (first count : ℕ) (a b : Option Trace) → WhereBothTold (KeepsOver l) a b → WhereBothTold (PutsInto l first count) a b
@@ -131,7 +127,7 @@ or_twice true y = refl
 or_twice false true = refl
 or_twice false false = refl
 
-or_assoc : (x y z : Bool) → ((x || y) || z) ≡ (x || (y || z))
+pub or_assoc : (x y z : Bool) → ((x || y) || z) ≡ (x || (y || z))
 or_assoc true y z = refl
 or_assoc false y z = refl
 
@@ -173,6 +169,17 @@ put_none l first count h none same (Some t) = record {
     or_false true b e = refl
     or_false false b e = e
 
+-- a change fails behind a step that counted nothing
+pub fails_from : (file : ℕ) (old behind new : Disk) (fault : LayerFault) (cause : StoreFault) → fault ≡ Write cause → behind ≡ record old { told = behind.told } → Fails file behind new fault → Fails file old new fault
+fails_from file old behind new fault cause is counts h = subst (λ (x : LayerFault). Fails file old new x) (sym is) (change (subst (λ (x : LayerFault). Fails file behind new x) is h))
+  where
+    change : FailsToChange file behind new cause → FailsToChange file old new cause
+    change f = record {
+      stays = f.stays ∙ ap (λ (d : Disk). (let x : Disk = record d { told = new.told; failed_changes = new.failed_changes } in x)) counts;
+      of_file = f.of_file;
+      count = subst (λ (d : Disk). RoseAt file cause.count d.failed_changes new.failed_changes) counts f.count;
+    }
+
 -- a step fails behind others
 pub broken_after : (l mid left : Layer) (first count a n b m : ℕ) → IsOutside first count a n → IsOutside first count b m → (old then_ new : Disk) (fault : LayerFault) → mid.tables.parts ≡ l.tables.parts → (mid.log.number ≡ l.log.number) × (mid.log.header ≡ l.log.header)
     → then_ ≡ record old { told = then_.told } → WhereBothTold (Moves l mid a n) old.told then_.told → IsBroken mid left b m then_ new fault → IsBroken l left first count old new fault
@@ -186,13 +193,3 @@ broken_after l mid left first count a n b m one two old behind new fault parts s
   number = br.number ∙ same.0;
   header = br.header ∙ same.1;
 }
-  where
-    fails_from : (file : ℕ) (old behind new : Disk) (fault : LayerFault) (cause : StoreFault) → fault ≡ Write cause → behind ≡ record old { told = behind.told } → Fails file behind new fault → Fails file old new fault
-    fails_from file old behind new fault cause is counts h = subst (λ (x : LayerFault). Fails file old new x) (sym is) (change (subst (λ (x : LayerFault). Fails file behind new x) is h))
-      where
-        change : FailsToChange file behind new cause → FailsToChange file old new cause
-        change f = record {
-          stays = f.stays ∙ ap (λ (d : Disk). (let x : Disk = record d { told = new.told; failed_changes = new.failed_changes } in x)) counts;
-          of_file = f.of_file;
-          count = subst (λ (d : Disk). RoseAt file cause.count d.failed_changes new.failed_changes) counts f.count;
-        }

@@ -3,6 +3,7 @@ use Rattle.std.proofs.Common.{◌≡◌, ℕ, ◌/◌, ◌<◌, Bool, List, leng
 use Rattle.std.specs.Prelude.{Result, Ok, Err, OnOk, IfErr}
 use Rattle.std.specs.Vec.{with_items}
 use Rattle.std.proofs.lemmas.List.{with_items_is}
+use Rattle.store_model.proofs.Told.{counts_join}
 use Rattle.layer_session.specs.declared.planning.Plan.{Plan}
 use Rattle.vhdx_format.specs.Fields.{megabyte}
 use Rattle.vhdx_format.specs.Layers.{Shape}
@@ -34,7 +35,7 @@ use Rattle.layer_session.proofs.Standing.{looser}
 
 -- ---- nothing is changed
 
-keeps_now : (l : Layer) (o : Option Trace) → WhereBothTold (KeepsOver l) o o
+pub keeps_now : (l : Layer) (o : Option Trace) → WhereBothTold (KeepsOver l) o o
 keeps_now l None = tt
 keeps_now l (Some t) = record {
   over = λ file serves.
@@ -75,10 +76,6 @@ rest_then a b c (Some u) None z h k = absurd h
 rest_then a b c (Some u) (Some v) None h k = absurd k
 rest_then a b c (Some u) (Some v) (Some w) h k = record { holds = λ file s. k.holds file (h.serves file s) }
 
--- a disk that differs in what it tells alone
-counts_then : (x y z : Disk) → y ≡ record x { told = y.told } → z ≡ record y { told = z.told } → z ≡ record x { told = z.told }
-counts_then x y z h k = k ∙ ap (λ (d : Disk). let e : Disk = record d { told = z.told } in e) h
-
 pub leads_then : (a b c : Layer) (x y z : Disk) → LeadsTo a b x y → LeadsTo b c y z → LeadsTo a c x z
 leads_then a b c x y z h k = record {
   moments = keeps_then a b x.told y.told z.told h.moments h.kept k.moments;
@@ -86,7 +83,7 @@ leads_then a b c x y z h k = record {
   ready = k.ready;
   parts = k.parts ∙ h.parts;
   leave = k.leave ∙ h.leave;
-  counts = counts_then x y z h.counts k.counts;
+  counts = counts_join x y z h.counts k.counts;
 }
 
 pub leads_on : {T : Type 0} (a b c : Layer) (x y z : Disk) (result : Result T LayerFault) → LeadsTo a b x y → Leads b c y z result → Leads a c x z result

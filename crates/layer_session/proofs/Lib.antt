@@ -87,4 +87,5 @@ pub mod BothChunks
 pub mod Choices
 pub mod EntryBrought
 mod Exits
-mod Handing
+pub mod Handing
+pub mod Known

@@ -2,6 +2,8 @@
 use Rattle.std.proofs.Common.{◌≡◌, ◌≢◌, ℕ, ◌+◌, ◌-◌, ◌*◌, ◌/◌, ◌^◌, ◌<◌, ◌≤◌, ◌⊎◌, true, List, length, get_or, Option, Some, None, refl, sym, ap, subst, ◌∙◌, arith, inl, inr}
 use Rattle.std.specs.Prelude.{Err, Ok, min}
 use Rattle.std.proofs.lemmas.List.{ext_get_or, get_or-replicate, get_or_past, length-replicate}
+use Rattle.vx_base.proofs.ByteLists.{length-extended}
+use Rattle.store_model.proofs.Parts.{length-part}
 use Rattle.vx_base.specs.Fields.{bytes_at, extended, zeros}
 use Rattle.vhdx_format.specs.AllocationTables.{state_of, unit_of}
 use Rattle.vhdx_format.specs.Fields.{megabyte}
@@ -9,7 +11,6 @@ use Rattle.vhdx_format.specs.FileParts.{shape_of}
 use Rattle.vhdx_format.specs.HeldBlocks.{IsBitmapEntry, IsPayloadEntry}
 use Rattle.vhdx_format.specs.Layers.{HasSizes, Shape, bitmap_entry_of, chunk_ratio_of, entry_of, state_at, table_entry}
 use Rattle.vhdx_format.proofs.LayerLemmas.{entries_apart, sector_entries}
-use Rattle.vhdx_format.proofs.SettledBytes.{length-extended}
 use Rattle.vhdx_format.proofs.SizeLemmas.{ratio_in_range}
 use Rattle.store_model.specs.Disk.{ChangeFailed, Disk, WhereBothTold, WhereTold, changed, told_after}
 use Rattle.store_model.specs.Plans.{FailsToChange}
@@ -22,7 +23,7 @@ use Rattle.table_pages.specs.Held.{AreClear, AreTables, AreTablesIn, HasTables, 
 use Rattle.table_pages.specs.Held as tables
 use Rattle.table_pages.specs.declared.tables.TableParts.{TableParts}
 use Rattle.table_pages.specs.declared.tables.Tables.{Tables}
-use Rattle.table_pages.proofs.Laying.{part_byte, part_len}
+use Rattle.table_pages.proofs.Laying.{part_byte}
 use Rattle.table_pages.proofs.Words.{held_long}
 use Rattle.block_alloc.specs.Spaces.{Space, grown}
 use Rattle.log_write.specs.Sessions.{LogState}
@@ -155,8 +156,8 @@ module _ (l : Layer) (t : Trace) (file : Placed) (s : Serves l t file) (t2 : Tab
             let at = unit_of word * megabyte + 4096 * k in
             let X = held t2.pending F in
             let fits : at + 4096 ≤ length X = omega (arith, h, end, long_new) in
-            ext_get_or 0 (bytes_at X at 4096) (zeros 4096) (part_len X at 4096 fits ∙ sym (zeros_long 4096))
-            (λ i b. let below : i < 4096 = let x = part_len X at 4096 fits in omega (arith, b, x) in part_byte X at 4096 i below ∙ (byte_zero (at + i) (omega arith) (omega (arith, below, h)) ∙ sym (zeros_at 4096 i below)))
+            ext_get_or 0 (bytes_at X at 4096) (zeros 4096) (length-part X at 4096 fits ∙ sym (zeros_long 4096))
+            (λ i b. let below : i < 4096 = let x = length-part X at 4096 fits in omega (arith, b, x) in part_byte X at 4096 i below ∙ (byte_zero (at + i) (omega arith) (omega (arith, below, h)) ∙ sym (zeros_at 4096 i below)))
 
     -- so pages of it as zeros are brought as they are held
     pub zeros_brought : (disk : Disk) (t3 : Tables) (from count : ℕ) → from + count ≤ 256 → disk.told ≡ Some t → t3.parts ≡ t2.parts → PutsWithin (unit_of word * megabyte) t2.pending t3.pending → KeepsWithin 0 0 t2 t3
@@ -236,7 +237,7 @@ module _ (l : Layer) (t : Trace) (file : Placed) (s : Serves l t file) (len : �
   long1 : length H0 ≤ length H1
   long1 =
       let a : length (held l.tables.pending (extended F0 len)) ≡ length (extended F0 len) = held_long l.tables.parts (extended F0 len) l.tables.pending l.tables.cache (grown_pages l t file s len longer) in
-      let b = length-extended len F0 in
+      let b = length-extended F0 len in
       let c : length H1 ≡ length (held l.tables.pending (extended F0 len)) = ap (λ (z : List ℕ). length (held l.tables.pending z)) file_new in
       omega (arith, a, b, c, long0)
 

@@ -1,6 +1,6 @@
 -- Sectors that a test names are put, one step behind another.
 use Rattle.std.proofs.Common.{◌≡◌, ◌≢◌, ℕ, ◌+◌, ◌-◌, ◌*◌, ◌<◌, ◌≤◌, ◌==◌, ◌&&◌, ◌||◌, Bool, true, false, List, length, take, drop, Option, Some, refl, sym, ap, subst, ◌∙◌, arith, eq-eqb, if◌then◌else◌}
-use Rattle.std.proofs.lemmas.Bool.{and_parts, eqb-true}
+use Rattle.std.proofs.lemmas.Bool.{and_parts, eqb-true, or_parts}
 use Rattle.std.specs.Prelude.{Err, IfErr, Ok, Result}
 use Rattle.vx_base.specs.Fields.{bytes_at}
 use Rattle.vhdx_format.specs.SectorBitmaps.{bit_of}
@@ -25,7 +25,7 @@ use Rattle.layer_session.specs.Taking.{IsBroken, IsDone}
 use Rattle.layer_session.proofs.Alike.{not_true}
 use Rattle.layer_session.proofs.Beside.{among}
 use Rattle.layer_session.proofs.Ending.{phase_weaken, phases_join}
-use Rattle.layer_session.proofs.Joining.{among_split, or_none, or_parts, same_file}
+use Rattle.layer_session.proofs.Joining.{among_split, or_none, same_file, shows_looser, fails_from, or_assoc}
 use Rattle.layer_session.proofs.Parting.{none_among}
 use Rattle.layer_session.proofs.Payload.{within}
 use Rattle.layer_session.proofs.Told.{both_and, both_map, both_self, both_then}
@@ -40,10 +40,6 @@ or_law true false true c f = refl
 or_law true false false c f = refl
 or_law false true b c f = sym (f refl)
 or_law false false b c f = refl
-
-or_more : (x y z : Bool) → ((x || y) || z) ≡ (x || (y || z))
-or_more true y z = refl
-or_more false y z = refl
 
 -- those among the first so many, and those among the rest
 pub masked_split : (first len count at : ℕ) (mask : List ℕ) (s : ℕ) → len ≤ count → is_masked first count at mask s ≡ (is_masked first len at mask s || is_masked (first + len) (count - len) (at + len) mask s)
@@ -144,21 +140,17 @@ as_one n m h = λ i s. h s i
 
 -- ---- moments
 
--- an image that shows the file with a few sectors loose shows it with more
-shows_more : (file : Placed) (layer : chain.Layer) (less more : ℕ → Bool) (image : List ℕ) → ((s : ℕ) → more s ≡ false → (less s ≡ false) × (layer s ≡ file.member.layer s)) → Shows file.member.ties layer less image → Shows file.member.ties file.member.layer more image
-shows_more file layer less more image h shows = record { held = shows.held; parts = shows.parts; reads = shows.reads; ties = shows.ties; clean = λ s e. let x = h s e in shows.clean s x.0 ∙ x.1 }
-
 pub keeps_named : (l : Layer) (n : ℕ → Bool) (a b : Option Trace) → WhereBothTold (KeepsOver l) a b → WhereBothTold (PutsNamed l n) a b
 keeps_named l n a b keeps = both_map (KeepsOver l) (PutsNamed l n) a b keeps (λ t u x y k. record {
   over = λ file serves. phase_weaken file.number (ShowsFile file) (ShowsFile (loosened (loose_or n file) file)) t u
-      (λ image shows. shows_more file file.member.layer file.is_loose (loose_or n file) image (λ s e. ((or_parts (file.is_loose s) (n s) e).0, refl)) shows) (k.over file serves);
+      (λ image shows. shows_looser file file.member.layer file.is_loose (loose_or n file) image (λ s e. ((or_parts (file.is_loose s) (n s) e).0, refl)) shows) (k.over file serves);
 })
 
 -- fewer sectors are named
 pub named_more : (l : Layer) (n m : ℕ → Bool) → ((s : ℕ) → n s ≡ false → m s ≡ false) → (a b : Option Trace) → WhereBothTold (PutsNamed l m) a b → WhereBothTold (PutsNamed l n) a b
 named_more l n m out a b puts = both_map (PutsNamed l m) (PutsNamed l n) a b puts (λ t u x y k. record {
   over = λ file serves. phase_weaken file.number (ShowsFile (loosened (loose_or m file) file)) (ShowsFile (loosened (loose_or n file) file)) t u
-      (λ image shows. shows_more file file.member.layer (loose_or m file) (loose_or n file) image
+      (λ image shows. shows_looser file file.member.layer (loose_or m file) (loose_or n file) image
       (λ s h. let p = or_parts (file.is_loose s) (n s) h in (or_none (file.is_loose s) (m s) p.0 (out s p.1), refl)) shows) (k.over file serves);
 })
 
@@ -176,10 +168,10 @@ module _ (l mid : Layer) (n m all : ℕ → Bool) (both : (s : ℕ) → all s �
             let next : Placed = placed_with (f file.member.layer) (loose_or n file) file in
             phases_join file.number (ShowsFile (loosened (loose_or all file) file)) t u v
             (phase_weaken file.number (ShowsFile (loosened (loose_or n file) file)) (ShowsFile (loosened (loose_or all file) file)) t u
-            (λ image shows. shows_more file file.member.layer (loose_or n file) (loose_or all file) image
+            (λ image shows. shows_looser file file.member.layer (loose_or n file) (loose_or all file) image
             (λ s h. let p = or_parts (file.is_loose s) (all s) h in (or_none (file.is_loose s) (n s) p.0 (neither s p.1).0, refl)) shows) (k.0.over file serves))
             (phase_weaken file.number (ShowsFile (loosened (loose_or m next) next)) (ShowsFile (loosened (loose_or all file) file)) u v
-            (λ image shows. shows_more file (f file.member.layer) (loose_or m next) (loose_or all file) image
+            (λ image shows. shows_looser file (f file.member.layer) (loose_or m next) (loose_or all file) image
             (λ s h. let p = or_parts (file.is_loose s) (all s) h in
             (or_none (file.is_loose s || n s) (m s) (or_none (file.is_loose s) (n s) p.0 (neither s p.1).0) (neither s p.1).1, agree file.member.layer s (neither s p.1).0)) shows)
             (r.over next (k.1.serves file serves)));
@@ -192,7 +184,7 @@ module _ (l mid : Layer) (n m all : ℕ → Bool) (both : (s : ℕ) → all s �
         serves = λ file serves.
             let next : Placed = placed_with (f file.member.layer) (loose_or n file) file in
             same_file new v file (g (f file.member.layer)) (h file.member.layer) (loose_or m next) (loose_or all file) (same file.member.layer)
-            (λ s. or_more (file.is_loose s) (n s) (m s) ∙ ap (λ b. file.is_loose s || b) (sym (both s))) (r.serves next (k.serves file serves));
+            (λ s. or_assoc (file.is_loose s) (n s) (m s) ∙ ap (λ b. file.is_loose s || b) (sym (both s))) (r.serves next (k.serves file serves));
       })
 
   pub rest_then : (left : Layer) → WhereBothTold (HoldsUnnamed mid left m) y z → WhereBothTold (HoldsUnnamed l left all) x z
@@ -204,17 +196,6 @@ module _ (l mid : Layer) (n m all : ℕ → Bool) (both : (s : ℕ) → all s �
             let h = r.holds next (k.serves file serves) in
             (h.0, (h.1.0, h.1.1, λ s off. h.1.2 s (neither s off).1 ∙ agree file.member.layer s (neither s off).0));
       })
-
--- a change fails behind a step that counted nothing
-pub fails_behind : (file : ℕ) (old behind new : Disk) (fault : LayerFault) (cause : StoreFault) → fault ≡ Write cause → behind ≡ record old { told = behind.told } → Fails file behind new fault → Fails file old new fault
-fails_behind file old behind new fault cause is counts h = subst (λ (x : LayerFault). Fails file old new x) (sym is) (change (subst (λ (x : LayerFault). Fails file behind new x) is h))
-  where
-    change : FailsToChange file behind new cause → FailsToChange file old new cause
-    change f = record {
-      stays = f.stays ∙ ap (λ (d : Disk). (let x : Disk = record d { told = new.told; failed_changes = new.failed_changes } in x)) counts;
-      of_file = f.of_file;
-      count = subst (λ (d : Disk). RoseAt file cause.count d.failed_changes new.failed_changes) counts f.count;
-    }
 
 -- ---- nothing is put
 
@@ -269,7 +250,7 @@ module _ (l mid : Layer) (first len count at : ℕ) (fits : len ≤ count) (mask
   spots_broken left end fault br = record {
     cause = br.cause;
     written = br.written;
-    fails = fails_behind l.tables.parts.file old behind end fault br.cause br.written one.counts (subst (λ (q : TableParts). Fails q.file behind end fault) one.parts br.fails);
+    fails = fails_from l.tables.parts.file old behind end fault br.cause br.written one.counts (subst (λ (q : TableParts). Fails q.file behind end fault) one.parts br.fails);
     readable = br.readable;
     holds = rest_then l mid (is_among first len) rest all both (with_bytes z first len front) agree old.told behind.told end.told put_one left br.holds;
     parts = br.parts ∙ one.parts;

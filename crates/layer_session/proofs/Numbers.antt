@@ -3,8 +3,9 @@ use Rattle.std.proofs.Common.{◌≡◌, ℕ, ◌+◌, ◌<◌, ◌≤◌, ◌==
 use Rattle.std.specs.Prelude.{Result, Ok, Err, nat_lt}
 use Rattle.std.specs.List.{find}
 use Rattle.std.specs.Option.{ok_or}
-use Rattle.std.proofs.lemmas.Bool.{and_parts, or_from, le-leb, leb-true, not_from_true}
+use Rattle.std.proofs.lemmas.Bool.{and_parts, or_from, le-leb, leb-true, not_from_true, or_parts}
 use Rattle.std.proofs.lemmas.List.{ext_get_or}
+use Rattle.store_model.proofs.Parts.{length-part}
 use Rattle.vx_base.specs.Fields.{bytes_at}
 use Rattle.vx_base.specs.declared.parts.Header.{Header}
 use Rattle.vx_base.specs.declared.parts.Parts.{Parts}
@@ -19,14 +20,14 @@ use Rattle.vhdx_format.specs.RegionTables.{is_of, is_misplaced, is_unknown_requi
 use Rattle.vhdx_format.specs.declared.TheConstants.{BAT_REGION, METADATA_REGION}
 use Rattle.vhdx_format.specs.declared.regions.RegionEntry.{RegionEntry}
 use Rattle.vhdx_format.specs.Rules.{BrokenRule, UnknownRegion, MissingRegion, RegionPlace, NoRegionTable, SectorSize, ◌>>=◌, unless, unless_some}
-use Rattle.table_pages.proofs.Laying.{part_byte, part_len}
+use Rattle.table_pages.proofs.Laying.{part_byte}
 use Rattle.chain_model.specs.Images.{RegionBytes, metadata_of}
 
 -- ---- bytes
 
 -- a part of a longer list that has the same bytes there
 pub part_alike : (old new : List ℕ) (at n : ℕ) → at + n ≤ length old → length old ≤ length new → ((i : ℕ) → at ≤ i → i < at + n → get_or new i 0 ≡ get_or old i 0) → bytes_at new at n ≡ bytes_at old at n
-part_alike old new at n inside longer same = ext_get_or 0 _ _ (part_len new at n (omega (arith, inside, longer)) ∙ sym (part_len old at n inside)) (λ i l. byte i (omega (arith, l, part_len new at n (omega (arith, inside, longer)))))
+part_alike old new at n inside longer same = ext_get_or 0 _ _ (length-part new at n (omega (arith, inside, longer)) ∙ sym (length-part old at n inside)) (λ i l. byte i (omega (arith, l, length-part new at n (omega (arith, inside, longer)))))
   where
     byte : (i : ℕ) → i < n → get_or (bytes_at new at n) i 0 ≡ get_or (bytes_at old at n) i 0
     byte i l = part_byte new at n i l ∙ same (at + i) (omega arith) (omega (arith, l)) ∙ sym (part_byte old at n i l)
@@ -36,10 +37,6 @@ pub same_metadata : (parts : Parts) (old new : List ℕ) → bytes_at new parts.
 same_metadata parts old new e = ap (λ (z : List ℕ). (let region : RegionBytes = record { at = parts.meta_at; bytes = z } in region)) e
 
 -- ---- regions
-
-or_parts : (x y : Bool) → (x || y) ≡ false → (x ≡ false) × (y ≡ false)
-or_parts false y h = (refl, h)
-or_parts true y h = cc
 
 not_parts : (x : Bool) → not x ≡ false → x ≡ true
 not_parts true h = refl

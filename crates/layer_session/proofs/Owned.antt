@@ -5,12 +5,12 @@ use Rattle.std.specs.Prelude.{min, unwrap_or}
 use Rattle.std.proofs.lemmas.Bool.{cases_lt}
 use Rattle.std.proofs.lemmas.List.{length-append}
 use Rattle.std.proofs.Math.Nat.{mul-add}
+use Rattle.store_model.proofs.Parts.{length-part}
 use Rattle.vx_base.specs.Fields.{bytes_at}
 use Rattle.vhdx_format.specs.SectorBitmaps.{HasRunSet, bit_of, bit_value}
 use Rattle.vhdx_format.proofs.Placed.{bytes_past, bytes_within}
 use Rattle.sector_bits.proofs.BitLemmas.{is_within-above, is_within-below, is_within-true}
 use Rattle.layer_session.proofs.Sectors.{bytes_in}
-use Rattle.table_pages.proofs.Laying.{part_len}
 use Rattle.chain_model.specs.Layers as chain
 use Rattle.layer_session.specs.Calls.{AddsOwned, HasOwned}
 use Rattle.layer_session.specs.Laws.{LayersAreAdded, NoneFound, told_sector}
@@ -178,7 +178,7 @@ pub run_taken : (has : Bool) (file : List ℕ) (place z count at : ℕ) (m m' a 
     → length a ≡ z * count → place + z * count ≤ length file → b ≡ bytes_at file place (length a) → HasOwned (run_layer has file place z) z 0 count at m m' a b
 run_taken has file place z count at m m' a b e run inside long whole within is =
     let whole_is : b ≡ bytes_at file place (z * count) = is ∙ ap (bytes_at file place) whole in
-    owned_set (run_layer has file place z) z 0 count at m m' a b run inside long (ap length whole_is ∙ part_len file place (z * count) within ∙ sym whole)
+    owned_set (run_layer has file place z) z 0 count at m m' a b run inside long (ap length whole_is ∙ length-part file place (z * count) within ∙ sym whole)
     (λ i h.
     ap (run_layer has file place z) (from_zero i) ∙ ap (λ (t : Bool). if t then Some (bytes_at file (place + z * i) z) else None) e
     ∙ ap Some (sym (ap (λ x. bytes_at x (z * i) z) whole_is ∙ bytes_in file place (z * count) (z * i) z (room z i count h))))

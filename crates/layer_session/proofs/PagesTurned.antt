@@ -1,6 +1,7 @@
 -- Pages laid over a file whose metadata's region is that of one that a layer serves turn that one's.
 use Rattle.std.proofs.Common.{◌≡◌, ℕ, ◌+◌, ◌≤◌, All, List, [], length, Option, Some, refl, sym, ap, subst, ◌∙◌, arith}
 use Rattle.std.specs.Prelude.{Ok, Result}
+use Rattle.store_model.proofs.Parts.{length-part}
 use Rattle.vx_base.specs.Fields.{bytes_at}
 use Rattle.vhdx_format.specs.FileParts.{read_parts}
 use Rattle.vhdx_format.specs.MetadataTables.{read_metadata}
@@ -10,7 +11,6 @@ use Rattle.vhdx_format.specs.declared.metadata.Metadata.{Metadata}
 use Rattle.store_model.specs.File.{seen}
 use Rattle.store_model.specs.Trace.{Trace, file_of}
 use Rattle.table_pages.specs.Held.{held}
-use Rattle.table_pages.proofs.Laying.{part_len}
 use Rattle.chain_model.specs.Images.{Placed, RegionBytes, metadata_of}
 use Rattle.chain_model.specs.Members.{Ties}
 use Rattle.layer_session.specs.declared.file.Layer.{Layer}
@@ -44,7 +44,7 @@ stands_so l trace file pages serves none inside =
     let is : file.metadata ≡ metadata_of serves.parts F = subst (λ (z : List ℕ). file.metadata ≡ metadata_of serves.parts z) held_is serves.metadata in
     let numbers : read_parts serves.parts.header F ≡ Ok serves.parts = subst (λ (z : List ℕ). read_parts serves.parts.header z ≡ Ok serves.parts) held_is serves.as_held.numbers in
     let end : serves.parts.meta_at + serves.parts.meta_len ≤ length F = (are_numbers serves.parts.header F serves.parts numbers).0.metadata.within in
-    let long : length (bytes_at F serves.parts.meta_at serves.parts.meta_len) ≡ serves.parts.meta_len = part_len F serves.parts.meta_at serves.parts.meta_len end in
+    let long : length (bytes_at F serves.parts.meta_at serves.parts.meta_len) ≡ serves.parts.meta_len = length-part F serves.parts.meta_at serves.parts.meta_len end in
     record {
       inside = inside;
       within = subst (λ (r : RegionBytes). r.at + length r.bytes ≤ length F) (sym is) (omega (arith, end, long));

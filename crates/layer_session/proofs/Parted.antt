@@ -29,11 +29,6 @@ use Rattle.layer_session.proofs.Places.{in_run}
 use Rattle.layer_session.proofs.Planned.{read_again}
 use Rattle.std.proofs.lemmas.List.{length-append}
 
--- what follows of an answer that is Ok
-pub ok_then : {A B : Type 0} (result : Result (Unit {0}) StoreFault) → (A → B) → OnOk result A → OnOk result B
-ok_then (Ok x) f h = f h
-ok_then (Err fault) f h = tt
-
 module _ (parts : TableParts) (file held : List ℕ) (sizes : HasTables parts) (stored : AreStored (shape_of parts) file held) (first count : ℕ) (on_disk : first + count ≤ parts.sectors)
     (run : first * parts.sector % parts.block + count * parts.sector ≤ parts.block) where
   abbrev p : Shape

@@ -1,8 +1,9 @@
 -- Sectors are written to their places.
 use Rattle.std.proofs.Common.{◌≡◌, ℕ, suc, ◌+◌, ◌-◌, ◌*◌, ◌&&◌, ◌<◌, ◌≤◌, ◌⊎◌, ◌||◌, Bool, true, false, List, length, get_or, refl, sym, ap, subst, ◌∙◌, arith, inl, inr}
 use Rattle.std.specs.Prelude.{nat_le, nat_lt}
-use Rattle.std.proofs.lemmas.Bool.{cases_lt, cases_Bool, leb-true, or_from}
+use Rattle.std.proofs.lemmas.Bool.{cases_lt, cases_Bool, leb-true, or_from, and_parts}
 use Rattle.std.proofs.Math.Nat.{add-mul}
+use Rattle.vx_base.proofs.ByteLists.{length-overwritten}
 use Rattle.vx_base.specs.Fields.{written_over}
 use Rattle.vx_base.specs.declared.parts.Header.{Header}
 use Rattle.vhdx_format.specs.Fields.{overlaps}
@@ -13,7 +14,7 @@ use Rattle.store_model.specs.Trace.{Trace, file_of, with_change}
 use Rattle.store_model.proofs.Spans.{file_of-with_change}
 use Rattle.table_pages.specs.Held.{held}
 use Rattle.table_pages.specs.Held as tables
-use Rattle.table_pages.proofs.Laying.{length_over, min_len, over_out}
+use Rattle.table_pages.proofs.Laying.{min_len, over_out}
 use Rattle.table_pages.proofs.Words.{held_long}
 use Rattle.log_write.specs.Laws.{MayWrite}
 use Rattle.log_write.specs.Sessions.{IsKept, IsRunning, SettlesNear}
@@ -54,10 +55,6 @@ mul-positive a b h k =
     let one : a ≡ 1 + (a - 1) = omega arith in
     let e : a * b ≡ 1 * b + (a - 1) * b = ap (λ n. n * b) one ∙ add-mul 1 (a - 1) b in
     omega (arith, e)
-
-and_parts : (x y : Bool) → (x && y) ≡ true → (x ≡ true) × (y ≡ true)
-and_parts true y h = (refl, h)
-and_parts false y h = cc
 
 -- what a test of a range says
 pub within : (first count i : ℕ) → is_among first count i ≡ true → (first ≤ i) × (i < first + count)
@@ -182,7 +179,7 @@ module _ (l : Layer) (trace : Trace) (file : Placed) (serves : Serves l trace fi
       sizes = safe.sizes;
       long = safe.long;
       committed = record {
-        long = let a = serves.committed.long in omega (arith, a, length_over (seen F) bytes place inside);
+        long = let a = serves.committed.long in omega (arith, a, length-overwritten (seen F) bytes place inside);
         numbers = serves.committed.numbers;
         sound = serves.committed.sound;
         same = same;

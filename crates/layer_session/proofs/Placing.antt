@@ -21,8 +21,9 @@ use Rattle.layer_session.specs.Keeping.{HasSpace, IsNobodys, IsPlaced, Serves, a
 use Rattle.layer_session.specs.Taking.{IsUnused}
 use Rattle.layer_session.proofs.Entered.{EntersInto, Enters, entered_held, entered_serves, held_as_long, layer_by, long, sizes}
 use Rattle.layer_session.proofs.Sectors.{in_block}
-use Rattle.table_pages.proofs.Laying.{part_byte, part_len}
+use Rattle.table_pages.proofs.Laying.{part_byte}
 use Rattle.std.proofs.lemmas.List.{get_or-replicate, length-replicate}
+use Rattle.store_model.proofs.Parts.{length-part}
 use Rattle.layer_session.proofs.Entries.{IsGoodEntry, as_long, off_table, bit_beside, bitmap_beside, entry_here, holds_beside, layer_beside, set_file}
 
 pub zeros_len : (n : ℕ) → length (zeros n) ≡ n
@@ -138,8 +139,8 @@ module _ (l : Layer) (trace : Trace) (file : Placed) (serves : Serves l trace fi
           place_of = ap (place_at q new) e ∙ place_here
 
           stored : stored_sector q new s ≡ zeros q.sector
-          stored = ap (λ n. bytes_at new (n + s * q.sector % q.block) q.sector) place_of ∙ ext_get_or 0 _ _ (part_len new (range.at + s * q.sector % q.block) q.sector (omega (arith, inside_new, fit)) ∙ sym (zeros_len q.sector))
-              (λ i l. byte i (omega (arith, l, part_len new (range.at + s * q.sector % q.block) q.sector (omega (arith, inside_new, fit)))))
+          stored = ap (λ n. bytes_at new (n + s * q.sector % q.block) q.sector) place_of ∙ ext_get_or 0 _ _ (length-part new (range.at + s * q.sector % q.block) q.sector (omega (arith, inside_new, fit)) ∙ sym (zeros_len q.sector))
+              (λ i l. byte i (omega (arith, l, length-part new (range.at + s * q.sector % q.block) q.sector (omega (arith, inside_new, fit)))))
             where
               byte : (i : ℕ) → i < q.sector → get_or (bytes_at new (range.at + s * q.sector % q.block) q.sector) i 0 ≡ get_or (zeros q.sector) i 0
               byte i l =

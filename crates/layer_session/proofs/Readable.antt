@@ -1,6 +1,7 @@
 -- Tables that hold a layer can be read; and what reading them leaves of the layer.
 use Rattle.std.proofs.Common.{◌≡◌, ℕ, ◌+◌, ◌*◌, ◌%◌, ◌<◌, ◌≤◌, ◌⊎◌, true, false, List, length, get_or, Some, refl, sym, ap, subst, ◌∙◌, arith, inl, inr}
 use Rattle.std.proofs.lemmas.Bool.{cases_lt}
+use Rattle.store_model.proofs.Parts.{length-part}
 use Rattle.vx_base.specs.Fields.{bytes_at}
 use Rattle.vx_base.specs.declared.parts.Parts.{Parts}
 use Rattle.vhdx_format.specs.AllocationTables.{IsSectorSize, IsBlockSize, table_entries}
@@ -22,7 +23,6 @@ use Rattle.table_pages.specs.declared.tables.TableParts.{TableParts}
 use Rattle.table_pages.specs.declared.tables.Tables.{Tables}
 use Rattle.table_pages.proofs.Changing.{held_beside_writes}
 use Rattle.table_pages.proofs.Laying.{held_len}
-use Rattle.table_pages.proofs.Laying.{part_len}
 use Rattle.layer_session.proofs.Sectors.{in_block}
 use Rattle.chain_model.specs.Images.{Placed}
 use Rattle.chain_model.specs.Layers as chain
@@ -99,7 +99,7 @@ module _ (t : Tables) (parts : Parts) (layer : chain.Layer) (F : List ℕ) (is_h
       inside = let b = (in_file (entry_of q s) (record { at = place_at q H (entry_of q s); len = q.block }) (block_at s below there)).within in let f = fits in omega (arith, b, f, long)
 
       whole : length (bytes_at F at q.sector) ≡ q.sector
-      whole = part_len F at q.sector inside
+      whole = length-part F at q.sector inside
 
       some : 0 < q.sector
       some = by_size (sector_cases q.sector sizes.sector)

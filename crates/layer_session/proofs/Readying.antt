@@ -1,6 +1,7 @@
 -- What is planned for a block is done.
 use Rattle.std.proofs.Common.{◌≡◌, ◌≢◌, ℕ, ◌+◌, ◌-◌, ◌*◌, ◌/◌, ◌%◌, ◌^◌, ◌<◌, ◌≤◌, ◌⊎◌, ◌==◌, ◌&&◌, ◌||◌, min, Bool, true, false, length, Option, Some, refl, sym, ap, subst, ◌∙◌, arith, inl, inr, eq-eqb, if◌then◌else◌}
 use Rattle.std.proofs.lemmas.Bool.{and_parts, cases_Bool, cases_eq, eqb-true}
+use Rattle.layer_session.proofs.Leading.{keeps_now}
 use Rattle.vx_base.specs.Fields.{zeros}
 use Rattle.vhdx_format.specs.AllocationTables.{state_of, unit_of}
 use Rattle.vhdx_format.specs.Fields.{megabyte}
@@ -76,12 +77,6 @@ step_says false marked parent word = by_state (state_of word == 7) (state_of wor
     by_state false false true parent marked a b c x y z = inr (c refl)
     by_state false false false parent marked a b c x y z = (x refl, (z refl, inl (y refl)))
 
--- nothing is done
-pub quiet_now : (l : Layer) (a : Option Trace) → WhereBothTold (KeepsOver l) a a
-quiet_now l a = both_self (KeepsOver l) a (λ t told. record {
-  over = λ file serves. EachMoment-now (HasWholeImages file.number (ShowsFile file) t) t (record { images = λ image here clean. (layers_are_kept l t file serves).shows image here clean; others = λ o ne. refl });
-})
-
 module _ (l : Layer) (old : Disk) (ready : IsReady l old) (plan : Plan) (first count : ℕ) (some : 0 < count) (on_disk : first + count ≤ l.tables.parts.sectors)
     (run : first * l.tables.parts.sector % l.tables.parts.block + count * l.tables.parts.sector ≤ l.tables.parts.block)
     (todo : WhereTold old.told (λ t. (trims : Bool) × IsToDo (table_words.shape_of l.tables.parts) (held_by l t) trims first count plan)) where
@@ -122,7 +117,7 @@ module _ (l : Layer) (old : Disk) (ready : IsReady l old) (plan : Plan) (first c
       or_left true y h = cc
 
   pub quiet : WhereBothTold (KeepsOver l) old.told old.told
-  quiet = quiet_now l old.told
+  quiet = keeps_now l old.told
 
   -- where a block stands, all of it is below the greatest number
   stands : (t : Trace) → old.told ≡ Some t → (state_of plan.word ≡ 6) ⊎ (state_of plan.word ≡ 7) → unit_of plan.word * megabyte + l.tables.parts.block ≤ 2 ^ 63

@@ -1,14 +1,16 @@
 -- A place is taken for a block: the file has grown to it, or it was left before and is made zeros.
 use Rattle.std.proofs.Common.{◌≡◌, ℕ, suc, ◌+◌, ◌-◌, ◌*◌, ◌/◌, ◌^◌, ◌<◌, ◌≤◌, ◌⊎◌, ◌==◌, ◌&&◌, min, cond, Bool, true, false, List, [], ◌∷◌, ◌++◌, length, get_or, Option, Some, None, refl, sym, ap, subst, ◌∙◌, arith, inl, inr}
-use Rattle.std.proofs.lemmas.Bool.{and_parts, eqb-true, leb-true}
+use Rattle.std.proofs.lemmas.Bool.{leb-true}
 use Rattle.std.proofs.lemmas.List.{get_or_past}
 use Rattle.std.proofs.Math.Nat.{add-mul, mul-le-mul_right}
+use Rattle.vhdx_format.proofs.MadeOpen.{block_units}
+use Rattle.vx_base.proofs.ByteLists.{length-extended}
+use Rattle.block_alloc.proofs.Keeping.{is_place}
 use Rattle.vx_base.specs.Fields.{extended}
 use Rattle.vhdx_format.specs.Fields.{megabyte}
 use Rattle.vhdx_format.specs.FileParts.{shape_of}
 use Rattle.vhdx_format.specs.HeldBlocks.{Area, bitmap}
 use Rattle.vhdx_format.specs.Layers.{place_at}
-use Rattle.vhdx_format.proofs.SettledBytes.{length-extended}
 use Rattle.store_model.specs.Disk.{Disk, WhereBothTold, WhereTold, changed}
 use Rattle.store_model.specs.File.{Grow, seen}
 use Rattle.store_model.specs.Trace.{Trace, file_of, with_change}
@@ -16,6 +18,7 @@ use Rattle.store_model.proofs.Spans.{file_of-with_change}
 use Rattle.table_pages.specs.Held.{held}
 use Rattle.table_pages.proofs.Words.{held_long}
 use Rattle.block_alloc.specs.declared.freed.Freed.{Freed}
+use Rattle.log_write.specs.Sessions.{LogState}
 use Rattle.block_alloc.specs.Spaces.{IsApartFrom, Space, can_take, can_take_by, index_of, is_usable, lowest, place_by, place_for, taken, taken_by, without}
 use Rattle.block_alloc.proofs.Choosing.{index_found}
 use Rattle.chain_model.specs.Images.{Placed}
@@ -25,7 +28,6 @@ use Rattle.layer_session.specs.Keeping.{IsReady, IsTablePlace, Serves, bitmap as
 use Rattle.layer_session.specs.Steps.{held_by}
 use Rattle.layer_session.specs.Taking.{ClearsOver, HasCleared, HasTaken, HasUnused, HoldsBeside, IsPartOf, KeepsEntries}
 use Rattle.layer_session.proofs.Behind.{behind_unused}
-use Rattle.layer_session.proofs.Dropping.{whole_units}
 use Rattle.layer_session.proofs.Entered.{held_as_long}
 use Rattle.layer_session.proofs.Going.{ready_next}
 use Rattle.layer_session.proofs.Grown.{grown_byte, grown_pages, grown_serves, layer_with}
@@ -40,15 +42,6 @@ pub data TakenFrom (s space : Space) (units unit : ℕ) : Type 0 where
   at_end : unit ≡ s.next → space.next ≡ s.next + units → space.freed ≡ s.freed → s.next + units ≤ 2 ^ 43 → TakenFrom s space units unit
   left : (before after : List Freed) → s.freed ≡ before ++ (record { at = unit; units = units; committed = true } ∷ after) → space.freed ≡ before ++ after → space.next ≡ s.next → unit + units ≤ s.next
       → IsApartFrom unit units space.freed → TakenFrom s space units unit
-
-is_place : (f : Freed) (units at : ℕ) → (is_usable units f && (f.at == at)) ≡ true → f ≡ record { at = at; units = units; committed = true }
-is_place f units at e =
-    let both = and_parts (is_usable units f) (f.at == at) e in
-    let usable = and_parts f.committed (f.units == units) both.0 in
-    let a : f.at ≡ at = eqb-true f.at at both.1 in
-    let n : f.units ≡ units = eqb-true f.units units usable.1 in
-    let c : f.committed ≡ true = usable.0 in
-    λ i. record { at = a i; units = n i; committed = c i }
 
 -- the place that is taken out, and the others
 splits : (units at : ℕ) (fs : List Freed) → index_of units at fs < length fs
@@ -144,7 +137,7 @@ module _ (l : Layer) (units unit : ℕ) (space : Space) (whole : units * megabyt
         clear = λ i a b. same_byte i ∙ ap (λ z. get_or z i 0) (sym old_held)
             ∙ get_or_past (held l.tables.pending (seen (file_of t file.number))) i 0 (let x = serves.space.next in omega (arith, held_as_long l t file serves, x, at, a));
         same = keeps_entries l (layer_with l (record (l.log) { len = len }) space) t (with_change n (Grow len) t) file serves
-            (omega (arith, ap length new_held, ap length (sym old_held), held_as_long l t file serves, held_long l.tables.parts (extended (seen (file_of t file.number)) len) l.tables.pending l.tables.cache (grown_pages l t file serves len longer), length-extended len (seen (file_of t file.number))))
+            (omega (arith, ap length new_held, ap length (sym old_held), held_as_long l t file serves, held_long l.tables.parts (extended (seen (file_of t file.number)) len) l.tables.pending l.tables.cache (grown_pages l t file serves len longer), length-extended (seen (file_of t file.number)) len))
             (λ i table. same_byte i);
       }
 
@@ -191,7 +184,7 @@ module _ (l : Layer) (units unit : ℕ) (space : Space) (whole : units * megabyt
 module _ (l : Layer) (old new : Disk) (ready : IsReady l old) (units unit : ℕ) (units_are : units ≡ l.tables.parts.block / megabyte) (some : 0 < units) (space : Space) (from : TakenFrom l.space space units unit) (end : ℕ)
     (end_is : end ≡ min (unit * megabyte + l.tables.parts.block) (2 ^ 64 - 1)) where
   whole : units * megabyte ≡ l.tables.parts.block
-  whole = ap (λ n. n * megabyte) units_are ∙ whole_units l.tables.parts.block ready.readable.sizes.block
+  whole = ap (λ n. n * megabyte) units_are ∙ block_units l.tables.parts.block ready.readable.sizes.block
 
   -- ---- a growth
 
@@ -294,3 +287,21 @@ module _ (l : Layer) (old new : Disk) (ready : IsReady l old) (units unit : ℕ)
     left_holds holds =
         both_map (HoldsBeside (with_space l space) place bytes) (HoldsRest l (with_space l space) 0 0) old.told new.told holds
         (λ t u told then h. again_broken l units unit space whole some was.before was.after was.freed was.rest was.next was.apart t u (subst (λ n. HoldsBeside (with_space l space) n l.tables.parts.block t u) (here t told) (subst (λ n. HoldsBeside (with_space l space) place n t u) bytes_is h)))
+
+-- ---- a place that was taken
+
+-- it goes into an entry
+pub unit_small : (s space : Space) (units unit : ℕ) → TakenFrom s space units unit → s.next ≤ 2 ^ 44 → 0 < units → unit < 2 ^ 44
+unit_small s space units unit (at_end at next freed few) most some = omega (arith, at, few, some)
+unit_small s space units unit (left before after freed rest next within apart) most some = omega (arith, within, most, some)
+
+-- a log of another length
+pub other_len : (s x : LogState) (len : ℕ) → x ≡ record s { len = len } → x ≡ record s { len = x.len }
+other_len s x len e = subst (λ (y : LogState). y ≡ record s { len = y.len }) (sym e) refl
+
+-- nothing else of the layer is another
+pub taken_only : (l : Layer) (log : LogState) (space : Space) (units : ℕ) → log ≡ record (l.log) { len = log.len } → space ≡ taken units l.space → units ≡ l.tables.parts.block / megabyte
+    → ◌≡◌ {A = Layer} (record l { log = log; space = space }) (record l { log = record (l.log) { len = log.len }; space = taken (l.tables.parts.block / megabyte) l.space })
+taken_only l log space units same is units_are =
+    let other : space ≡ taken (l.tables.parts.block / megabyte) l.space = is ∙ ap (λ n. taken n l.space) units_are in
+    λ i. record l { log = same i; space = other i }

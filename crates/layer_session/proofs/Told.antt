@@ -45,10 +45,6 @@ told_on R P Q a b p r f = told_from R P Q a b p r (λ t u e. f t u)
 
 -- ---- answers
 
-pub on_ok : {T E : Type 0} (r : Result T E) (P : Type 0) → P → OnOk r P
-on_ok (Ok x) P p = p
-on_ok (Err e) P p = tt
-
 pub on_err : {T E : Type 0} (r : Result T E) (P : Type 0) → P → OnErr r P
 on_err (Ok x) P p = tt
 on_err (Err e) P p = p

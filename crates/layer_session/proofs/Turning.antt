@@ -4,6 +4,7 @@ use Rattle.std.specs.Prelude.{Ok}
 use Rattle.std.specs.Int.{bit_at}
 use Rattle.std.proofs.lemmas.Bool.{cases_Bool, cases_eq}
 use Rattle.std.proofs.lemmas.List.{ext_get_or, get_or-drop}
+use Rattle.store_model.proofs.Parts.{length-part}
 use Rattle.vx_base.specs.Fields.{bytes_at, u64_at}
 use Rattle.vx_base.specs.declared.parts.Parts.{Parts}
 use Rattle.vhdx_format.specs.AllocationTables.{state_of, unit_of}
@@ -20,7 +21,7 @@ use Rattle.vhdx_format.specs.declared.log_entry.Page.{Page}
 use Rattle.vhdx_format.specs.declared.metadata.Metadata.{Metadata}
 use Rattle.vhdx_format.proofs.LayerLemmas.{by_state-full, sector_entries}
 use Rattle.vhdx_format.proofs.SettledBytes.{cases_named, get_or-with_updates, length-with_updates}
-use Rattle.table_pages.proofs.Laying.{part_byte, part_len}
+use Rattle.table_pages.proofs.Laying.{part_byte}
 use Rattle.chain_model.specs.Images.{RegionBytes, metadata_of}
 use Rattle.layer_session.specs.Keeping.{IsTablePlace, bitmap as bitmap_place, entries, metadata, regions}
 use Rattle.layer_session.specs.Updating.{IsInRegion, region_with}
@@ -106,7 +107,7 @@ module _ (region : RegionBytes) where
         n = length region.bytes
 
         len : length (bytes_at laid region.at (length region.bytes)) ≡ length region.bytes
-        len = part_len laid region.at (length region.bytes) (omega (arith, within, laid_len))
+        len = length-part laid region.at (length region.bytes) (omega (arith, within, laid_len))
 
         other : length (region_with region pages) ≡ length region.bytes
         other = length-with_updates (map (moved region.at) pages) region.bytes ∙ region_len pages inside
@@ -131,7 +132,7 @@ module _ (parts : Parts) (sizes : AreSizes parts) (old : List ℕ) (numbers : re
   in_file = (are_numbers parts.header old parts numbers).0.metadata.within
 
   region_long : length (bytes_at old parts.meta_at parts.meta_len) ≡ parts.meta_len
-  region_long = part_len old parts.meta_at parts.meta_len in_file
+  region_long = length-part old parts.meta_at parts.meta_len in_file
 
   within : parts.meta_at + length (bytes_at old parts.meta_at parts.meta_len) ≤ length old
   within = omega (arith, in_file, region_long)

@@ -1,6 +1,7 @@
 -- What a layer serves while pages that change its file's metadata are committed, and behind that.
 use Rattle.std.proofs.Common.{◌≡◌, ℕ, ◌+◌, ◌%◌, ◌^◌, ◌<◌, ◌≤◌, ◌⊎◌, true, false, All, List, [], length, map, get_or, refl, sym, ap, subst, ◌∙◌, arith, inl, inr}
 use Rattle.std.specs.Prelude.{Ok}
+use Rattle.store_model.proofs.Parts.{length-part}
 use Rattle.vx_base.specs.Fields.{bytes_at}
 use Rattle.vx_base.specs.declared.parts.Header.{Header}
 use Rattle.vx_base.specs.declared.parts.Parts.{Parts}
@@ -17,7 +18,6 @@ use Rattle.store_model.specs.File.{seen}
 use Rattle.store_model.specs.Trace.{Trace, file_of}
 use Rattle.table_pages.specs.Held.{AreTables, KeepsWithin, LiesIn, held}
 use Rattle.table_pages.specs.Pages.{is_kept}
-use Rattle.table_pages.proofs.Laying.{part_len}
 use Rattle.log_write.specs.Sessions.{SettlesNear, nowhere}
 use Rattle.log_write.specs.Writing.{CanCommit, CommitsAll, IsOfTables}
 use Rattle.torn_match.specs.TornMatches.{ChangesUntorn}
@@ -138,7 +138,7 @@ module _ (l : Layer) (t : Trace) (file : Placed) (serves : Serves l t file) (non
   numbers_in = (are_numbers serves.parts.header F serves.parts numbers).0
 
   page_last : (page : Page) → IsInRegion (metadata_of serves.parts F) page → page.at + 4096 ≤ serves.parts.meta_at + serves.parts.meta_len
-  page_last page p = let a = p.last in let b = part_len F serves.parts.meta_at serves.parts.meta_len numbers_in.metadata.within in omega (arith, a, b)
+  page_last page p = let a = p.last in let b = length-part F serves.parts.meta_at serves.parts.meta_len numbers_in.metadata.within in omega (arith, a, b)
 
   -- they are pages of tables
   pub pages_of_tables : All (IsOfTables serves.tables) pages

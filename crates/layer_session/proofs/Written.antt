@@ -14,7 +14,7 @@ use Rattle.store_model.specs.Trace.{Trace, file_of, with_change}
 use Rattle.store_model.proofs.Spans.{file_of-with_change}
 use Rattle.table_pages.specs.Held.{AreTables, held}
 use Rattle.table_pages.proofs.Changing.{held_beside_writes, stand_beside_writes}
-use Rattle.table_pages.proofs.Laying.{length_over, over_in, over_out, part_byte, part_len, part_same}
+use Rattle.table_pages.proofs.Laying.{over_in, over_out, part_byte, part_same}
 use Rattle.table_pages.proofs.Words.{held_long}
 use Rattle.log_write.specs.Sessions.{IsRunning}
 use Rattle.chain_model.specs.Images.{Placed, metadata_of}
@@ -32,13 +32,15 @@ use Rattle.layer_session.proofs.Payload.{images_then, inside, more, on_disk_too,
 use Rattle.layer_session.proofs.Places.{in_run}
 use Rattle.std.proofs.Math.Nat.{add-mul}
 use Rattle.std.specs.Prelude.{Ok}
+use Rattle.store_model.proofs.Parts.{length-part}
+use Rattle.vx_base.proofs.ByteLists.{length-overwritten}
 use Rattle.vhdx_format.proofs.SizeLemmas.{sector_least}
 
 -- a part of what was written
 part_over : (s bytes : List ℕ) (at k m : ℕ) → at + length bytes ≤ length s → k + m ≤ length bytes → bytes_at (written_over s at bytes) (at + k) m ≡ bytes_at bytes k m
 part_over s bytes at k m fits h =
-    ext_get_or 0 _ _ (part_len (written_over s at bytes) (at + k) m (omega (arith, length_over s bytes at fits, fits, h)) ∙ sym (part_len bytes k m h))
-    (λ i l. byte i (omega (arith, l, part_len (written_over s at bytes) (at + k) m (omega (arith, length_over s bytes at fits, fits, h)))))
+    ext_get_or 0 _ _ (length-part (written_over s at bytes) (at + k) m (omega (arith, length-overwritten s bytes at fits, fits, h)) ∙ sym (length-part bytes k m h))
+    (λ i l. byte i (omega (arith, l, length-part (written_over s at bytes) (at + k) m (omega (arith, length-overwritten s bytes at fits, fits, h)))))
   where
     byte : (i : ℕ) → i < m → get_or (bytes_at (written_over s at bytes) (at + k) m) i 0 ≡ get_or (bytes_at bytes k m) i 0
     byte i l =
@@ -89,7 +91,7 @@ module _ (l : Layer) (trace : Trace) (file : Placed) (serves : Serves l trace fi
       by_side (inr x) (inl y) = absurd (clear i t x y)
 
   same_long : length X ≡ length old
-  same_long = length_over old bytes place fits
+  same_long = length-overwritten old bytes place fits
 
   -- the tables in memory are the file's still
   tables_then : AreTables l.tables.parts X l.tables.pending l.tables.cache
@@ -124,7 +126,7 @@ module _ (l : Layer) (trace : Trace) (file : Placed) (serves : Serves l trace fi
   fits_held = omega (arith, fits, long_held)
 
   pub longer : length h ≤ length now
-  longer = omega (arith, ap length held_then, length_over h bytes place fits_held)
+  longer = omega (arith, ap length held_then, length-overwritten h bytes place fits_held)
 
   byte_out : (i : ℕ) → (i < place) ⊎ (place + length bytes ≤ i) → get_or now i 0 ≡ get_or h i 0
   byte_out i o = ap (λ (z : List ℕ). get_or z i 0) held_then ∙ over_out h bytes place i fits_held o

@@ -3,6 +3,7 @@ use Rattle.std.proofs.Common.{◌≡◌, ℕ, ◌+◌, ◌-◌, ◌*◌, ◌/◌
 use Rattle.std.proofs.Math.Nat.{add-mul}
 use Rattle.std.proofs.lemmas.Bool.{cases_Bool}
 use Rattle.std.proofs.lemmas.List.{ext_get_or, get_or-drop, get_or-take, length-take-le}
+use Rattle.store_model.proofs.Parts.{length-part}
 use Rattle.vx_base.specs.Fields.{bytes_at, zeros}
 use Rattle.vhdx_format.specs.AllocationTables.{IsSectorSize, state_of, unit_of}
 use Rattle.vhdx_format.specs.Fields.{megabyte}
@@ -15,7 +16,7 @@ use Rattle.store_model.specs.File.{seen}
 use Rattle.store_model.specs.Trace.{Trace, file_of}
 use Rattle.table_pages.specs.Held.{held}
 use Rattle.table_pages.specs.Held as table_words
-use Rattle.table_pages.proofs.Laying.{part_byte, part_len}
+use Rattle.table_pages.proofs.Laying.{part_byte}
 use Rattle.chain_model.specs.Images.{Placed}
 use Rattle.chain_model.specs.Layers as chain
 use Rattle.layer_session.specs.declared.file.Layer.{Layer}
@@ -60,8 +61,8 @@ zero_bytes z first count bytes whole all layer s = by_name (cases_Bool (is_among
         let split : z * count ≡ z * j + z + (count - (j + 1)) * z = mul_comm z count ∙ ap (λ n. n * z) (let e : count ≡ j + 1 + (count - (j + 1)) = omega (arith, from, to) in e) ∙ add-mul (j + 1) (count - (j + 1)) z
         ∙ ap (λ n. n + (count - (j + 1)) * z) (add-mul j 1 z ∙ (let e : j * z + 1 * z ≡ z * j + z = let c = mul_comm j z in omega (arith, c) in e)) in
         let fits : z * j + z ≤ length bytes = omega (arith, whole, split) in
-        ext_get_or 0 _ _ (part_len bytes (z * j) z fits ∙ sym (zeros_len z))
-        (λ i l. let b : i < z = omega (arith, l, part_len bytes (z * j) z fits) in part_byte bytes (z * j) z i b ∙ all (z * j + i) (omega (arith, b, fits)) ∙ sym (zero_at z i b))
+        ext_get_or 0 _ _ (length-part bytes (z * j) z fits ∙ sym (zeros_len z))
+        (λ i l. let b : i < z = omega (arith, l, length-part bytes (z * j) z fits) in part_byte bytes (z * j) z i b ∙ all (z * j + i) (omega (arith, b, fits)) ∙ sym (zero_at z i b))
 
     by_name : (is_among first count s ≡ true) ⊎ (is_among first count s ≡ false) → with_bytes z first count bytes layer s ≡ with_zeros z first count layer s
     by_name (inr off) = bytes_off z first count bytes layer s off ∙ sym (zeros_off z first count layer s off)
@@ -102,8 +103,8 @@ bytes_join z first len count fits bytes front back whole front_is back_is layer 
         let fit : z * (s - first) + z ≤ z * len = row_len (s - first) (omega (arith, from, to)) in
         let fit_all : z * len ≤ z * count = mul-le_left fits in
         let long : length front ≡ z * len = ap length front_is ∙ length-take-le (z * len) bytes (omega (arith, whole, fit_all)) in
-        ext_get_or 0 _ _ (part_len front (z * (s - first)) z (omega (arith, long, fit)) ∙ sym (part_len bytes (z * (s - first)) z (omega (arith, whole, fit, fit_all))))
-        (λ i l. let b : i < z = omega (arith, l, part_len front (z * (s - first)) z (omega (arith, long, fit))) in
+        ext_get_or 0 _ _ (length-part front (z * (s - first)) z (omega (arith, long, fit)) ∙ sym (length-part bytes (z * (s - first)) z (omega (arith, whole, fit, fit_all))))
+        (λ i l. let b : i < z = omega (arith, l, length-part front (z * (s - first)) z (omega (arith, long, fit))) in
         part_byte front (z * (s - first)) z i b ∙ ap (λ x. get_or x (z * (s - first) + i) 0) front_is ∙ get_or-take (z * len) bytes (z * (s - first) + i) 0 (omega (arith, b, fit)) ∙ sym (part_byte bytes (z * (s - first)) z i b))
       where
         row_len : (n : ℕ) → n < len → z * n + z ≤ z * len
@@ -126,8 +127,8 @@ bytes_join z first len count fits bytes front back whole front_is back_is layer 
         mul_comm z (s - first) ∙ ap (λ k. k * z) (let e : s - first ≡ len + (s - (first + len)) = omega (arith, from) in e) ∙ add-mul len (s - (first + len)) z ∙ (let a = mul_comm len z in let b = mul_comm (s - (first + len)) z in omega (arith, a, b)) in
         let fit : z * (s - first) + z ≤ z * count = row (s - first) (omega (arith, from, to, fits)) in
         let long : length back ≡ length bytes - z * len = ap length back_is ∙ length-drop (z * len) bytes in
-        ext_get_or 0 _ _ (part_len back (z * (s - (first + len))) z (omega (arith, long, whole, fit, place)) ∙ sym (part_len bytes (z * (s - first)) z (omega (arith, whole, fit))))
-        (λ i l. let b : i < z = omega (arith, l, part_len back (z * (s - (first + len))) z (omega (arith, long, whole, fit, place))) in
+        ext_get_or 0 _ _ (length-part back (z * (s - (first + len))) z (omega (arith, long, whole, fit, place)) ∙ sym (length-part bytes (z * (s - first)) z (omega (arith, whole, fit))))
+        (λ i l. let b : i < z = omega (arith, l, length-part back (z * (s - (first + len))) z (omega (arith, long, whole, fit, place))) in
         part_byte back (z * (s - (first + len))) z i b ∙ ap (λ x. get_or x (z * (s - (first + len)) + i) 0) back_is ∙ get_or-drop (z * len) bytes (z * (s - (first + len)) + i) 0
         ∙ ap (λ n. get_or bytes n 0) (let e : z * len + (z * (s - (first + len)) + i) ≡ z * (s - first) + i = omega (arith, place) in e) ∙ sym (part_byte bytes (z * (s - first)) z i b))
 

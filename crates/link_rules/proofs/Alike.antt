@@ -19,8 +19,7 @@ use Rattle.link_rules.specs.Folders.{AllIdle, Contents, contents}
 use Rattle.link_rules.specs.Laws.{ImagesOpenAlike, at_rest_all}
 use Rattle.link_rules.specs.Touches.{AreSafe, IsOnWay, IsSafeFile, touched, untouched}
 use Rattle.link_rules.proofs.Composing.{alike_itself}
-use Rattle.link_rules.proofs.Lent.{rest_idle}
-use Rattle.link_rules.proofs.Safe.{own_name}
+use Rattle.link_rules.proofs.Lent.{rest_idle, same_name}
 
 -- a file that opens as one that had these bytes
 pub record AlikeIn (more : Files) (name bytes : List ℕ) : Type 0 where
@@ -44,7 +43,7 @@ module _ (may : List ℕ → Type 0) (name bytes : List ℕ) (long : may name �
       let same : before ≡ first = same_Some before first (sym had ∙ first_is) in
       let is : seen before ≡ bytes = ap seen same ∙ seen_is in
       subst (λ b. OpensAlike b image) is
-      (images (subst IsLongEnough (sym is) (long (subst may (own_name held.name name e) m))) image (subst (λ f. IsFileImage f image) (sym (same_Some after g g_is)) here))
+      (images (subst IsLongEnough (sym is) (long (subst may (same_name held.name name e) m))) image (subst (λ f. IsFileImage f image) (sym (same_Some after g g_is)) here))
 
   image_alike : (folder now : List Held) (image : List NamedBytes) → AllIdle folder → AreSafe may folder now → IsFolderImage now image → contents folder name ≡ Some bytes → AlikeIn (files_in image) name bytes
   image_alike [] now image idle safe is had = absurd (none-some bytes had)
@@ -74,7 +73,7 @@ module _ (may : List ℕ → Type 0) (name bytes : List ℕ) (long : may name �
 
 -- ---- members of a chain
 
-file_opened : (bytes : List ℕ) (parts : Parts) → Opens bytes (Ok parts) → OpensFile bytes (Ok parts)
+pub file_opened : (bytes : List ℕ) (parts : Parts) → Opens bytes (Ok parts) → OpensFile bytes (Ok parts)
 file_opened bytes parts (opened _ h) = h
 
 pub parts_alike : (bytes now held : List ℕ) (parts : Parts) → OpensAlike bytes now → HasParts (at_rest bytes) held parts → HasParts (at_rest now) held parts

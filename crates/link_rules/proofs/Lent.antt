@@ -28,10 +28,6 @@ use Rattle.store_model.specs.Folder.{KeepsStore, come_back, IsKept as IsComeBack
 use Rattle.store_model.specs.Moments.{IsHealthy, LastReturnedCounts}
 use Rattle.store_model.proofs.Throughout.{last_one, returned_none, returned_one}
 
-pub distinct : (leaf : List ℕ) → IsDistinct bytes_eq (leaf ∷ [])
-unfolding IsDistinct
-distinct leaf = (tt, tt)
-
 pub seen-attached : (leaf : List ℕ) (folder : List Held) → seen (file_of (attached_trace (leaf ∷ []) folder) 0) ≡ seen_named leaf folder
 unfolding file_of
 seen-attached leaf folder = refl

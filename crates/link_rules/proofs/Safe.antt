@@ -16,7 +16,7 @@ use Rattle.file_open.specs.Effects.{IsLongEnough, KeepsFile, KeepsMoments, Opens
 use Rattle.file_open.specs.Opening as opening
 use Rattle.link_rules.specs.Folders.{AllIdle, Lends, LendsNone}
 use Rattle.link_rules.specs.Touches.{AreSafe, IsSafeFile, TouchesSafely, touched, untouched}
-use Rattle.link_rules.proofs.Lent.{attached_same, back, lent_as, rest_idle, seen-attached, synced_attached, there_further, twice}
+use Rattle.link_rules.proofs.Lent.{attached_same, back, lent_as, rest_idle, seen-attached, synced_attached, there_further, twice, same_name}
 
 -- ---- a folder and a later one
 
@@ -59,9 +59,6 @@ module _ (P Q R : List ℕ → Type 0) (first : (name : List ℕ) → P name →
 
 -- ---- one file that is put in
 
-pub own_name : (a b : List ℕ) → bytes_eq a b ≡ true → a ≡ b
-own_name a b e = (bytes_eq-Decides a b).0 e
-
 one_safe : (leaf : List ℕ) (folder : List Held) (file : File) → AllIdle folder → has_name leaf folder ≡ true
     → (IsLongEnough (seen_named leaf folder) → (image : List ℕ) → IsFileImage file image → OpensAlike (seen_named leaf folder) image) → AreSafe (λ name. name ≡ leaf) folder (with_file leaf (Some file) folder)
 one_safe leaf [] file idle there images = tt
@@ -76,7 +73,7 @@ one_safe leaf (held ∷ folder) file idle there images = by_name (bytes_eq held.
       let seen_is : seen_named leaf (held ∷ folder) ≡ seen here.0 =
       ap (λ c. unwrap_or (option_map seen (cond c held.file (file_named leaf folder))) []) e ∙ ap (λ o. unwrap_or (option_map seen o) []) here.1 in
       subst (λ c. AreSafe (λ name. name ≡ leaf) (held ∷ folder) (cond c (record held { file = Some file } ∷ folder) (held ∷ with_file leaf (Some file) folder))) (sym e)
-      (touched here.0 file (own_name held.name leaf e) here.1 (subst Images seen_is images), safe_same (λ name. name ≡ leaf) folder)
+      (touched here.0 file (same_name held.name leaf e) here.1 (subst Images seen_is images), safe_same (λ name. name ≡ leaf) folder)
   by_name false e further =
       let seen_is : seen_named leaf (held ∷ folder) ≡ seen_named leaf folder = ap (λ c. unwrap_or (option_map seen (cond c held.file (file_named leaf folder))) []) e in
       subst (λ c. AreSafe (λ name. name ≡ leaf) (held ∷ folder) (cond c (record held { file = Some file } ∷ folder) (held ∷ with_file leaf (Some file) folder))) (sym e)

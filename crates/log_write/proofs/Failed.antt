@@ -3,13 +3,13 @@ use Rattle.std.proofs.Common.{◌≡◌, ℕ, ◌+◌, ◌-◌, ◌<◌, ◌≤�
 use Rattle.std.specs.Prelude.{⊤, Err, Ok, OnErr, Result}
 use Rattle.std.proofs.lemmas.Bool.{cases_lt}
 use Rattle.std.proofs.lemmas.List.{length-take-le}
+use Rattle.vx_base.proofs.ByteLists.{length-overwritten}
 use Rattle.store_model.specs.Bytes.{written_over}
 use Rattle.store_model.specs.Disk.{Disk, LeavesTorn, WhereBothTold, WhereTold, changed, nothing, told_after, torn}
 use Rattle.store_model.specs.File.{File, Grow, Op, Seal, Sync, Tear, Write, seen, with_op}
 use Rattle.store_model.specs.Plans.{OnlyChanges, StopsIn, at_grow, at_sync, at_write, later}
 use Rattle.store_model.specs.Trace.{Trace, file_of}
 use Rattle.store_model.specs.declared.fault.StoreFault.{StoreFault}
-use Rattle.store_model.proofs.Parts.{length-overwritten}
 use Rattle.store_model.proofs.Spans.{file_of-with_change}
 use Rattle.vhdx_format.specs.Crashes.{IsOutside}
 use Rattle.vhdx_format.specs.WrittenEntries.{IsWritableEntry}

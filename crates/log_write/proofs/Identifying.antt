@@ -2,6 +2,7 @@
 use Rattle.std.proofs.Common.{◌≡◌, ℕ, ◌+◌, ◌<◌, ◌≤◌, ◌⊎◌, Bool, true, false, not, List, length, get_or, Option, Some, None, Ok, refl, sym, ap, subst, ◌∙◌, arith, inl, inr}
 use Rattle.std.specs.Prelude.{Result, Err, OnOk, IfErr, cond, ◌==◌, ◌&&◌, ◌||◌}
 use Rattle.std.proofs.lemmas.Bool.{eqb-true}
+use Rattle.vx_base.proofs.ByteLists.{length-overwritten}
 use Rattle.vx_base.specs.Fields.{written_over}
 use Rattle.vx_base.specs.declared.parts.Header.{Header}
 use Rattle.store_model.specs.Disk.{Disk, WhereTold, WhereBothTold}
@@ -10,7 +11,6 @@ use Rattle.store_model.specs.Plans.{OnlyChanges, StopsIn, changed_all}
 use Rattle.store_model.specs.Trace.{Trace, file_of}
 use Rattle.store_model.specs.declared.fault.StoreFault.{StoreFault}
 use Rattle.store_model.proofs.Images.{images-sync}
-use Rattle.store_model.proofs.Parts.{length-overwritten}
 use Rattle.store_model.proofs.Plans.{EachPlanned, after_plan, both_of, of_told, planned_of}
 use Rattle.header_pair.specs.CopyWrites.{HoldsOldOrNew, LeavesCopy}
 use Rattle.torn_match.specs.TornMatches.{ChangesUntorn, EachUntorn}

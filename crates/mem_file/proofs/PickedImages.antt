@@ -5,8 +5,8 @@ use Rattle.std.proofs.lemmas.List.{take_all}
 use Rattle.store_model.specs.Bytes.{IsBytes, Torn, Lengthened, written_over, extended}
 use Rattle.store_model.specs.File.{Op, Write, Tear, Grow, Sync, Seal, seen_after, IsImageAfter}
 use Rattle.store_model.specs.Lawful.{is_lawful}
-use Rattle.store_model.proofs.Parts.{length-overwritten, length-extended, Torn-overwritten, Lengthened-extended}
-use Rattle.vx_base.proofs.ByteLists.{bytes-take, bytes-written_over, bytes-extended}
+use Rattle.store_model.proofs.Parts.{Torn-overwritten, Lengthened-extended}
+use Rattle.vx_base.proofs.ByteLists.{bytes-take, bytes-written_over, bytes-extended, length-overwritten, length-extended}
 use Rattle.store_model.proofs.Lawfulness.{lawful-bytes, lawful_tear, lawful_write}
 use Rattle.mem_file.specs.Picked.{is_second, takes_write, takes_growth, taken_of, picked}
 use Rattle.mem_file.specs.declared.replay.Pick.{Pick}

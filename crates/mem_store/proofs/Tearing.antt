@@ -2,13 +2,13 @@
 use Rattle.std.proofs.Common.{◌≡◌, ◌<◌, ◌≤◌, ◌∙◌, ◌/◌, ℕ, ◌+◌, List, length, take, ap, sym, subst, arith}
 use Rattle.std.specs.Prelude.{Result, Ok, Err, OnOk, OnErr}
 use Rattle.std.proofs.lemmas.List.{length-take-le, length-map}
-use Rattle.vx_base.proofs.ByteLists.{bytes-drop, bytes-take, bytes-written_over}
+use Rattle.vx_base.proofs.ByteLists.{bytes-drop, bytes-take, bytes-written_over, length-overwritten}
 use Rattle.store_model.specs.Bytes.{IsBytes, bytes_at}
 use Rattle.store_model.specs.Disk.{Disk, ChangeFailed, WriteFailed, LeavesTorn, torn, changed, told_after}
 use Rattle.store_model.specs.File.{Tear}
 use Rattle.store_model.specs.declared.fault.StoreFault.{StoreFault}
 use Rattle.store_model.proofs.Failing.{write_failed}
-use Rattle.store_model.proofs.Parts.{length-overwritten, length-part}
+use Rattle.store_model.proofs.Parts.{length-part}
 use Rattle.store_model.specs.Trace.{NamedBytes}
 use Rattle.mem_file.specs.MemFile.{Contents}
 use Rattle.mem_store.specs.MemStore.{all_contents}

@@ -6,6 +6,7 @@ use Rattle.std.proofs.Math.Nat.{add-mul, div-eq_of_lt-le}
 use Rattle.std.proofs.lemmas.Bool.{and_from, cases_lt, le-leb, lt-ltb}
 use Rattle.std.proofs.lemmas.Nat.{div-add-mod', mod_below}
 use Rattle.std.proofs.lemmas.List.{drop-append-le, drop-take, length-drop, take-append-le, take-take}
+use Rattle.vhdx_format.proofs.Placed.{bytes_within}
 use Rattle.vx_base.specs.Fields.{bytes_at}
 use Rattle.vhdx_format.specs.SectorBitmaps.{HasRunSet, bit_of, is_within}
 use Rattle.vx_base.specs.declared.parts.Geometry.{Geometry}
@@ -48,11 +49,6 @@ unfolding bytes_at
 bytes_of_first bytes m at n fits =
     ap (λ k. take n (drop at (take k bytes))) (let e : m ≡ at + (m - at) = omega (arith, fits) in e) ∙ ap (take n) (drop-take at (m - at) bytes) ∙ take-take n (m - at) (drop at bytes) (omega (arith, fits))
 
--- bytes with more behind them
-pub bytes_of_more : (bytes rest : List ℕ) (at n : ℕ) → at + n ≤ length bytes → bytes_at (bytes ++ rest) at n ≡ bytes_at bytes at n
-unfolding bytes_at
-bytes_of_more bytes rest at n fits = ap (take n) (drop-append-le at bytes rest (omega (arith, fits))) ∙ take-append-le n (drop at bytes) rest (omega (arith, length-drop at bytes, fits))
-
 -- a sector of so many lies within their bytes
 pub row_fits : (z n count : ℕ) → n < count → z * n + z ≤ z * count
 row_fits z n count l =
@@ -68,7 +64,7 @@ none_found count old new fits run i below =
 
 -- what mask and bytes tell hangs on the sectors' bytes alone
 pub told_more : (z i : ℕ) (mask bytes rest : List ℕ) → z * i + z ≤ length bytes → told_sector z 0 mask bytes i ≡ told_sector z 0 mask (bytes ++ rest) i
-told_more z i mask bytes rest fits = ap (λ b. if bit_of mask (0 + i) == 1 then Some b else None) (sym (bytes_of_more bytes rest (z * i) z fits))
+told_more z i mask bytes rest fits = ap (λ b. if bit_of mask (0 + i) == 1 then Some b else None) (sym (bytes_within bytes rest (z * i) z fits))
 
 -- ---- what is taken
 

@@ -25,14 +25,6 @@ no_more trace files number known all done so_far = sym (append-nil known) ∙ ap
 
 -- ---- a fault that is handed on
 
-pub not_ok : {T E : Type 0} (r : Result T E) (e : E) → IsErrAnd r (λ x. x ≡ e) → (P : Type 0) → OnOk r P
-not_ok (Ok x) e is P = absurd is
-not_ok (Err x) e is P = tt
-
-pub failed_for : {T E : Type 0} (r : Result T E) (e : E) → IsErrAnd r (λ x. x ≡ e) → (P : E → Type 0) → P e → IfErr r P
-failed_for (Ok x) e is P p = tt
-failed_for (Err x) e is P p = subst P (sym is) p
-
 pub not_ok_so : {T E : Type 0} (r : Result T E) → IsErr r → (P : Type 0) → OnOk r P
 not_ok_so (Ok x) is P = cc
 not_ok_so (Err x) is P = tt

@@ -1,7 +1,8 @@
 -- Pages that give another retired name turn each file that a layer serves, where its metadata are what they were built of.
 use Rattle.std.proofs.Common.{◌≡◌, ℕ, ◌+◌, ◌≤◌, List, length, replicate, get_or, Option, refl, sym, ap, subst, ◌∙◌, arith}
 use Rattle.std.proofs.lemmas.List.{length-replicate}
-use Rattle.store_model.proofs.Parts.{length-overwritten, part-overwritten}
+use Rattle.vx_base.proofs.ByteLists.{length-overwritten}
+use Rattle.store_model.proofs.Parts.{part-overwritten}
 use Rattle.store_model.specs.Trace.{Trace}
 use Rattle.vx_base.specs.Fields.{bytes_at, written_over}
 use Rattle.vx_base.specs.declared.parts.Parts.{Parts}

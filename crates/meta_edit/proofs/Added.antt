@@ -1,8 +1,9 @@
 -- A region to which an item was added is read as before, but for that item.
 use Rattle.std.proofs.Common.{◌≡◌, ℕ, ◌+◌, ◌*◌, ◌^◌, ◌<◌, ◌≤◌, ◌⊎◌, ◌==◌, ◌&&◌, ◌||◌, not, nat_lt, nat_le, Bool, true, false, cond, List, [], ◌∷◌, ◌++◌, Some, None, find, length, refl, sym, ap, subst, ◌∙◌, inl, inr, arith}
 use Rattle.std.specs.Prelude.{Result, Ok, is_ok, count_by}
-use Rattle.std.proofs.lemmas.Bool.{le-ltb, ltb-false, leb-false, ne_eqb}
-use Rattle.store_model.proofs.Parts.{part-overwritten, part-overwritten_apart, length-overwritten}
+use Rattle.std.proofs.lemmas.Bool.{le-ltb, ltb-false, leb-false, ne_eqb, or_parts}
+use Rattle.vx_base.proofs.ByteLists.{length-overwritten}
+use Rattle.store_model.proofs.Parts.{part-overwritten, part-overwritten_apart}
 use Rattle.vx_base.specs.Fields.{written_over, u16_at, u16_bytes}
 use Rattle.vhdx_format.specs.declared.metadata.Item.{Item}
 use Rattle.vhdx_format.specs.declared.metadata.Metadata.{Metadata}
@@ -11,7 +12,6 @@ use Rattle.vhdx_format.specs.Fields.{megabyte}
 use Rattle.vhdx_format.specs.Rules.{BrokenRule, ◌>>=◌}
 use Rattle.vhdx_format.specs.MetadataTables.{are_doubled, has_place, have_common_byte, is_bad_entry, is_bad_item, is_metadata_table, is_outside, is_user, known_items, metadata_entries, metadata_of, metadata_table, read_entries, read_items, read_metadata, value_of}
 use Rattle.vhdx_format.specs.Updates.{items_end, is_full_table, offset_of, with_added, with_new, with_value}
-use Rattle.vhdx_format.proofs.MetadataLaws.{none_or}
 use Rattle.metadata_table.proofs.Places.{no-bytes}
 use Rattle.meta_edit.specs.declared.ItemKind.{ItemKind}
 use Rattle.meta_edit.specs.Edits.{id_of, flags_of, is_of_kind}
@@ -186,5 +186,5 @@ module _ (kind : ItemKind) (r v : List ℕ) (bat_len : ℕ) (m : Metadata) (k : 
       by_full : (b : Bool) → is_full_table es ≡ b → cond b None (with_value r2 p v) ≡ Some out → IsReadWith kind v (length r) out bat_len m
       by_full true e h = cc
       by_full false e h =
-          let two = none_or (nat_le 2047 (length es)) (nat_le 1024 (count_by is_user es)) e in
+          let two = or_parts (nat_le 2047 (length es)) (nat_le 1024 (count_by is_user es)) e in
           by_room (omega (arith, counted, leb-false 2047 (length es) two.0)) (nat_lt (length r2) (p + length v)) refl h

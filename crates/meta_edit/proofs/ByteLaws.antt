@@ -3,7 +3,8 @@ use Rattle.std.proofs.Common.{◌≡◌, ℕ, ◌+◌, ◌-◌, ◌<◌, ◌≤�
 use Rattle.std.proofs.lemmas.Bool.{cases_lt}
 use Rattle.std.proofs.lemmas.List.{ext_get_or, get_or-take, get_or-drop, get_or_append_left, get_or-append_right, length-take-le, append-nil, take-append-drop}
 use Rattle.std.proofs.Math.Seq.{take-add, take-append_seam}
-use Rattle.store_model.proofs.Parts.{length-overwritten, length-part}
+use Rattle.vx_base.proofs.ByteLists.{length-overwritten}
+use Rattle.store_model.proofs.Parts.{length-part}
 use Rattle.vhdx_format.proofs.TextLemmas.{over_behind}
 use Rattle.vx_base.specs.Fields.{bytes_at, written_over}
 use Rattle.meta_edit.specs.Steps.{Shows}

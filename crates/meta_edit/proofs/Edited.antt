@@ -2,7 +2,7 @@
 use Rattle.std.proofs.Common.{◌≡◌, ℕ, zero, suc, ◌+◌, ◌<◌, ◌≤◌, ◌⊎◌, ◌==◌, ◌&&◌, ◌||◌, not, nat_lt, max, Bool, true, false, cond, List, [], ◌∷◌, map, Some, find, length, refl, sym, ap, ◌∙◌, inl, inr, arith}
 use Rattle.std.specs.Prelude.{Result, Ok, is_ok, fold}
 use Rattle.std.specs.Str.{bytes_eq}
-use Rattle.std.proofs.lemmas.Bool.{eqb-true, ltb-false}
+use Rattle.std.proofs.lemmas.Bool.{eqb-true, ltb-false, or_parts, and_parts}
 use Rattle.std.proofs.lemmas.Slice.Eq.{bytes_eq-Decides}
 use Rattle.store_model.proofs.Parts.{part-overwritten_apart}
 use Rattle.vx_base.specs.Fields.{written_over, u16_at}
@@ -15,7 +15,6 @@ use Rattle.vhdx_format.specs.Rules.{BrokenRule, ◌>>=◌}
 use Rattle.vhdx_format.specs.MetadataTables.{are_doubled, has_place, have_common_byte, is_bad_entry, is_bad_item, is_known_item, is_metadata_table, is_outside, is_user, item_of, known_items, metadata_entries, metadata_entries_from, metadata_entry, metadata_of, metadata_table, read_entries, read_items, read_metadata, value_of}
 use Rattle.vhdx_format.specs.Updates.{items_end, later_end}
 use Rattle.metadata_table.proofs.Places.{no-bytes}
-use Rattle.vhdx_format.proofs.MetadataLaws.{none_or}
 use Rattle.meta_edit.specs.Edits.{id_of, is_of_kind}
 use Rattle.meta_edit.specs.declared.ItemKind.{ItemKind}
 use Rattle.meta_edit.specs.declared.ItemKind.TheVariants.{Locator, Retired}
@@ -71,10 +70,6 @@ kind_known kind e s k =
     ap (λ (z : List ℕ). is_of_kind kind (made e.index z e.at e.len e.flags)) same
     ∙ known_kind kind e.index e.at e.len e.flags (ap (λ (z : List ℕ). is_known_item (made e.index z e.at e.len e.flags)) (sym same) ∙ k)
 
-both_true : (a b : Bool) → (a && b) ≡ true → (a ≡ true) × (b ≡ true)
-both_true true b h = (refl, h)
-both_true false b h = cc
-
 not_true : (b : Bool) → not b ≡ true → b ≡ false
 not_true false h = refl
 not_true true h = cc
@@ -82,16 +77,16 @@ not_true true h = cc
 -- two entries of a kind are doubled
 pub kinds_doubled : (kind : ItemKind) (e o : MetadataEntry) → is_of_kind kind e ≡ true → is_of_kind kind o ≡ true → are_doubled e o ≡ true
 kinds_doubled Locator e o h g =
-    let a = both_true (bytes_eq e.id PARENT_LOCATOR) (not (is_user e)) h in
-    let b = both_true (bytes_eq o.id PARENT_LOCATOR) (not (is_user o)) g in
+    let a = and_parts (bytes_eq e.id PARENT_LOCATOR) (not (is_user e)) h in
+    let b = and_parts (bytes_eq o.id PARENT_LOCATOR) (not (is_user o)) g in
     let same : e.id ≡ o.id = (bytes_eq-Decides e.id PARENT_LOCATOR).0 a.0 ∙ sym ((bytes_eq-Decides o.id PARENT_LOCATOR).0 b.0) in
     let alike : bytes_eq e.id o.id ≡ true = (bytes_eq-Decides e.id o.id).1 same in
     let u : is_user e ≡ false = not_true (is_user e) a.1 in
     let w : is_user o ≡ false = not_true (is_user o) b.1 in
     rw (alike, u, w) refl
 kinds_doubled Retired e o h g =
-    let a = both_true (bytes_eq e.id RETIRED) (is_user e) h in
-    let b = both_true (bytes_eq o.id RETIRED) (is_user o) g in
+    let a = and_parts (bytes_eq e.id RETIRED) (is_user e) h in
+    let b = and_parts (bytes_eq o.id RETIRED) (is_user o) g in
     let same : e.id ≡ o.id = (bytes_eq-Decides e.id RETIRED).0 a.0 ∙ sym ((bytes_eq-Decides o.id RETIRED).0 b.0) in
     let alike : bytes_eq e.id o.id ≡ true = (bytes_eq-Decides e.id o.id).1 same in
     rw (alike, a.1, b.1) refl
@@ -102,8 +97,8 @@ one_index false true d c e = cc
 one_index false false d c e = let no : true ≡ false = sym e ∙ c in cc
 
 pub kind_id : (kind : ItemKind) (e : MetadataEntry) → is_of_kind kind e ≡ true → e.id ≡ id_of kind
-kind_id Locator e h = (bytes_eq-Decides e.id PARENT_LOCATOR).0 (both_true (bytes_eq e.id PARENT_LOCATOR) (not (is_user e)) h).0
-kind_id Retired e h = (bytes_eq-Decides e.id RETIRED).0 (both_true (bytes_eq e.id RETIRED) (is_user e) h).0
+kind_id Locator e h = (bytes_eq-Decides e.id PARENT_LOCATOR).0 (and_parts (bytes_eq e.id PARENT_LOCATOR) (not (is_user e)) h).0
+kind_id Retired e h = (bytes_eq-Decides e.id RETIRED).0 (and_parts (bytes_eq e.id RETIRED) (is_user e) h).0
 
 -- what is written to change the entry of an item and its value
 pub record IsEdited (kind : ItemKind) (r new v : List ℕ) (old : MetadataEntry) (at len : ℕ) : Type 0 where
@@ -212,7 +207,7 @@ value_apart r b p e l h = go (e.len == 0) refl
 pub lies_behind : (n : ℕ) (e : MetadataEntry) → is_outside n e ≡ false → has_place e ≡ true → (65536 ≤ e.at) × (e.at + e.len ≤ n)
 lies_behind n e h p =
     let inside : (nat_lt e.at 65536 || nat_lt n (e.at + e.len)) ≡ false = sym (ap (λ (b : Bool). b && (nat_lt e.at 65536 || nat_lt n (e.at + e.len))) p) ∙ h in
-    let two = none_or (nat_lt e.at 65536) (nat_lt n (e.at + e.len)) inside in
+    let two = or_parts (nat_lt e.at 65536) (nat_lt n (e.at + e.len)) inside in
     (ltb-false e.at 65536 two.0, ltb-false n (e.at + e.len) two.1)
 
 -- the index of what is found

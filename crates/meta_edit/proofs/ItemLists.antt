@@ -163,7 +163,7 @@ none_bad kind v items bat_len fine good = none_found (is_bad_item new bat_len) n
         same_bad (map (given (id_of kind) v) items) items bat_len x (same_needed kind v items)
         ∙ ap (is_bad_item items bat_len) r.2 ∙ one r.0 (is_of (id_of kind) r.0) refl (found_none (is_bad_item items bat_len) items r.0 good r.1)
 
-same_ok : (x m : Metadata) → (let z : Result Metadata BrokenRule = Ok x in z) ≡ Ok m → x ≡ m
+pub same_ok : (x m : Metadata) → (let z : Result Metadata BrokenRule = Ok x in z) ≡ Ok m → x ≡ m
 same_ok x m e = cc
 
 -- so the items are read

@@ -1,11 +1,11 @@
 -- A table of which one entry has another place keeps the rules.
 use Rattle.std.proofs.Common.{◌≡◌, ℕ, ◌⊎◌, ◌==◌, ◌&&◌, ◌||◌, not, nat_lt, Bool, true, false, cond, List, [], ◌∷◌, map, None, find, refl, sym, ap, ◌∙◌, inl, inr}
-use Rattle.std.proofs.lemmas.Bool.{eq-eqb, eqb-true}
+use Rattle.std.proofs.lemmas.Bool.{eq-eqb, eqb-true, or_parts}
 use Rattle.std.specs.List.{list_any}
 use Rattle.vhdx_format.specs.declared.metadata.MetadataEntry.{MetadataEntry}
 use Rattle.vhdx_format.specs.Fields.{megabyte}
 use Rattle.vhdx_format.specs.MetadataTables.{are_doubled, clashes, have_common_byte, is_bad_entry, is_outside, is_unknown_required_item}
-use Rattle.vhdx_format.proofs.MetadataLaws.{none_or, none_next}
+use Rattle.vhdx_format.proofs.MetadataLaws.{none_next}
 use Rattle.meta_edit.proofs.Slots.{placed_at}
 
 -- x is one of a list
@@ -30,7 +30,7 @@ none_found q (y ∷ ys) h = rw (h y (inl refl)) (none_found q ys (λ x i. h x (i
 any_none : {X : Type 0} (q : X → Bool) (xs : List X) (x : X) → list_any q xs ≡ false → In x xs → q x ≡ false
 unfolding In
 any_none q [] x h i = absurd i
-any_none q (y ∷ ys) x h i = go i (none_or (q y) (list_any q ys) h) (any_none q ys x)
+any_none q (y ∷ ys) x h i = go i (or_parts (q y) (list_any q ys) h) (any_none q ys x)
   where
     go : (x ≡ y) ⊎ In x ys → (q y ≡ false) × (list_any q ys ≡ false) → (list_any q ys ≡ false → In x ys → q x ≡ false) → q x ≡ false
     go (inl e) n rest = ap q e ∙ n.0
@@ -58,8 +58,8 @@ pub record IsGood (n : ℕ) (entries : List MetadataEntry) (e : MetadataEntry) :
 
 pub good_of : (n : ℕ) (entries : List MetadataEntry) (e : MetadataEntry) → is_bad_entry n entries e ≡ false → IsGood n entries e
 good_of n entries e h =
-    let a = none_or _ _ h in
-    let b = none_or _ _ a.0 in
+    let a = or_parts _ _ h in
+    let b = or_parts _ _ a.0 in
     record { short = b.0; within = b.1; alone = λ o i. any_none (clashes e) entries o a.1 i }
 
 none_of_three : (a b c : Bool) → a ≡ false → b ≡ false → c ≡ false → (a || b || c) ≡ false

@@ -20,7 +20,7 @@ use Rattle.meta_edit.specs.Edits.{id_of, flags_of, is_of_kind}
 use Rattle.meta_edit.proofs.Slots.{made}
 use Rattle.meta_edit.proofs.MoreSlots.{added}
 use Rattle.meta_edit.proofs.Listing.{In, found_none, none_found, good_of, bad_of}
-use Rattle.meta_edit.proofs.ItemLists.{SameNeeded, needed_by, parent_kept, same_bad, value_here, value_next}
+use Rattle.meta_edit.proofs.ItemLists.{SameNeeded, needed_by, parent_kept, same_bad, value_here, value_next, same_ok}
 use Rattle.meta_edit.proofs.Sound.{unless_some_ok}
 use Rattle.meta_edit.proofs.Edited.{kind_known, kind_id}
 
@@ -199,9 +199,6 @@ none_bad kind v items bat_len fine good =
     none_more (is_bad_item (items ++ item kind v ∷ []) bat_len) items (item kind v)
     (λ x i. same_bad (items ++ item kind v ∷ []) items bat_len x (same_more kind v items) ∙ found_none (is_bad_item items bat_len) items x good i)
     (same_bad (items ++ item kind v ∷ []) items bat_len (item kind v) (same_more kind v items) ∙ fine)
-
-same_ok : (x m : Metadata) → (let z : Result Metadata BrokenRule = Ok x in z) ≡ Ok m → x ≡ m
-same_ok x m e = cc
 
 -- so the items are read
 pub items_more : (kind : ItemKind) (v : List ℕ) (items : List Item) (bat_len : ℕ) (m : Metadata) → is_bad_item items bat_len (item kind v) ≡ false

@@ -3,7 +3,8 @@ use Rattle.std.proofs.Common.{◌≡◌, ℕ, zero, suc, ◌+◌, ◌*◌, ◌^�
 use Rattle.std.specs.Prelude.{codes}
 use Rattle.std.specs.Str.{bytes_eq}
 use Rattle.std.proofs.lemmas.Bool.{le-leb}
-use Rattle.store_model.proofs.Parts.{part-overwritten, length-overwritten}
+use Rattle.vx_base.proofs.ByteLists.{length-overwritten}
+use Rattle.store_model.proofs.Parts.{part-overwritten}
 use Rattle.vx_base.specs.Fields.{u16_at, guid_at, guid_bytes, bytes_at, written_over, u16_bytes, u32_bytes}
 use Rattle.vx_base.proofs.ReadBack.{swap_twice}
 use Rattle.vhdx_format.specs.declared.metadata.MetadataEntry.{MetadataEntry}
@@ -98,7 +99,7 @@ pub record HasMore (kind : ItemKind) (r new : List ℕ) (n at len : ℕ) : Type 
   pub head : is_metadata_table (metadata_table new) ≡ true
   pub entries : metadata_entries (metadata_table new) ≡ metadata_entries (metadata_table r) ++ added kind n at len ∷ []
 
-front : (x y : List ℕ) → bytes_at x 0 8 ≡ bytes_at y 0 8 → take 8 x ≡ take 8 y
+pub front : (x y : List ℕ) → bytes_at x 0 8 ≡ bytes_at y 0 8 → take 8 x ≡ take 8 y
 unfolding bytes_at
 front x y e = e
 

@@ -1,10 +1,11 @@
 -- Pages laid over a file, one after another.
 use Rattle.std.proofs.Common.{◌≡◌, ℕ, suc, ◌+◌, ◌-◌, ◌%◌, ◌<◌, ◌≤◌, ◌⊎◌, ◌==◌, ◌||◌, nat_le, Bool, true, false, cond, List, [], ◌∷◌, ◌++◌, length, drop, replicate, get_or, set, refl, sym, ◌∙◌, ap, inl, inr, arith}
 use Rattle.std.specs.Prelude.{All}
-use Rattle.std.proofs.lemmas.Bool.{cases_lt, cases_eq, eq-eqb, ne_eqb, le-leb, lt-leb}
+use Rattle.std.proofs.lemmas.Bool.{cases_lt, cases_eq, eq-eqb, ne_eqb, le-leb, lt-leb, or_parts}
 use Rattle.std.proofs.lemmas.List.{at_drop_more, at_drop_all, drop_all, append-nil}
 use Rattle.std.proofs.lemmas.List.Elements.{All-head, All-tail, All-cons, All-nil}
-use Rattle.store_model.proofs.Parts.{length-overwritten, length-part, part-overwritten, part-overwritten_apart}
+use Rattle.vx_base.proofs.ByteLists.{length-overwritten}
+use Rattle.store_model.proofs.Parts.{length-part, part-overwritten, part-overwritten_apart}
 use Rattle.vx_base.specs.Fields.{bytes_at, extended, written_over}
 use Rattle.vhdx_format.specs.SettledFiles.{with_bytes, with_updates}
 use Rattle.vhdx_format.specs.declared.log_entry.Page.{Page}
@@ -116,10 +117,6 @@ All-with_page m n (p ∷ ps) new h k = by_place (p.at == new.at) (All-with_page 
     by_place true r = All-cons (IsPageIn m n) new ps k (All-tail (IsPageIn m n) p ps h)
     by_place false r = All-cons (IsPageIn m n) p (with_page ps new) (All-head (IsPageIn m n) p ps h) r
 
-none_of : (a b : Bool) → (a || b) ≡ false → (a ≡ false) × (b ≡ false)
-none_of false b h = (refl, h)
-none_of true b h = cc
-
 -- what is written where no page lies may be written first
 over-laid_over : (m n : ℕ) (pages : List Page) (file b : List ℕ) (at : ℕ) → All (IsPageIn m n) pages → m + n ≤ length file
     → at % 4096 ≡ 0 → length b ≡ 4096 → at + 4096 ≤ length file → has_place at pages ≡ false
@@ -127,7 +124,7 @@ over-laid_over : (m n : ℕ) (pages : List Page) (file b : List ℕ) (at : ℕ) 
 unfolding laid_over has_place
 over-laid_over m n [] file b at h w a l e none = refl
 over-laid_over m n (p ∷ ps) file b at h w a l e none =
-    go (none_of (p.at == at) (has_place at ps) none) (λ f g i j. over-laid_over m n ps f b at (All-tail (IsPageIn m n) p ps h) g a l i j)
+    go (or_parts (p.at == at) (has_place at ps) none) (λ f g i j. over-laid_over m n ps f b at (All-tail (IsPageIn m n) p ps h) g a l i j)
   where
     head : IsPageIn m n p
     head = All-head (IsPageIn m n) p ps h

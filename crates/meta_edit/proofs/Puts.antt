@@ -1,10 +1,11 @@
 -- Bytes put in the region, one after another, and what is answered by them.
 use Rattle.std.proofs.Common.{◌≡◌, ℕ, ◌+◌, ◌*◌, ◌/◌, ◌<◌, ◌≤◌, List, [], ◌++◌, length, refl, sym, subst, ap, ◌∙◌, arith}
 use Rattle.std.specs.Prelude.{Option, Some, None, Result, Ok, Err, IfOk, IfErr}
+use Rattle.vx_base.proofs.ByteLists.{length-overwritten}
 use Rattle.store_model.specs.Disk.{Disk, LeavesStore}
 use Rattle.store_model.specs.File.{seen}
 use Rattle.store_model.specs.Trace.{Trace, file_of}
-use Rattle.store_model.proofs.Parts.{length-overwritten, length-part}
+use Rattle.store_model.proofs.Parts.{length-part}
 use Rattle.vx_base.specs.Fields.{u32_bytes, written_over}
 use Rattle.vhdx_format.specs.declared.log_entry.Page.{Page}
 use Rattle.vhdx_format.specs.declared.metadata.MetadataEntry.{MetadataEntry}

@@ -2,11 +2,11 @@
 use Rattle.std.proofs.Common.{◌≡◌, ℕ, ◌+◌, ◌<◌, ◌≤◌, nat_lt, Bool, true, false, List, length, refl, ap, sym, ◌∙◌, arith}
 use Rattle.std.specs.Prelude.{Option, Some, None, Err, find}
 use Rattle.std.proofs.lemmas.Bool.{lt-ltb, le-ltb}
+use Rattle.vx_base.proofs.ByteLists.{length-overwritten}
 use Rattle.store_model.specs.Disk.{Disk, LeavesBy}
 use Rattle.vx_base.specs.Fields.{written_over}
 use Rattle.vx_base.specs.declared.parts.Parts.{Parts}
 use Rattle.vx_base.specs.Fields.{u16_bytes}
-use Rattle.store_model.proofs.Parts.{length-overwritten}
 use Rattle.vhdx_format.specs.declared.metadata.MetadataEntry.{MetadataEntry}
 use Rattle.vhdx_format.specs.MetadataTables.{metadata_entries, metadata_entry_bytes, metadata_table}
 use Rattle.vhdx_format.specs.Updates.{with_value, with_added, with_new, with_item, entry_place, offset_of, updated}

@@ -2,29 +2,23 @@
 use Rattle.std.proofs.Common.{◌≡◌, ℕ, ◌≤◌, nat_le, not, ◌&&◌, Bool, true, false, cond, List, [], ◌∷◌, length, Option, Some, None, find, refl, sym, ap, ◌∙◌}
 use Rattle.std.specs.Prelude.{Result, Ok, Err, IsOk, take, codes}
 use Rattle.std.specs.Str.{bytes_eq}
-use Rattle.std.proofs.lemmas.Bool.{leb-true}
+use Rattle.std.proofs.lemmas.Bool.{leb-true, or_parts, and_parts}
+use Rattle.metadata_table.proofs.Places.{good-place}
+use Rattle.vhdx_format.proofs.FileLemmas.{unless_ok}
 use Rattle.vx_base.specs.Fields.{u16_at}
 use Rattle.vhdx_format.specs.declared.metadata.MetadataEntry.{MetadataEntry}
 use Rattle.vhdx_format.specs.Rules.{BadMetadataTable, UnknownItem, ◌>>=◌, unless, unless_some}
 use Rattle.vhdx_format.specs.MetadataTables.{is_metadata_table, is_bad_entry, is_outside, is_unknown_required_item, metadata_entries, metadata_table, known_items, read_entries, read_items, read_metadata}
-use Rattle.vhdx_format.proofs.MetadataLaws.{none_or, none_next}
+use Rattle.vhdx_format.proofs.MetadataLaws.{none_next}
 use Rattle.meta_edit.specs.Steps.{IsSoundTable}
 
 pub bound_ok : {A B E : Type 0} (r : Result A E) (f : A → Result B E) → IsOk (r >>= f) → (a : A) × (r ≡ Ok a)
 bound_ok (Ok a) f h = (a, refl)
 bound_ok (Err e) f h = cc
 
-pub unless_ok : {A E : Type 0} (b : Bool) (rule : E) (rest : Result A E) (a : A) → unless b rule rest ≡ Ok a → (b ≡ false) × (rest ≡ Ok a)
-unless_ok true rule rest a h = cc
-unless_ok false rule rest a h = (refl, h)
-
 pub unless_some_ok : {A X E : Type 0} (o : Option X) (rule : X → E) (rest : Result A E) (a : A) → unless_some o rule rest ≡ Ok a → (o ≡ None) × (rest ≡ Ok a)
 unless_some_ok None rule rest a h = (refl, h)
 unless_some_ok (Some x) rule rest a h = cc
-
-both : (a b : Bool) → (a && b) ≡ true → (a ≡ true) × (b ≡ true)
-both true b h = (refl, h)
-both false b h = cc
 
 -- a table that breaks no rule
 pub record KeepsTable (table : List ℕ) (len : ℕ) : Type 0 where
@@ -46,7 +40,7 @@ keeps_table table len es h =
     let head : is_metadata_table table ≡ true = not_not (is_metadata_table table) a.0 in
     record {
       head = head;
-      count = leb-true (u16_at table 10) 2047 (both (bytes_eq (take 8 table) (codes "metadata")) (nat_le (u16_at table 10) 2047) head).1;
+      count = leb-true (u16_at table 10) 2047 (and_parts (bytes_eq (take 8 table) (codes "metadata")) (nat_le (u16_at table 10) 2047) head).1;
       good = b.0;
       known = c.0;
     }
@@ -62,9 +56,6 @@ found_good p q (y ∷ ys) x none some =
     by_first true e h rest = let same : y ≡ x = cc in ap q (sym same) ∙ h
     by_first false e h rest = rest e
 
-good_place : (len : ℕ) (entries : List MetadataEntry) (entry : MetadataEntry) → is_bad_entry len entries entry ≡ false → is_outside len entry ≡ false
-good_place len entries entry h = (none_or _ (is_outside len entry) (none_or _ _ h).0).1
-
 pub sound_table : (region : List ℕ) (bat_len n : ℕ) → length region ≡ n → IsOk (read_metadata region bat_len) → IsSoundTable n (metadata_table region)
 unfolding read_metadata
 sound_table region bat_len n e h =
@@ -73,5 +64,5 @@ sound_table region bat_len n e h =
     record {
       count = k.count;
       placed = λ p entry found. ap (λ (z : ℕ). is_outside z entry) (sym e)
-          ∙ good_place (length region) (metadata_entries (metadata_table region)) entry (found_good p (is_bad_entry (length region) (metadata_entries (metadata_table region))) (metadata_entries (metadata_table region)) entry k.good found);
+          ∙ good-place (length region) (metadata_entries (metadata_table region)) entry (found_good p (is_bad_entry (length region) (metadata_entries (metadata_table region))) (metadata_entries (metadata_table region)) entry k.good found);
     }

@@ -2,11 +2,12 @@
 use Rattle.std.proofs.Common.{◌≡◌, ℕ, ◌+◌, ◌*◌, ◌^◌, ◌<◌, ◌≤◌, ◌⊎◌, ◌==◌, ◌&&◌, ◌||◌, not, nat_lt, nat_le, Bool, true, false, cond, List, [], ◌∷◌, ◌++◌, map, Some, None, find, length, take, is_none, refl, sym, ap, subst, ◌∙◌, inl, inr, arith}
 use Rattle.std.specs.Prelude.{Ok, codes}
 use Rattle.std.specs.Str.{bytes_eq}
-use Rattle.std.proofs.lemmas.Bool.{cases_lt, le-ltb, lt-ltb, ltb-false, leb-true, eq-eqb, ne_eqb}
-use Rattle.vhdx_format.proofs.MetadataLaws.{none_or}
+use Rattle.std.proofs.lemmas.Bool.{cases_lt, le-ltb, lt-ltb, ltb-false, leb-true, eq-eqb, ne_eqb, or_parts}
+use Rattle.meta_edit.proofs.MoreSlots.{front}
+use Rattle.vx_base.proofs.ByteLists.{length-overwritten}
 use Rattle.vhdx_format.specs.declared.metadata.Item.{Item}
 use Rattle.vhdx_format.specs.declared.metadata.Metadata.{Metadata}
-use Rattle.store_model.proofs.Parts.{part-overwritten, part-overwritten_apart, length-overwritten}
+use Rattle.store_model.proofs.Parts.{part-overwritten, part-overwritten_apart}
 use Rattle.vx_base.specs.Fields.{bytes_at, written_over, u16_at, u32_bytes}
 use Rattle.vhdx_format.specs.declared.metadata.MetadataEntry.{MetadataEntry}
 use Rattle.vhdx_format.specs.Fields.{megabyte, overlaps}
@@ -23,10 +24,6 @@ use Rattle.meta_edit.proofs.Edited.{IsEdited, found_in, place_least, place_behin
 use Rattle.meta_edit.proofs.ItemLists.{given, locator_given, retired_given}
 use Rattle.meta_edit.proofs.MoreItems.{changed, item_present}
 use Rattle.meta_edit.proofs.Sound.{KeepsTable}
-
-front : (x y : List ℕ) → bytes_at x 0 8 ≡ bytes_at y 0 8 → take 8 x ≡ take 8 y
-unfolding bytes_at
-front x y e = e
 
 -- the head of a table stays where something is written behind it
 head_same : (r b : List ℕ) (q : ℕ) → q ≤ length r → 12 ≤ q → is_metadata_table (metadata_table (written_over r q b)) ≡ is_metadata_table (metadata_table r)
@@ -203,7 +200,7 @@ entries_apart : (e o : MetadataEntry) → clashes e o ≡ false → (o.index == 
 entries_apart e o c n p q =
     let other : (e.index == o.index) ≡ false = turned o.index e.index n in
     let two : (have_common_byte e o || are_doubled e o) ≡ false = sym (ap (λ (z : Bool). not z && (have_common_byte e o || are_doubled e o)) other) ∙ c in
-    let none : have_common_byte e o ≡ false = (none_or (have_common_byte e o) (are_doubled e o) two).0 in
+    let none : have_common_byte e o ≡ false = (or_parts (have_common_byte e o) (are_doubled e o) two).0 in
     let apart : overlaps e.at e.len o.at o.len ≡ false = sym (rw (p, q) refl) ∙ none in
     none_apart e.at e.len o.at o.len apart (has_bytes e p) (has_bytes o q)
   where

@@ -8,10 +8,6 @@ use Rattle.vhdx_format.specs.Rules.{BrokenRule, Answers}
 use Rattle.metadata_table.specs.declared.MetadataRefusal.{MetadataRefusal}
 use Rattle.metadata_table.specs.Refusals.{StandsForNoRule, fault_of, of_fault, rule_of}
 
-pub handed_on : {A : Type 0} (P : Result A MetadataRefusal → Type 0) (result : Result A MetadataRefusal) (e : MetadataRefusal) → IsErr result × IsErrAnd result (λ x. x ≡ e) → P (Err e) → P result
-handed_on P (Ok x) e same h = let no = same.0 in cc
-handed_on P (Err x) e same h = subst (λ (r : MetadataRefusal). P (Err r)) (sym same.1) h
-
 pub no_rule : (fault : SealFault) → StandsForNoRule (of_fault fault)
 no_rule (Store fault) = refl
 no_rule NoRoom = refl

@@ -2,6 +2,7 @@
 use Rattle.std.proofs.Common.{◌≡◌, ◌<◌, ◌+◌, ◌/◌, ◌^◌, ◌==◌, ◌||◌, ◌⊎◌, ℕ, Bool, true, false, List, [], ◌∷◌, length, Option, Some, None, Result, Ok, Err, refl, sym, ap, ap₂, subst, ◌∙◌, arith, inl, inr}
 use Rattle.std.specs.Prelude.{IfSome, if◌then◌else◌, is_some, nat_lt}
 use Rattle.std.proofs.lemmas.Option.{same_Some}
+use Rattle.store_model.proofs.Told.{counts_join}
 use Rattle.store_model.specs.Cause.{Rose}
 use Rattle.store_model.specs.Disk.{Disk, ReadFailed}
 use Rattle.store_model.specs.Plans.{FailsToChange}
@@ -36,9 +37,6 @@ use Rattle.script_session.proofs.Telling.{same_err}
 
 pub same_told : (old new : Disk) → new ≡ old → new ≡ record old { told = new.told }
 same_told old new e = subst (λ d. d ≡ record old { told = d.told }) (sym e) refl
-
-pub told_both : (old mid new : Disk) → mid ≡ record old { told = mid.told } → new ≡ record mid { told = new.told } → new ≡ record old { told = new.told }
-told_both old mid new a b = b ∙ ap (λ (d : Disk). record d { told = new.told }) a
 
 risen : (before now : ℕ) → Rose before now → 0 < now
 risen before now r = omega (arith, r.risen)
@@ -385,10 +383,10 @@ put_rests piece old new h =
     record { whole = cause.2; same = cause.1 }
 
 both_rest : (old mid new : Session) → Rests old mid → Rests mid new → Rests old new
-both_rest old mid new a b = record { whole = b.whole; same = told_both old.disk mid.disk new.disk a.same b.same }
+both_rest old mid new a b = record { whole = b.whole; same = counts_join old.disk mid.disk new.disk a.same b.same }
 
 fault_behind : (old mid new : Session) (x : ChainRefusal) → Rests old mid → Fault mid new x → Fault old new x
-fault_behind old mid new x a (rests _ q b e) = rests x q b (told_both old.disk mid.disk new.disk a.same e)
+fault_behind old mid new x a (rests _ q b e) = rests x q b (counts_join old.disk mid.disk new.disk a.same e)
 fault_behind old mid new x a (faults _ fault f counts files b) = faults x fault f counts (files ∙ ap (λ (d : Disk). d.files) a.same) b
 
 turn_rests : (stripe : ℕ) (old new : Session) → AnswersTurn stripe (Ok tt) old new → Rests old new
@@ -544,7 +542,7 @@ module _ (t : Told) (told : List Told) (old mid new : Session) (files : mid.disk
     last = subst (λ o. IfSome o (Counts new.disk)) (sym same) h.last;
     broken = if_some new.broken (λ fault. last_fault told ≡ Some fault) (λ fault. last_fault (t ∷ told) ≡ Some fault) (λ fault e. same ∙ e) h.broken;
     unbroken = λ whole. subst (λ o. IfSome o (λ fault. fault.count ≡ new.disk.failed_reads fault.file)) (sym same) (h.unbroken whole);
-    quiet = λ none. let later = sym same ∙ none in told_both old.disk mid.disk new.disk (quiet later) (h.quiet later);
+    quiet = λ none. let later = sym same ∙ none in counts_join old.disk mid.disk new.disk (quiet later) (h.quiet later);
   }
 
   -- this one is the last that a fault refused

@@ -1,6 +1,7 @@
 -- The store's counts behind a script's session.
 use Rattle.std.proofs.Common.{◌≡◌, ◌<◌, List, Option, Some, None, Result, Ok, Err, refl, sym, ap, subst, ◌∙◌, inl}
 use Rattle.std.specs.Prelude.{IfErr, IfSome, OnOk}
+use Rattle.store_model.proofs.Told.{counts_join}
 use Rattle.store_model.specs.Disk.{Disk}
 use Rattle.store_model.specs.Plans.{FailsToChange}
 use Rattle.store_model.specs.declared.fault.StoreFault.{StoreFault}
@@ -11,7 +12,7 @@ use Rattle.script_session.specs.Faults.{Counts, CountsFaults}
 use Rattle.script_session.specs.Running.{IsEnded}
 use Rattle.script_session.specs.Told.{Told, last_fault}
 use Rattle.script_session.proofs.Content.{both_untold}
-use Rattle.script_session.proofs.Counting.{counts_change, counts_still, if_some, told_both}
+use Rattle.script_session.proofs.Counting.{counts_change, counts_still, if_some}
 
 -- by the clauses of a chain's end
 pub ended_by : {S : Type 0} (disk : S → Disk) (s : Session) (store after : S) (closed : Result (Unit {0}) StoreFault) → s.disk ≡ disk store → IfSome s.broken (λ fault. (closed ≡ Err fault) × (after ≡ store))
@@ -89,5 +90,5 @@ module _ (told : List Told) (before behind : Session) (after : Disk) (closed : R
     where
       go : Ends behind after closed → OnOk closed (after ≡ record (before.disk) { told = after.told })
       go (was_broken fault is e same) = subst (λ r. OnOk r (after ≡ record (before.disk) { told = after.told })) (sym e) tt
-      go (has_ended is e quiet) = subst (λ r. OnOk r (after ≡ record (before.disk) { told = after.told })) (sym e) (told_both before.disk behind.disk after (counts.quiet none) quiet)
+      go (has_ended is e quiet) = subst (λ r. OnOk r (after ≡ record (before.disk) { told = after.told })) (sym e) (counts_join before.disk behind.disk after (counts.quiet none) quiet)
       go (has_failed fault is e fails) = subst (λ r. OnOk r (after ≡ record (before.disk) { told = after.told })) (sym e) tt

@@ -18,8 +18,8 @@ use Rattle.layer_session.specs.Planning.{blocks_with, is_chunk_wanted, is_making
 use Rattle.layer_session.specs.Steps.{held_by, is_full}
 use Rattle.layer_session.specs.declared.file.Layer.{Layer}
 use Rattle.layer_session.proofs.Counting.{count_cons, count_none, count_same}
-use Rattle.layer_session.proofs.Dropping.{whole_units}
 use Rattle.std.proofs.lemmas.List.Sums.{count_by-le-length}
+use Rattle.vhdx_format.proofs.MadeOpen.{block_units}
 
 -- ---- how many blocks sectors lie in
 
@@ -142,7 +142,7 @@ full_is_far trims first count next leaf disk trace sizes sector few told full =
     let p : Shape = shape_of leaf.tables.parts in
     let file = held_by leaf trace in
     let units = p.block / megabyte in
-    let u : HasUnits p.block units = units_of p (block_least p.block sizes.block) (block_most p.block sizes.block) (whole_units p.block sizes.block) in
+    let u : HasUnits p.block units = units_of p (block_least p.block sizes.block) (block_most p.block sizes.block) (block_units p.block sizes.block) in
     let blocks = blocks_few p units first count u sector few in
     let past = past_limit (wanted_blocks p file trims first count) units (wanted_bitmaps p file trims first count) leaf.space (full.1 trace told) in
     let payload : wanted_blocks p file trims first count * units ≤ blocks_of p first count * units = mul-le-mul_right units (payloads_few p file trims first count) in

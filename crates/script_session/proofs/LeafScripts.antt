@@ -5,6 +5,7 @@ use Rattle.std.specs.List.{AllByRecursion}
 use Rattle.std.proofs.lemmas.Bool.{eqb-true, or_cases}
 use Rattle.std.proofs.lemmas.List.{length-take}
 use Rattle.std.proofs.lemmas.Result.{on_ok_weaker}
+use Rattle.store_model.proofs.Told.{counts_join}
 use Rattle.vx_base.specs.declared.parts.Geometry.{Geometry}
 use Rattle.vhdx_format.specs.declared.log_entry.Page.{Page}
 use Rattle.store_model.specs.declared.fault.StoreFault.{StoreFault}
@@ -31,7 +32,7 @@ use Rattle.script_session.specs.Running.{HasRunToEnd, IsEnded}
 use Rattle.script_session.specs.Told.{Told}
 use Rattle.script_session.specs.declared.session.ScriptRun.{ScriptRun}
 use Rattle.script_session.proofs.Content.{lines_untold}
-use Rattle.script_session.proofs.Counting.{lines_counted, told_both}
+use Rattle.script_session.proofs.Counting.{lines_counted}
 use Rattle.script_session.proofs.Ending.{end_counted, end_untold, last_counted, quiet_end}
 use Rattle.script_session.proofs.LeftFiles.{names_placed}
 use Rattle.script_session.proofs.LinesTold.{lines_told}
@@ -132,6 +133,6 @@ module _ (files : List LinkedFile) (before : Session) (old : Disk) (drawn now : 
         fault_is = ran.fault_is;
         counted = subst (λ o. IfSome o (Counts after)) (sym ran.fault_is) (last_counted ran.told before r.behind after run.closed counts r.ended);
         ended = end_counted ran.told before r.behind after run.closed counts r.ended some_file;
-        quiet = λ none. on_ok_weaker run.closed (λ same. told_both old before.disk after begun.begun.counts same) (quiet_end ran.told before r.behind after run.closed counts r.ended (sym ran.fault_is ∙ none));
+        quiet = λ none. on_ok_weaker run.closed (λ same. counts_join old before.disk after begun.begun.counts same) (quiet_end ran.told before r.behind after run.closed counts r.ended (sym ran.fault_is ∙ none));
         history = histories lines ran.many ran.told r.behind slot left after run.closed few empty ran.answers r.ended;
       }

@@ -1,6 +1,7 @@
 -- The marks of a merge that is under way in layers, and what fetches, puts and calls make of them.
 use Rattle.std.proofs.Common.{◌≡◌, ◌∷◌, ◌==◌, ◌||◌, ◌&&◌, ◌<◌, not, ℕ, Bool, true, Option, Some, None, Ok, refl, ap, ap₂, subst, ◌∙◌}
 use Rattle.std.specs.Prelude.{is_some}
+use Rattle.chain_core.proofs.TargetPuts.{still_none}
 use Rattle.guest_model.specs.declared.call.Call.{Call}
 use Rattle.guest_model.specs.History.{History}
 use Rattle.chain_model.specs.Images.{Placed}
@@ -75,20 +76,13 @@ none_in stripe o p is m = go p (subst (λ o. MarksIn stripe o p) is m)
     go None m = refl
     go (Some w) m = absurd m
 
-none_too : (stripe : ℕ) (o p : Option Retiring) → o ≡ None → MarksToo stripe o p → p ≡ None
-none_too stripe o p is m = go p (subst (λ o. MarksToo stripe o p) is m)
-  where
-    go : (p : Option Retiring) → MarksToo stripe None p → p ≡ None
-    go None m = refl
-    go (Some w) m = absurd m
-
 with_more : (stripe t : ℕ) (a b : ℕ → Bool) → a t ≡ b t → with_mark stripe a t ≡ with_mark stripe b t
 with_more stripe t a b e = ap (λ b. (t == stripe) || b) e
 
 pub marked_put : (l : Bool) (stripe : ℕ) (old new : Layers) (copied : ℕ → Bool) → HasMarked stripe old new (Ok tt) → IsMarkedSo old copied l → IsMarkedSo new (with_mark stripe copied) l
 marked_put _ stripe old new copied marked (below_marked u is none are) =
     let p = put_in stripe u old.merge new.merge is marked.0 in
-    below_marked p.w p.is (none_too stripe old.retiring new.retiring none marked.1) (λ t. p.marked.marks_are t ∙ with_more stripe t (marks_of u.marks) copied (are t))
+    below_marked p.w p.is (still_none stripe old.retiring new.retiring none marked.1) (λ t. p.marked.marks_are t ∙ with_more stripe t (marks_of u.marks) copied (are t))
 marked_put _ stripe old new copied marked (leaf_marked r none is are) =
     let p = put_too stripe r old.retiring new.retiring is marked.1 in
     leaf_marked p.w (none_in stripe old.merge new.merge none marked.0) p.is (λ t. p.marked.marks_are t ∙ with_more stripe t (marks_of r.marks) copied (are t))

@@ -5,6 +5,7 @@ use Rattle.std.specs.List.{AllByRecursion}
 use Rattle.std.proofs.lemmas.Bool.{eqb-true, ne_eqb, or_cases}
 use Rattle.std.proofs.lemmas.List.{length-append, length-take, map-append}
 use Rattle.std.proofs.lemmas.Result.{on_ok_weaker}
+use Rattle.store_model.proofs.Told.{counts_join}
 use Rattle.vx_base.specs.declared.parts.Geometry.{Geometry}
 use Rattle.store_model.specs.declared.fault.StoreFault.{StoreFault}
 use Rattle.store_model.specs.Disk.{Disk, WhereBothTold}
@@ -36,7 +37,7 @@ use Rattle.script_session.specs.Running.{HasRunToEnd, IsEnded}
 use Rattle.script_session.specs.Told.{Told}
 use Rattle.script_session.specs.declared.session.ScriptRun.{ScriptRun}
 use Rattle.script_session.proofs.Content.{lines_untold}
-use Rattle.script_session.proofs.Counting.{lines_counted, told_both}
+use Rattle.script_session.proofs.Counting.{lines_counted}
 use Rattle.script_session.proofs.Ending.{end_counted, end_untold, last_counted, quiet_end}
 use Rattle.script_session.proofs.LeftFiles.{all_at, names_started, number_of}
 use Rattle.script_session.proofs.LinesTold.{lines_told}
@@ -185,6 +186,6 @@ module _ (files : List LinkedFile) (name : List ℕ) (before : Session) (old : D
         fault_is = ran.fault_is;
         counted = subst (λ o. IfSome o (Counts after)) (sym ran.fault_is) (last_counted ran.told before r.behind after run.closed counts r.ended);
         ended = end_counted ran.told before r.behind after run.closed counts r.ended some_file;
-        quiet = λ none. on_ok_weaker run.closed (λ same. told_both old before.disk after begun.begun.counts same) (quiet_end ran.told before r.behind after run.closed counts r.ended (sym ran.fault_is ∙ none));
+        quiet = λ none. on_ok_weaker run.closed (λ same. counts_join old before.disk after begun.begun.counts same) (quiet_end ran.told before r.behind after run.closed counts r.ended (sym ran.fault_is ∙ none));
         history = histories lines ran.many ran.told r.behind slot left after run.closed few empty ran.answers r.ended;
       }

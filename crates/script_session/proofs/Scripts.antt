@@ -4,6 +4,7 @@ use Rattle.std.specs.Prelude.{IfSome, OnOk, is_some}
 use Rattle.std.proofs.lemmas.List.{length-take}
 use Rattle.std.proofs.lemmas.Option.{same_Some}
 use Rattle.std.proofs.lemmas.Result.{on_ok_weaker}
+use Rattle.store_model.proofs.Told.{counts_join}
 use Rattle.vx_base.specs.declared.parts.Geometry.{Geometry}
 use Rattle.vx_base.specs.declared.parts.Parts.{Parts}
 use Rattle.store_model.specs.declared.fault.StoreFault.{StoreFault}
@@ -35,7 +36,7 @@ use Rattle.script_session.specs.Running.{DrawsFor, HasHistory, HasRunScript, Has
 use Rattle.script_session.specs.Told.{Told, sector_size}
 use Rattle.script_session.specs.declared.session.ScriptRun.{ScriptRun}
 use Rattle.script_session.proofs.Content.{lines_stay, lines_untold}
-use Rattle.script_session.proofs.Counting.{lines_counted, same_told, told_both}
+use Rattle.script_session.proofs.Counting.{lines_counted, same_told}
 use Rattle.script_session.proofs.Ending.{end_counted, end_untold, last_counted, quiet_end}
 use Rattle.script_session.proofs.LinesTold.{lines_told}
 use Rattle.script_session.proofs.Telling.{both_told}
@@ -244,7 +245,7 @@ module _ (mode : Mode) (leaf : LinkedFile) (others : List LinkedFile) (before : 
         drawn = begun.draws;
         counted = subst (λ o. IfSome o (Counts after)) (sym ran.fault_is) (last_counted ran.told before r.behind after run.closed counts r.ended);
         ended = end_counted ran.told before r.behind after run.closed counts r.ended some_file;
-        quiet = λ none. on_ok_weaker run.closed (λ same. told_both old before.disk after begun.counts same) (quiet_end ran.told before r.behind after run.closed counts r.ended (sym ran.fault_is ∙ none));
+        quiet = λ none. on_ok_weaker run.closed (λ same. counts_join old before.disk after begun.counts same) (quiet_end ran.told before r.behind after run.closed counts r.ended (sym ran.fault_is ∙ none));
         history = histories lines ran.many ran.told r.behind slot left after run.closed few ran.answers r.ended;
       }
 

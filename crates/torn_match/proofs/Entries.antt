@@ -2,11 +2,12 @@
 use Rattle.std.proofs.Common.{◌≡◌, ◌<◌, ◌≤◌, ◌⊎◌, ℕ, ◌+◌, ◌-◌, ◌%◌, List, ◌∷◌, length, take, drop, refl, sym, ap, subst, ◌∙◌, arith, inl, inr, length-take, length-drop}
 use Rattle.std.proofs.lemmas.Bool.{cases_lt}
 use Rattle.std.proofs.lemmas.List.{drop-take, drop-drop, take-take}
+use Rattle.vx_base.proofs.ByteLists.{length-overwritten}
 use Rattle.store_model.specs.Bytes.{bytes_at, written_over}
 use Rattle.store_model.specs.File.{File, seen, with_op}
 use Rattle.store_model.specs.Places.{IsWrittenAfter}
 use Rattle.store_model.proofs.Images.{images-synced_after}
-use Rattle.store_model.proofs.Parts.{length-overwritten, length-part, part-overwritten_apart, part-torn}
+use Rattle.store_model.proofs.Parts.{length-part, part-overwritten_apart, part-torn}
 use Rattle.vx_base.specs.declared.parts.Header.{Header}
 use Rattle.vhdx_format.specs.Logs.{Entry, HoldsEntry, ring_bytes}
 use Rattle.vhdx_format.specs.SettledFiles.{ring_of}

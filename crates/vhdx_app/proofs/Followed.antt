@@ -35,21 +35,23 @@ use Rattle.link_rules.specs.Touches.{AreSafe, IsOnWay, TouchesSafely}
 use Rattle.link_rules.specs.Touches as way
 use Rattle.link_rules.specs.declared.linked.Linked.{Linked}
 use Rattle.link_rules.specs.declared.linked.LinkedFile.{LinkedFile}
-use Rattle.link_rules.proofs.Alike.{members_alike}
+use Rattle.link_rules.proofs.Alike.{members_alike, file_opened}
 use Rattle.link_rules.proofs.Chained.{links_are_chains}
 use Rattle.link_rules.proofs.Composing.{among_append, left_then, replayed_then, replays_keep}
 use Rattle.link_rules.proofs.OneLinking.{one_linking}
 use Rattle.link_rules.proofs.Ways.{found_way}
 use Rattle.vhdx_app.specs.Causes.{AnswersBy, of_chain}
 use Rattle.vhdx_app.specs.Starts.{StandsSo}
-use Rattle.vhdx_app.specs.Commands.{AreAnew, AreOpened, HasFollowed, HasGeometry, HasRead, IsOpened, IsRefusedRange, LeavesFollowed, LeavesFollowedBy, LeavesReadBy, OnlyAttaches}
+use Rattle.guest_model.specs.Ranges.{range_refusal}
+use Rattle.guest_model.specs.declared.refusal.ChainRefusal.{ChainRefusal as CallRefusal}
+use Rattle.vhdx_app.specs.Commands.{AreAnew, AreOpened, HasFollowed, HasGeometry, HasRead, IsOpened, LeavesFollowed, LeavesFollowedBy, LeavesReadBy, OnlyAttaches}
 use Rattle.vhdx_app.specs.Commands as code
 use Rattle.vhdx_app.specs.Dump.{Finds}
 use Rattle.vhdx_app.specs.Dump as dump
 use Rattle.shown_ids.specs.Shown.{shown}
 use Rattle.vhdx_format.proofs.FileLemmas.{stands_once}
 use Rattle.vhdx_app.specs.Making.{ShowIds, more, none}
-use Rattle.vhdx_app.specs.Refusals.{Refusal, OfChain, OutOfRange}
+use Rattle.vhdx_app.specs.Refusals.{Refusal, OfCall, OfChain}
 use Rattle.vhdx_app.proofs.Lent.{anew_safe}
 use Rattle.vhdx_app.proofs.OneAnswer.{not_two}
 
@@ -94,9 +96,6 @@ among_way files leaf (f ∷ linked) h name among = by_name (bytes_eq f.name name
 
 pub on_way : (files : Contents) (leaf : List ℕ) (linked : Linked) → Links files leaf (Ok linked) → (name : List ℕ) → is_among name (names_of linked.files) ≡ true → IsOnWay files leaf name
 on_way files leaf linked links = among_way files leaf linked.files (listed files leaf linked links)
-
-file_opened : (bytes : List ℕ) (parts : Parts) → Opens bytes (Ok parts) → OpensFile bytes (Ok parts)
-file_opened bytes parts (opening.opened _ h) = h
 
 -- after they were replayed each is as opening leaves it
 module _ (files now : Contents) (leaf : List ℕ) (opened : List (List ℕ)) (replays : Replays opened files now) where
@@ -249,24 +248,17 @@ last_once (name ∷ names) rest once = last_once names rest once.1
 -- ---- a dump
 
 module _ (f : List Held) (leaf : List ℕ) (linked : Linked) (geometry : Geometry) (links : Links (contents f) leaf (Ok linked)) (has : HasGeometry linked.files geometry) (first count : ℕ) where
-  pub range_answer : (meaning : Meaning Refusal) → IsRefusedRange geometry.sectors first count meaning → IfCause (Finds f leaf first count) (cause_in meaning)
-  range_answer _ (code.empty_range nought) = let d = has_disk (contents f) leaf linked geometry links has in dump.empty_range d.disk d.opens nought
-  range_answer _ (code.too_long most) = let d = has_disk (contents f) leaf linked geometry links has in dump.too_long d.disk d.opens most
-  range_answer _ (code.out_of_range some most past) =
+  pub range_answer : (refusal : CallRefusal) → range_refusal first count 2048 geometry.sectors ≡ Err refusal → Finds f leaf first count (Err (OfCall refusal))
+  range_answer refusal is =
       let d = has_disk (contents f) leaf linked geometry links has in
-      subst (λ n. Finds f leaf first count (Err (OutOfRange first count n))) d.sectors (dump.out_of_range d.disk d.opens some most (subst (λ n. n < first + count) (sym d.sectors) past))
+      dump.refused_range d.disk refusal d.opens (ap (λ n. range_refusal first count 2048 n) d.sectors ∙ is)
 
-  pub found_answer : (g : List Held) (opened : List (List ℕ)) (bytes : List ℕ) → Replays opened (contents f) (contents g) → 0 < count → count ≤ 2048 → first + count ≤ geometry.sectors → HasRead (contents g) linked.files first count bytes
+  pub found_answer : (g : List Held) (opened : List (List ℕ)) (bytes : List ℕ) → Replays opened (contents f) (contents g) → range_refusal first count 2048 geometry.sectors ≡ Ok tt → HasRead (contents g) linked.files first count bytes
       → Finds f leaf first count (Ok bytes)
-  found_answer g opened bytes replays some most within read =
+  found_answer g opened bytes replays given read =
       let c = links_are_chains (contents f) leaf linked links in
       subst (λ b. Finds f leaf first count (Ok b)) (sym (read_of_disk (contents f) (contents g) leaf linked opened links replays first count bytes read))
-      (dump.found (disk_of c.chain) (record { retired = c.retired; chain = c.chain; linked = c.linked; is = refl }) some most (subst (λ n. first + count ≤ n) (sym (disk_sectors c.chain linked.files geometry c.members has)) within))
-
-pub range_left : (leaf : List ℕ) (old new : Hosted) (sectors first count : ℕ) (meaning : Meaning Refusal) → IsRefusedRange sectors first count meaning → HasFollowed leaf old new → LeavesFollowedBy leaf old new meaning
-range_left leaf old new sectors first count _ (code.empty_range nought) h = h
-range_left leaf old new sectors first count _ (code.too_long most) h = h
-range_left leaf old new sectors first count _ (code.out_of_range some most past) h = h
+      (dump.found (disk_of c.chain) (record { retired = c.retired; chain = c.chain; linked = c.linked; is = refl }) (ap (λ n. range_refusal first count 2048 n) (disk_sectors c.chain linked.files geometry c.members has) ∙ given))
 
 -- the first file's geometry is the disk's, which has no more sectors than a disk may have
 pub geometry_of : (leaf : LinkedFile) (files : List LinkedFile) → BeginsWith leaf files → HasGeometry files leaf.parts.geometry

@@ -4,6 +4,7 @@ use Rattle.std.specs.Prelude.{All, IfErr, IfOk, IfSome, OnOk, not, option_map, s
 use Rattle.std.specs.Str.{bytes_eq}
 use Rattle.std.proofs.lemmas.Bool.{ne_eqb, or_left}
 use Rattle.std.proofs.lemmas.Option.{same_Some}
+use Rattle.store_model.proofs.Told.{both_from}
 use Rattle.file_open.specs.Causes.{Meaning, refuses, host_failed, store_failed, no_memory}
 use Rattle.shown_ids.specs.Shown.{shown}
 use Rattle.store_model.specs.Cause.{Rose}
@@ -130,12 +131,6 @@ module _ (files : List LinkedFile) (old new : StoreDisk) (before now : Option (L
 
 -- ---- the store comes back
 
-pub where_both : {T : Type 0} (P Q : T → T → Type 0) (a b : Option T) → ((x y : T) → P x y → Q x y) → WhereBothTold P a b → WhereBothTold Q a b
-where_both P Q None None f h = tt
-where_both P Q None (Some y) f h = absurd h
-where_both P Q (Some x) None f h = absurd h
-where_both P Q (Some x) (Some y) f h = f x y h
-
 pub both_and : {T : Type 0} (P Q R : T → T → Type 0) (a b : Option T) → ((x y : T) → P x y → Q x y → R x y) → WhereBothTold P a b → WhereBothTold Q a b → WhereBothTold R a b
 both_and P Q R None None f h k = tt
 both_and P Q R None (Some y) f h k = absurd h
@@ -153,7 +148,7 @@ changed_none (Some t) = record { attached = refl; still = λ other apart. refl }
 -- what a session that ran changes
 pub changed_run : (mode : Mode) (leaf : LinkedFile) (others : List LinkedFile) (lines : List Line) (told : List Told) (closed : Result (Unit {0}) StoreFault) (a b : Option Trace) → WhereBothTold (HaveHistory mode (leaf ∷ others) lines told closed) a b → WhereBothTold (Changed (λ n. n == 0)) a b
 changed_run mode leaf others lines told closed a b h =
-    where_both (HaveHistory mode (leaf ∷ others) lines told closed) (Changed (λ n. n == 0)) a b (λ trace now k. record { attached = attached_since trace now k.moments.since; still = λ other apart. k.still other (not_first other apart) }) h
+    both_from (HaveHistory mode (leaf ∷ others) lines told closed) (Changed (λ n. n == 0)) a b (λ trace now k. record { attached = attached_since trace now k.moments.since; still = λ other apart. k.still other (not_first other apart) }) h
 
 -- and one that didn't start
 pub changed_none_run : (leaf : LinkedFile) (others : List LinkedFile) (a b : Option Trace) → (b ≡ a) ⊎ EachOpensAlike (leaf ∷ others) a b → LeavesOthersFrom a b → WhereBothTold (Changed (λ n. n == 0)) a b

@@ -4,6 +4,7 @@ use Rattle.std.proofs.Common.{◌≡◌, ◌⊎◌, ℕ, ◌+◌, ◌<◌, Bool,
 use Rattle.std.specs.Prelude.{All, IfErr, IfOk, IfSome, OnOk, option_map, slice_index_or, string_bytes}
 use Rattle.std.proofs.lemmas.List.{length-map}
 use Rattle.std.proofs.lemmas.Option.{same_Some}
+use Rattle.store_model.proofs.Told.{both_from}
 use Rattle.file_open.specs.Causes.{Meaning, refuses, host_failed, store_failed, no_memory}
 use Rattle.store_model.specs.Disk.{Disk as StoreDisk, ReadFailed, WhereBothTold, WhereTold}
 use Rattle.store_model.specs.Plans.{FailsToChange}
@@ -50,7 +51,7 @@ use Rattle.vhdx_app.specs.declared.refusal.StepsRefusal.{StepsRefusal}
 use Rattle.vhdx_app.proofs.Back.{attached_as, bytes_there, shows_from}
 use Rattle.vhdx_app.proofs.Lent.{AreAt, IsAt, each_at}
 use Rattle.vhdx_app.proofs.MergePlaces.{leaf_named}
-use Rattle.vhdx_app.proofs.Over.{both_and, change_counts, counted_back, drive_is, if_err, if_some, on_ok, quiet_now, read_counts, rests_by_same, same_shown, stands_by, unchanged_by_same, where_both}
+use Rattle.vhdx_app.proofs.Over.{both_and, change_counts, counted_back, drive_is, if_err, if_some, on_ok, quiet_now, read_counts, rests_by_same, same_shown, stands_by, unchanged_by_same}
 use Rattle.vhdx_app.proofs.Ran.{Changed, both_told, first_leads, leads, now_told, rests, stands}
 use Rattle.vhdx_app.proofs.Sparing.{attached_since}
 
@@ -141,7 +142,7 @@ module _ (leaf : LinkedFile) (others : List LinkedFile) (name : List ℕ) where
   pub scope_changed : (changes : ℕ → Bool) (staying : List (List ℕ)) (lines : List Line) (told : List Told) (closed : Result (Unit {0}) StoreFault) (a b : Option Trace) → WhereBothTold (HasHistoryOver (scope_over changes staying) lines told closed) a b
       → WhereBothTold (Changed changes) a b
   scope_changed changes staying lines told closed a b h =
-      where_both (HasHistoryOver (scope_over changes staying) lines told closed) (Changed changes) a b (λ trace t k. record { attached = attached_since trace t k.moments.since; still = k.still }) h
+      both_from (HasHistoryOver (scope_over changes staying) lines told closed) (Changed changes) a b (λ trace t k. record { attached = attached_since trace t k.moments.since; still = k.still }) h
 
 -- ---- over a host
 

@@ -2,6 +2,7 @@
 use Rattle.std.proofs.Common.{◌≡◌, ◌⊎◌, ℕ, zero, suc, ◌+◌, ◌≤◌, Bool, true, false, List, [], ◌∷◌, ◌++◌, map, Option, Some, None, refl, sym, ap, subst, ◌∙◌, arith}
 use Rattle.std.specs.Prelude.{option_map, slice_index_or}
 use Rattle.std.proofs.lemmas.Option.{same_Some}
+use Rattle.vhdx_app.proofs.Followed.{last_once}
 use Rattle.store_model.specs.Disk.{Disk as StoreDisk, WhereBothTold, WhereTold}
 use Rattle.store_model.specs.File as stored
 use Rattle.store_model.specs.File.{is_synced, seen}
@@ -37,7 +38,7 @@ use Rattle.vhdx_app.proofs.Home.{home_of_idle}
 use Rattle.vhdx_app.proofs.Lent.{all_back, anew_contents, anew_idle, are_away, names_attached, names_in, opened_there}
 use Rattle.vhdx_app.proofs.Resting.{rest_opens}
 use Rattle.vhdx_app.proofs.Sparing.{anew_spared, still_spared}
-use Rattle.vhdx_app.proofs.Serving.{first_at, first_leads_now, first_now, idle_now, last_once_of, leads_now, opens_now, spared_at, spared_now}
+use Rattle.vhdx_app.proofs.Serving.{first_at, first_leads_now, first_now, idle_now, leads_now, opens_now, spared_at, spared_now}
 
 -- ---- what is told before and after
 
@@ -229,7 +230,7 @@ module _ (retired : List (List ℕ)) (leaf : LinkedFile) (others : List LinkedFi
           unchanged_back : t ≡ trace_of f → (name : List ℕ) → contents (given_back t rest) name ≡ contents f name
           unchanged_back same name =
               ap (λ x. contents (given_back x rest) name) same
-              ∙ anew_contents names f (given_back (trace_of f) rest) (all_back names f idle_f (last_once_of retired names once) (opened_there f (leaf ∷ others) is_chain.opened)) name
+              ∙ anew_contents names f (given_back (trace_of f) rest) (all_back names f idle_f (last_once retired names once) (opened_there f (leaf ∷ others) is_chain.opened)) name
 
       pub rests : (h : History) → ((n : ℕ) → written n ≡ true → is_synced (file_of t n) ≡ true) → EachOpens leaf.name (λ s. false) (replay sector_size (opening_disk (trace_of f) (leaf ∷ others)) h) t → Rests L h f old now
       rests h synced opens = record {
@@ -253,7 +254,7 @@ module _ (retired : List (List ℕ)) (leaf : LinkedFile) (others : List LinkedFi
 
       module _ (same : t ≡ trace_of f) where
         is_anew : AreAnew names f (given_back t rest)
-        is_anew = subst (λ x. AreAnew names f (given_back x (without names f))) (sym same) (all_back names f idle_f (last_once_of retired names once) (opened_there f (leaf ∷ others) is_chain.opened))
+        is_anew = subst (λ x. AreAnew names f (given_back x (without names f))) (sym same) (all_back names f idle_f (last_once retired names once) (opened_there f (leaf ∷ others) is_chain.opened))
 
         at_once : (k : ℕ) → k ≤ moment t → at_moment k t ≡ t
         unfolding moment

@@ -27,7 +27,7 @@ use Rattle.vhdx_app.specs.Commands.{AreOpened, placed_from}
 use Rattle.vhdx_app.specs.Crashes.{AreSpared, EachImageOpens, OpensToFirst}
 use Rattle.vhdx_app.specs.Folders.{LeadsTo, files_of}
 use Rattle.vhdx_app.proofs.Back.{placed_are, placed_in}
-use Rattle.vhdx_app.proofs.Followed.{last_in, same_members}
+use Rattle.vhdx_app.proofs.Followed.{last_in, same_members, last_once}
 use Rattle.vhdx_app.proofs.Lent.{each_at, names_attached, names_in, opened_there}
 use Rattle.vhdx_app.proofs.Reopened.{OutOf, images_link, images_relink, images_reopen}
 use Rattle.vhdx_app.proofs.Resting.{leads_at_rest, opens_at_rest}
@@ -52,10 +52,6 @@ first_once_of (name ∷ names) rest once = (apart_first names once.0, first_once
     apart_first [] h = tt
     apart_first (other ∷ some) h = (h.0, apart_first some h.1)
 
-pub last_once_of : (names rest : List (List ℕ)) → NoneTwice (names ++ rest) → NoneTwice rest
-last_once_of [] rest once = once
-last_once_of (name ∷ names) rest once = last_once_of names rest once.1
-
 same_placed : (trace : Trace) (i : ℕ) (files : List LinkedFile) → placed trace i files ≡ placed_from i files trace
 same_placed trace i [] = refl
 same_placed trace i (file ∷ files) = ap (λ rest. as_read trace i (seen (file_of trace i)) file.parts ∷ rest) (same_placed trace (i + 1) files)
@@ -69,7 +65,7 @@ module _ (retired : List (List ℕ)) (leaf : LinkedFile) (others : List LinkedFi
   old = attached_trace names folder
 
   names_once : NoneTwice names
-  names_once = last_once_of retired (names_of (leaf ∷ others)) once
+  names_once = last_once retired (names_of (leaf ∷ others)) once
 
   there : AllByRecursion (λ n. has_name n folder ≡ true) names
   there = opened_there folder (leaf ∷ others) opened

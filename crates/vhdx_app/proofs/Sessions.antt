@@ -27,6 +27,7 @@ use Rattle.link_rules.specs.Folders.{AllIdle, ReturnsHealthy, contents}
 use Rattle.link_rules.specs.declared.linked.Linked.{Linked}
 use Rattle.link_rules.specs.declared.linked.LinkedFile.{LinkedFile}
 use Rattle.link_rules.specs.declared.refusal.LinkRefusal.{LinkRefusal}
+use Rattle.guest_model.specs.declared.refusal.ChainRefusal.TheVariants.{ReadOnly, Spent}
 use Rattle.merge_plan.specs.Drawing.{drawn_ids}
 use Rattle.chain_core.specs.Starting.{BeginsHigh}
 use Rattle.script.specs.Grammar.{IsScript}
@@ -45,7 +46,7 @@ use Rattle.vhdx_app.specs.Folders.{AllHome, LeadsTo, OnlyFollows, files_of}
 use Rattle.vhdx_app.specs.Making.{ShowIds}
 use Rattle.printing.specs.Sent.{Sent, cut, whole}
 use Rattle.vhdx_app.specs.Printed.{Prints, ShowsFault, of_host, of_store}
-use Rattle.vhdx_app.specs.Refusals.{IdUnfit, IsBase, LocatorTooLarge, MetadataFull, NotInChain, OfChain, ReadOnly, Refusal, Spent}
+use Rattle.vhdx_app.specs.Refusals.{IdUnfit, IsBase, LocatorTooLarge, MetadataFull, NotInChain, OfCall, OfChain, Refusal}
 use Rattle.vhdx_app.specs.Runs.{Ends, HasMerge}
 use Rattle.vhdx_app.specs.Sessions.{DrawsOver, IsCounted, IsDroppedIn, IsFollowedTo, IsNotFollowed, JudgesDrawn, LeafIsRun, NotRunOver, RanIn, ReportsRun, Rests, RunOver, Stands, UnlessMerging, UnlessStore, is_reading, leaf_name, meaning_of_steps, mode_of, run_said, said_of}
 use Rattle.vhdx_app.specs.Sessions as code
@@ -64,8 +65,8 @@ use Rattle.vhdx_app.proofs.Followed.{has_followed, order_stopped, shown_before, 
 use Rattle.vhdx_app.proofs.Home.{StaysHome, home_followed}
 use Rattle.vhdx_app.proofs.MergePlaces.{child_in, named_among, source_in}
 use Rattle.vhdx_app.proofs.Left.{counted, followed, idle_left, stopped}
-use Rattle.vhdx_app.proofs.Said.{CountsIn}
-use Rattle.vhdx_app.proofs.Stepped.{ends_by, meant_fault, part_taken, unread_ends, unread_runs}
+use Rattle.vhdx_app.proofs.Said.{CountsIn, is_fault}
+use Rattle.vhdx_app.proofs.Stepped.{ends_by, part_taken, unread_ends, unread_runs}
 
 abbrev none_ran : Option (List ℕ) → List LinkedFile → Ran
 none_ran merge files = record { lines = []; told = []; history = []; course = begun_course merge files; broken = None }
@@ -365,7 +366,7 @@ module _ (leaf : List ℕ) (merge : Option (List ℕ)) (ro : Bool) (before now :
           by_merge : (merge : Option (List ℕ)) → UnlessMerging {R = Refusal} merge (host_failed x) P → P
           by_merge None p = p
           by_merge (Some name) p = p
-      not_rests_by (store_failed x) reports p fault memory = absurd (fault (meant_fault _ _ _ _ _ status reports))
+      not_rests_by (store_failed x) reports p fault memory = absurd (fault (is_fault _ _ _ _ _ status reports))
       not_rests_by no_memory reports {P = P} p fault memory = by_merge merge p (memory (sent_is _ _ _ _ NoMemory _ status reports fault))
         where
           by_merge : (merge : Option (List ℕ)) → UnlessMerging {R = Refusal} merge no_memory P → merge ≡ None → P
@@ -378,8 +379,8 @@ module _ (leaf : List ℕ) (merge : Option (List ℕ)) (ro : Bool) (before now :
 
         by_rule : (m : Meaning Refusal) → Reports m before.written now.written before.sink_faults now.sink_faults status → status ≡ Refused → {P : Type 0} → code.IfRule m P → P
         by_rule (refuses x) sent is p = p
-        by_rule (host_failed fault) sent is p = let e : Refused ≡ Fault = sym is ∙ meant_fault _ _ _ _ _ status sent in cc
-        by_rule (store_failed fault) sent is p = let e : Refused ≡ Fault = sym is ∙ meant_fault _ _ _ _ _ status sent in cc
+        by_rule (host_failed fault) sent is p = let e : Refused ≡ Fault = sym is ∙ is_fault _ _ _ _ _ status sent in cc
+        by_rule (store_failed fault) sent is p = let e : Refused ≡ Fault = sym is ∙ is_fault _ _ _ _ _ status sent in cc
         by_rule no_memory (whole e sent same) is p = let f : Refused ≡ NoMemory = sym is ∙ e in cc
         by_rule no_memory (cut e n sent rose) is p = let f : Refused ≡ Fault = sym is ∙ e in cc
 
@@ -408,9 +409,9 @@ module _ (leaf : List ℕ) (merge : Option (List ℕ)) (ro : Bool) (before now :
             by_refusal : (x : StepsRefusal) → code.CountsRefusal mid now.host (meaning_of_steps x) → code.HasCauseIn (mode_of ro) merge linked mid.folder before.drawn now.drawn x
                 → Reports (meaning_of_steps x) before.written now.written before.sink_faults now.sink_faults status → Prints (IsStepsText leaf merge ro before now (none_ran merge linked.files)) before now status
             by_refusal (refusal.Chain x) counts cause sent = by_meaning (meaning_of_chain x) counts (ruleless ro merge linked mid.folder before.drawn now.drawn x cause) sent
-            by_refusal (refusal.Spent number) counts cause sent = refused_by (Spent number) (refuses_by ro merge (refusal.Spent number) refl refl cause (Spent number) refl tt) sent
+            by_refusal (refusal.Spent number) counts cause sent = refused_by (OfCall (Spent number)) (refuses_by ro merge (refusal.Spent number) refl refl cause (OfCall (Spent number)) refl tt) sent
             by_refusal (refusal.IdUnfit id) counts cause sent = refused_by (IdUnfit id) (refuses_by ro merge (refusal.IdUnfit id) refl refl cause (IdUnfit id) refl tt) sent
-            by_refusal refusal.ReadOnly counts cause sent = refused_by ReadOnly (refuses_by ro merge refusal.ReadOnly refl refl cause ReadOnly refl tt) sent
+            by_refusal refusal.ReadOnly counts cause sent = refused_by (OfCall ReadOnly) (refuses_by ro merge refusal.ReadOnly refl refl cause (OfCall ReadOnly) refl tt) sent
             by_refusal (refusal.NotInChain name) counts cause sent = refused_by (NotInChain name) (refuses_by ro merge (refusal.NotInChain name) refl refl cause (NotInChain name) refl tt) sent
             by_refusal (refusal.IsBase name) counts cause sent = refused_by (IsBase name) (refuses_by ro merge (refusal.IsBase name) refl refl cause (IsBase name) refl tt) sent
             by_refusal (refusal.LocatorTooLarge len) counts cause sent = refused_by (LocatorTooLarge len) (refuses_by ro merge (refusal.LocatorTooLarge len) refl refl cause (LocatorTooLarge len) refl tt) sent
@@ -495,9 +496,9 @@ module _ (leaf : List ℕ) (merge : Option (List ℕ)) (ro : Bool) (before now :
       closed_well : {Z : Type 0} (t : Result (String Z) NoRoom) (fault : Option StoreFault) (closed : Result (Unit {0}) StoreFault) {P : Type 0} → Sent before.written now.written before.sink_faults now.sink_faults (said_of t fault closed).0 (said_of t fault closed).1 status
           → OnOk closed P → status ≢ Fault → P
       closed_well (Ok text) None (Ok done) sent p none = p
-      closed_well (Ok text) None (Err fault) sent p none = absurd (none (meant_fault _ _ _ _ _ status sent))
-      closed_well (Ok text) (Some fault) closed sent p none = absurd (none (meant_fault _ _ _ _ _ status sent))
-      closed_well (Err e) fault (Err last) sent p none = absurd (none (meant_fault _ _ _ _ _ status sent))
+      closed_well (Ok text) None (Err fault) sent p none = absurd (none (is_fault _ _ _ _ _ status sent))
+      closed_well (Ok text) (Some fault) closed sent p none = absurd (none (is_fault _ _ _ _ _ status sent))
+      closed_well (Err e) fault (Err last) sent p none = absurd (none (is_fault _ _ _ _ _ status sent))
       closed_well (Err e) (Some fault) (Ok done) sent p none = p
       closed_well (Err e) None (Ok done) sent p none = p
 

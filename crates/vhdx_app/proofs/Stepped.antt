@@ -49,11 +49,6 @@ ends_by merges before now meant status text (cut is n sent rise) rose quiet home
   idle = idle;
 }
 
--- a fault that was meant is the status
-pub meant_fault : (before after : Option (List ℕ)) (old new : ℕ) (text : List ℕ) (status : Status) → Sent before after old new Fault text status → status ≡ Fault
-meant_fault before after old new text status (whole is sent same) = is
-meant_fault before after old new text status (cut is n sent rose) = is
-
 -- ---- what was taken of the source
 
 pub where_some : (P : List ℕ → Type 0) (o : Option (List ℕ)) → IfSome o P → WhereTold o P

@@ -32,11 +32,10 @@ use Rattle.link_rules.specs.declared.linked.Linked.{Linked}
 use Rattle.link_rules.specs.declared.linked.LinkedFile.{LinkedFile}
 use Rattle.printing.specs.Answers.{fault_line}
 use Rattle.vhdx_app.specs.Causes.{meaning_of_chain}
-use Rattle.vhdx_app.specs.Dump.{read_limit}
 use Rattle.vhdx_app.specs.Making.{AddsOnly, LooksAt, MakesSafely, ShowIds}
 use Rattle.printing.specs.Sent.{Sent}
 use Rattle.vhdx_app.specs.Printed.{IsMakeText, Printed}
-use Rattle.vhdx_app.specs.Refusals.{Refusal, OfChain, EmptyRange, OutOfRange, TooLong, refusal_line}
+use Rattle.vhdx_app.specs.Refusals.{Refusal, OfChain, refusal_line}
 use Rattle.vhdx_app.specs.declared.making.ParentChain.{ParentChain}
 use Rattle.vhdx_app.specs.declared.refusal.ChainRefusal.{ChainRefusal}
 use Rattle.printing.specs.declared.status.Status.{Status}
@@ -108,12 +107,6 @@ pub data OpensParent (folder : List Held) (parent : List ℕ) : Result ParentCha
   unlinked : (refusal : chains.Refusal) → Links (contents folder) parent (Err refusal) → OpensParent folder parent (Err (OfChain refusal))
   leads : (above : ParentChain) → Links (contents folder) parent (Ok above.linked) → ShowIds (contents folder) above.linked.files above.known.items
       → OpensParent folder parent (Ok above)
-
--- what refuses a range of a disk of so many sectors
-pub data IsRefusedRange (sectors first count : ℕ) : Meaning Refusal → Type 0 where
-  empty_range : count ≡ 0 → IsRefusedRange sectors first count (refuses EmptyRange)
-  too_long : read_limit < count → IsRefusedRange sectors first count (refuses (TooLong count read_limit))
-  out_of_range : 0 < count → count ≤ read_limit → sectors < first + count → IsRefusedRange sectors first count (refuses (OutOfRange first count sectors))
 
 -- ---- files of a chain
 

@@ -15,6 +15,7 @@ use Rattle.vhdx_format.specs.Fields.{sector_size}
 use Rattle.vx_base.specs.declared.NoRoom.{NoRoom}
 use Rattle.guest_model.specs.Calls.{Disk as GuestDisk}
 use Rattle.guest_model.specs.History.{History, replay}
+use Rattle.guest_model.specs.declared.refusal.ChainRefusal.TheVariants as calls
 use Rattle.chain_model.specs.Files.{HasParts, OpensTo, at_rest}
 use Rattle.chain_model.specs.Images.{name_of}
 use Rattle.chain_model.specs.PhaseLaws.{IsNamedOnce}
@@ -98,9 +99,9 @@ IsBarredMerge ReadOnly (Some name) = ⊤
 -- what it says that a script wasn't run
 abbrev pub meaning_of_steps : StepsRefusal → Meaning Refusal
 meaning_of_steps (steps.Chain refusal) = meaning_of_chain refusal
-meaning_of_steps (steps.Spent number) = refuses (refusals.Spent number)
+meaning_of_steps (steps.Spent number) = refuses (refusals.OfCall (calls.Spent number))
 meaning_of_steps (steps.IdUnfit id) = refuses (refusals.IdUnfit id)
-meaning_of_steps steps.ReadOnly = refuses refusals.ReadOnly
+meaning_of_steps steps.ReadOnly = refuses (refusals.OfCall calls.ReadOnly)
 meaning_of_steps (steps.NotInChain name) = refuses (refusals.NotInChain name)
 meaning_of_steps (steps.IsBase name) = refuses (refusals.IsBase name)
 meaning_of_steps (steps.LocatorTooLarge len) = refuses (refusals.LocatorTooLarge len)

@@ -2,6 +2,7 @@
 use Rattle.std.specs.Prelude.{◌≡◌, ◌<◌, ◌^◌, ◌-◌, ℕ, nat_lt, Bool, true, false, if◌then◌else◌, is_some, List, [], ◌∷◌, length, Option, Some, None, Ok}
 use Rattle.std.specs.Str.{bytes_eq}
 use Rattle.store_model.specs.Disk.{WhereTold}
+use Rattle.guest_model.specs.declared.refusal.ChainRefusal.TheVariants.{ReadOnly, Spent}
 use Rattle.vhdx_format.specs.Locators.{locator_bytes}
 use Rattle.vhdx_format.specs.SettledFiles.{StandsFor}
 use Rattle.vhdx_format.specs.declared.locator.Pair.{Pair}
@@ -23,7 +24,7 @@ use Rattle.merge_plan.specs.declared.leaf_drawing.LeafMergeIds.{LeafMergeIds}
 use Rattle.chain_core.specs.LeafStarting.{spent_leaf}
 use Rattle.chain_core.specs.MergeStarting.{spent as high_number}
 use Rattle.vhdx_app.specs.Making.{ShowIds}
-use Rattle.vhdx_app.specs.Refusals.{Refusal, IdUnfit, IsBase, LocatorTooLarge, MetadataFull, NotInChain, ReadOnly, Spent}
+use Rattle.vhdx_app.specs.Refusals.{Refusal, IdUnfit, IsBase, LocatorTooLarge, MetadataFull, NotInChain, OfCall}
 use Rattle.vhdx_app.specs.Worlds.{World}
 
 -- ---- which merge
@@ -129,7 +130,7 @@ pub record JudgesMerge (leaf name : List ℕ) (before now : World) (unfit : Opti
 -- What refuses a merge of a file that isn't the leaf: the number of a header; where none does, that the file is none of the chain, or its
 -- last; then, with identifiers drawn, a locator, the metadata of a file, or an identifier.
 pub data RefusesMerge (leaf name : List ℕ) (before now : World) : Refusal → Type 0 where
-  is_spent : (number : ℕ) → LeadsAt leaf before (λ linked. high_number linked.files name ≡ Some number) → now.drawn ≡ before.drawn → RefusesMerge leaf name before now (Spent number)
+  is_spent : (number : ℕ) → LeadsAt leaf before (λ linked. high_number linked.files name ≡ Some number) → now.drawn ≡ before.drawn → RefusesMerge leaf name before now (OfCall (Spent number))
   not_in_chain : LeadsAt leaf before (λ linked. (high_number linked.files name ≡ None) × HasNone linked.files name) → now.drawn ≡ before.drawn → RefusesMerge leaf name before now (NotInChain name)
   is_base : LeadsAt leaf before (λ linked. (high_number linked.files name ≡ None) × HasLast linked.files name) → now.drawn ≡ before.drawn → RefusesMerge leaf name before now (IsBase name)
   locator_too_large : (m : MergeFiles) (ids : MergeIds) (len : ℕ) → BeginsMerge leaf name before now m ids → IsTooLong len m ids → RefusesMerge leaf name before now (LocatorTooLarge len)
@@ -175,7 +176,7 @@ pub record JudgesLeafMerge (leaf : List ℕ) (before now : World) (unfit : Optio
 
 -- What refuses a merge of the leaf: the number of a header; then, with identifiers drawn, its locator, its metadata, or an identifier.
 pub data RefusesLeafMerge (leaf : List ℕ) (before now : World) : Refusal → Type 0 where
-  leaf_spent : (number : ℕ) → LeadsAt leaf before (λ linked. spent_leaf linked.files ≡ Some number) → now.drawn ≡ before.drawn → RefusesLeafMerge leaf before now (Spent number)
+  leaf_spent : (number : ℕ) → LeadsAt leaf before (λ linked. spent_leaf linked.files ≡ Some number) → now.drawn ≡ before.drawn → RefusesLeafMerge leaf before now (OfCall (Spent number))
   link_too_large : (m : LeafFiles) (ids : LeafMergeIds) (len : ℕ) → BeginsLeafMerge leaf before now m ids → IsLinkTooLong len m ids → RefusesLeafMerge leaf before now (LocatorTooLarge len)
   leaf_full : (m : LeafFiles) (ids : LeafMergeIds) (file : List ℕ) → BeginsLeafMerge leaf before now m ids → IsLinkShort m ids
       → WhereTold before.host.folder (λ folder. IsLeafFullIn (contents folder) m ids file) → RefusesLeafMerge leaf before now (MetadataFull file)
@@ -197,8 +198,8 @@ DrawsFor leaf (Some name) false before now = IfLeaf leaf name before (JudgesLeaf
 
 -- what refuses a session over a chain; a merge where files are only read is refused before anything else is looked at
 pub data RefusesSession (leaf : List ℕ) (read_only : Bool) (before now : World) : Option (List ℕ) → Refusal → Type 0 where
-  spent : (number : ℕ) → LeadsAt leaf before (λ linked. IsSpent number linked.files) → now.drawn ≡ before.drawn → RefusesSession leaf read_only before now None (Spent number)
+  spent : (number : ℕ) → LeadsAt leaf before (λ linked. IsSpent number linked.files) → now.drawn ≡ before.drawn → RefusesSession leaf read_only before now None (OfCall (Spent number))
   id_unfit : (id : List ℕ) → DrawsForLeaf leaf before now (Some id) → RefusesSession leaf read_only before now None (IdUnfit id)
-  merge_in_reading : (name : List ℕ) → read_only ≡ true → now.drawn ≡ before.drawn → RefusesSession leaf read_only before now (Some name) ReadOnly
+  merge_in_reading : (name : List ℕ) → read_only ≡ true → now.drawn ≡ before.drawn → RefusesSession leaf read_only before now (Some name) (OfCall ReadOnly)
   refuses_merge : (name : List ℕ) (refusal : Refusal) → read_only ≡ false → IfLeaf leaf name before (RefusesLeafMerge leaf before now refusal) (RefusesMerge leaf name before now refusal)
       → RefusesSession leaf read_only before now (Some name) refusal

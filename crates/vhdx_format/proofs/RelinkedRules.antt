@@ -9,11 +9,12 @@ use Rattle.uuid.specs.Text.{braced_text, lower}
 use Rattle.vx_base.specs.Fields.{IsGuid}
 use Rattle.vx_base.specs.Names.{IsName}
 use Rattle.std.specs.Str.{IsUtf8}
+use Rattle.vhdx_format.proofs.ChildLocators.{linkage_is}
 use Rattle.vhdx_format.specs.declared.locator.Pair.{Pair}
 use Rattle.vhdx_format.specs.Fields.{is_zero_id}
 use Rattle.vhdx_format.specs.Locators.{has_key, is_linkage, is_bad_pair, linkage_id, KeepRules}
 use Rattle.vhdx_format.specs.Relinking.{with_value, has, with_behind, without, linked_twice, relinked, LocatorsKeepRules}
-use Rattle.vhdx_format.proofs.RelinkedValues.{first_link, second_link, relative, volume, absolute, path_of, apart, apart_keys, linkage_text, twice_first, links_twice, relinks, has_changed, bare, relinked_first}
+use Rattle.vhdx_format.proofs.RelinkedValues.{first_link, second_link, relative, volume, absolute, path_of, apart, apart_keys, twice_first, links_twice, relinks, has_changed, bare, relinked_first}
 
 -- ---- keys that stand once
 
@@ -202,7 +203,7 @@ appended_linked (p ∷ pairs) new fine linked = (linked.0, appended_linked pairs
 -- ---- the two changes
 
 text_links : (id : List ℕ) → IsGuid id → is_none (linkage_id (braced_text lower id)) ≡ false
-text_links id guid = ap is_none (linkage_text id guid)
+text_links id guid = ap is_none (linkage_is id guid)
 
 pub twice_keeps : (id second : List ℕ) (pairs : List Pair) → KeepRules pairs → IsGuid id → IsGuid second → is_zero_id second ≡ false → KeepRules (linked_twice id second pairs)
 twice_keeps id second pairs keeps guid other nonzero = record {

@@ -12,7 +12,7 @@ use Rattle.vhdx_format.specs.declared.locator.Pair.{Pair}
 use Rattle.vhdx_format.specs.Fields.{is_zero_id}
 use Rattle.vhdx_format.specs.Locators.{has_key, value_at, linkage, linkage_id, second_linkage, parent_path, parent_name, last_component}
 use Rattle.vhdx_format.specs.Texts.{text_units, text_of_units, name_in}
-use Rattle.vhdx_format.proofs.ChildLocators.{children_name_parents}
+use Rattle.vhdx_format.proofs.ChildLocators.{children_name_parents, linkage_is}
 use Rattle.vhdx_format.specs.Relinking.{with_value, has, with_behind, without, linked_twice, relinked, LinksTwice, Relinks, LocatorsRelink}
 
 -- ---- one identifier, one name
@@ -20,10 +20,6 @@ use Rattle.vhdx_format.specs.Relinking.{with_value, has, with_behind, without, l
 one_letter : IsName (codes "a")
 unfolding is_name
 one_letter = refl
-
-pub linkage_text : (id : List ℕ) → IsGuid id → linkage_id (braced_text lower id) ≡ Some id
-unfolding linkage value_at lib.Utf8.encode
-linkage_text id guid = (children_name_parents id (codes "a") guid one_letter (97 ∷ [], (refl, refl))).linked
 
 path_name : (id name : List ℕ) → IsGuid id → IsName name → IsUtf8 name → option_and_then (λ path. option_and_then name_in (text_of_units (last_component path))) (Some (codes ".\\" ++ text_units name)) ≡ Some name
 unfolding parent_name parent_path value_at
@@ -222,9 +218,9 @@ twice_second id second pairs h = elim (cases_Bool (has second_link pairs)) [
 pub links_twice : (id second : List ℕ) (pairs : List Pair) → is_some (value_at first_link pairs) ≡ true → IsGuid id → IsGuid second → is_zero_id second ≡ false → LinksTwice id second pairs
 unfolding linkage second_linkage parent_name parent_path
 links_twice id second pairs h guid other nonzero = record {
-  first = ap (option_and_then linkage_id) (twice_first id second pairs h) ∙ linkage_text id guid;
+  first = ap (option_and_then linkage_id) (twice_first id second pairs h) ∙ linkage_is id guid;
   other = ap (λ o. option_and_then (λ i. cond (is_zero_id i) None (Some i)) (option_and_then linkage_id o)) (twice_second id second pairs h)
-      ∙ ap (option_and_then (λ i. cond (is_zero_id i) None (Some i))) (linkage_text second other) ∙ ap (λ b. cond b None (Some second)) nonzero;
+      ∙ ap (option_and_then (λ i. cond (is_zero_id i) None (Some i))) (linkage_is second other) ∙ ap (λ b. cond b None (Some second)) nonzero;
   named =
       ap (λ o. name_by (option_or o (option_or (value_at volume (linked_twice id second pairs)) (value_at absolute (linked_twice id second pairs))))) (twice_other relative id second pairs (apart relative first_link refl) (apart relative second_link refl))
       ∙ ap (λ o. name_by (option_or (value_at relative pairs) (option_or o (value_at absolute (linked_twice id second pairs))))) (twice_other volume id second pairs (apart volume first_link refl) (apart volume second_link refl))
@@ -298,7 +294,7 @@ unfolding linkage second_linkage parent_name parent_path
 relinks id name pairs h guid is_name is_text = record {
   first = ap (option_and_then linkage_id) (relinked_other first_link id name pairs (apart first_link relative refl)
       ∙ bare_other first_link id pairs (apart first_link absolute refl) (apart first_link volume refl) (apart first_link second_link refl)
-      ∙ value_same first_link (braced_text lower id) pairs h) ∙ linkage_text id guid;
+      ∙ value_same first_link (braced_text lower id) pairs h) ∙ linkage_is id guid;
   alone = ap (λ o. option_and_then (λ i. cond (is_zero_id i) None (Some i)) (option_and_then linkage_id o)) (relinked_other second_link id name pairs (apart second_link relative refl) ∙ bare_second id pairs);
   named = ap (λ o. option_and_then (λ path. option_and_then name_in (text_of_units (last_component path))) (option_or o (option_or (value_at volume (relinked id name pairs)) (value_at absolute (relinked id name pairs)))))
       (relinked_path id name pairs) ∙ path_name id name guid is_name is_text;

@@ -4,10 +4,10 @@ use Rattle.store_model.specs.Disk.{Disk}
 use Rattle.store_model.specs.declared.fault.StoreFault.{StoreFault}
 use Rattle.std.specs.Prelude.{Result}
 use Rattle.std.proofs.Common.{subst, sym}
+use Rattle.chain_model.proofs.Showing.{all_left, all_right}
 use Rattle.layer_session.specs.FileLayers.{IsNumbered}
 use Rattle.chain_core.specs.Ending.{AreNumbered, EndsOnTold, IsInSession, SomeChangeFailed}
-use Rattle.chain_core.proofs.Ending.{all_left, beside_both, beside_last, ended_told, failed_here, failed_later, err_not_ok, failed_told, in_more, last_ready, none_left_told, rest_apart, rest_others, rest_ready, others_than, still_ready}
-use Rattle.chain_core.proofs.Steps.{all_right}
+use Rattle.chain_core.proofs.Ending.{beside_both, beside_last, ended_told, failed_here, failed_later, err_not_ok, failed_told, in_more, last_ready, none_left_told, rest_apart, rest_others, rest_ready, others_than, still_ready}
 use Rattle.chain_core.proofs.layers.+end_files.Goals as goal
 
 pub returns-in_default-clause-told : goal.returns-in_default-clause-told

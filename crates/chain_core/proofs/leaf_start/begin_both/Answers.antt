@@ -2,7 +2,7 @@ use Rattle.std.specs.Prelude.{Err, IfErr}
 use Rattle.store_model.specs.declared.fault.SealFault.{SealFault}
 use Rattle.chain_core.specs.LeafStarting.{BeginsLeafMerge, leaf_files_in}
 use Rattle.chain_core.proofs.LeafBegun.{behind_begun, behind_heir, behind_linked, begins_with, begun_stops, has_begun, heir_stops, linked_stops, no_layers, source_numbers, source_ready, target_numbers, target_ready, twice_turns}
-use Rattle.chain_core.proofs.Handing.{handed, nothing_made}
+use Rattle.vx_base.proofs.Handed.{handed, not_if_ok}
 use Rattle.chain_core.proofs.leaf_start.begin_both.Goals as goal
 
 pub begin-requires-clause-numbers : goal.begin-requires-clause-numbers
@@ -18,7 +18,7 @@ returns-in_err-leaf g c =
     let d = g.S.Store.disk c.args.store.now in
     let a = g.S.Store.disk c.begin.new.store in
     record {
-      begun = nothing_made _ c.from_residual.result c.from_residual.ensures.0;
+      begun = not_if_ok c.from_residual.result _ c.from_residual.ensures.1 _;
       err = handed (λ answer. IfErr answer (λ (fault : SealFault). BeginsLeafMerge m c.args.merge.now d a (Err fault))) c.from_residual.result c.in_err-leaf.field-0.0 c.from_residual.ensures
           (begun_stops m c.args.merge.now d c.requires.files c.requires.plan c.data_session-leaf_ids.result c.data_session-leaf_ids.ensures a c.begin.ensures.moments c.in_err-leaf.field-0.0 c.in_err-leaf.ensures.err);
     }
@@ -41,7 +41,7 @@ returns-in_err-link_twice g c =
     let r1 = behind_begun m c.args.merge.now d c.requires.files c.requires.plan c.data_session-leaf_ids.result c.data_session-leaf_ids.ensures a c.begin.ensures.moments leaf c.in_ok-leaf.ensures.served c.in_ok-leaf.ensures.counts in
     let b = g.S.Store.disk c.link_twice.new.store in
     record {
-      begun = nothing_made _ c.from_residual-in_err-link_twice.result c.from_residual-in_err-link_twice.ensures.0;
+      begun = not_if_ok c.from_residual-in_err-link_twice.result _ c.from_residual-in_err-link_twice.ensures.1 _;
       err = handed (λ answer. IfErr answer (λ (fault : SealFault). BeginsLeafMerge m c.args.merge.now d b (Err fault))) c.from_residual-in_err-link_twice.result c.in_err-link_twice.field-0.0 c.from_residual-in_err-link_twice.ensures
           (linked_stops m c.args.merge.now d c.requires.files c.requires.plan leaf a r1 c.in_ok-leaf.ensures.parts c.as_slice.result.now c.as_slice.ensures.pages b c.link_twice.ensures.moments c.in_err-link_twice.field-0.0 c.in_err-link_twice.ensures.err);
     }
@@ -73,7 +73,7 @@ returns-in_err-target g c =
     let r2 = behind_linked m c.args.merge.now d c.requires.files c.requires.plan leaf a r1 c.in_ok-leaf.ensures.parts c.as_slice.result.now c.as_slice.ensures.pages b c.link_twice.ensures.moments twice c.in_ok-link_twice.ensures.updated c.in_ok-link_twice.ensures.counts in
     let e = g.S.Store.disk c.begin-2.new.store in
     record {
-      begun = nothing_made _ c.from_residual-in_err-target.result c.from_residual-in_err-target.ensures.0;
+      begun = not_if_ok c.from_residual-in_err-target.result _ c.from_residual-in_err-target.ensures.1 _;
       err = handed (λ answer. IfErr answer (λ (fault : SealFault). BeginsLeafMerge m c.args.merge.now d e (Err fault))) c.from_residual-in_err-target.result c.in_err-target.field-0.0 c.from_residual-in_err-target.ensures
           (heir_stops m c.args.merge.now d c.requires.files c.requires.plan twice b r2 c.data_session-target_ids.result c.data_session-target_ids.ensures e c.begin-2.ensures.moments c.in_err-target.field-0.0 c.in_err-target.ensures.err);
     }

@@ -5,7 +5,7 @@ use Rattle.table_pages.specs.declared.tables.TableParts.{TableParts}
 use Rattle.chain_core.specs.MergeStarting.{BeginsMerge, files_in}
 use Rattle.chain_core.proofs.MergeAsked.{child_numbers, target_numbers}
 use Rattle.chain_core.proofs.MergeBegun.{begins_merge, behind_child, behind_target, behind_upper, child_ready, child_stops, close_stops, made_of_child, no_layers, source_still, target_ready, target_stops}
-use Rattle.chain_core.proofs.Handing.{handed, nothing_made}
+use Rattle.vx_base.proofs.Handed.{handed, not_if_ok}
 use Rattle.chain_core.proofs.merge_start.begin_all.Goals as goal
 
 pub returns-in_err-upper : goal.returns-in_err-upper
@@ -14,7 +14,7 @@ returns-in_err-upper g c =
     let d = g.S.Store.disk c.args.store.now in
     let e = g.S.Store.disk c.begin_upper.new.store in
     record {
-      begun = nothing_made _ c.from_residual.result c.from_residual.ensures.0;
+      begun = not_if_ok c.from_residual.result _ c.from_residual.ensures.1 _;
       err = handed (λ answer. IfErr answer (λ (fault : SealFault). BeginsMerge m c.args.merge.now d e (Err fault))) c.from_residual.result c.in_err-upper.field-0.0 c.from_residual.ensures c.in_err-upper.ensures.err;
     }
 
@@ -46,7 +46,7 @@ returns-in_err-target g c =
     let r3 = behind_upper m c.args.merge.now d c.requires.files c.requires.plan leaf twice e c.in_ok-upper.ensures.begun in
     let f = g.S.Store.disk c.begin.new.store in
     record {
-      begun = nothing_made _ c.from_residual-in_err-target.result c.from_residual-in_err-target.ensures.0;
+      begun = not_if_ok c.from_residual-in_err-target.result _ c.from_residual-in_err-target.ensures.1 _;
       err = handed (λ answer. IfErr answer (λ (fault : SealFault). BeginsMerge m c.args.merge.now d f (Err fault))) c.from_residual-in_err-target.result c.in_err-target.field-0.0 c.from_residual-in_err-target.ensures
           (target_stops m c.args.merge.now d c.requires.files c.requires.plan leaf twice e r3 c.data_session-target_ids.result c.data_session-target_ids.ensures f c.begin.ensures.moments c.in_err-target.field-0.0 c.in_err-target.ensures.err);
     }
@@ -85,7 +85,7 @@ returns-in_err-child g c =
     let r4 = behind_target m c.args.merge.now d c.requires.files c.requires.plan leaf twice e r3 c.data_session-target_ids.result c.data_session-target_ids.ensures f c.begin.ensures.moments target c.in_ok-target.ensures.served c.in_ok-target.ensures.counts in
     let h = g.S.Store.disk c.begin_child.new.store in
     record {
-      begun = nothing_made _ c.from_residual-in_err-child.result c.from_residual-in_err-child.ensures.0;
+      begun = not_if_ok c.from_residual-in_err-child.result _ c.from_residual-in_err-child.ensures.1 _;
       err = handed (λ answer. IfErr answer (λ (fault : SealFault). BeginsMerge m c.args.merge.now d h (Err fault))) c.from_residual-in_err-child.result c.in_err-child.field-0.0 c.from_residual-in_err-child.ensures
           (child_stops m c.args.merge.now d c.requires.files c.requires.plan c.requires.child leaf twice target f r4 h c.begin_child.ensures.moments c.in_err-child.field-0.0 c.in_err-child.ensures.err);
     }
@@ -124,7 +124,7 @@ returns-in_err-source g c =
     let r5 = behind_child m c.args.merge.now d c.requires.files c.requires.plan c.requires.child leaf twice target f r4 h c.begin_child.ensures.moments child c.in_ok-child.ensures.begun c.in_ok-child.ensures.counts in
     let z = g.S.Store.disk c.close.new.store in
     record {
-      begun = nothing_made _ c.from_residual-in_err-source.result c.from_residual-in_err-source.ensures.0;
+      begun = not_if_ok c.from_residual-in_err-source.result _ c.from_residual-in_err-source.ensures.1 _;
       err = handed (λ answer. IfErr answer (λ (fault : SealFault). BeginsMerge m c.args.merge.now d z (Err fault))) c.from_residual-in_err-source.result c.in_err-source.field-0.0 c.from_residual-in_err-source.ensures
           (close_stops m c.args.merge.now d c.requires.files c.requires.plan leaf twice target child h r5 z c.close.ensures.moments c.in_err-source.field-0.0 (ap (λ (p : TableParts). p.file) c.in_ok-upper.ensures.begun.linked_parts ∙ c.in_ok-upper.ensures.begun.source_is.number) c.in_err-source.ensures.err);
     }

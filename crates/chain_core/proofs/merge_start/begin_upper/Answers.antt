@@ -3,7 +3,7 @@ use Rattle.store_model.specs.declared.fault.SealFault.{SealFault}
 use Rattle.chain_core.specs.MergeStarting.{BeginsMerge, files_in}
 use Rattle.chain_core.proofs.MergeAsked.{source_numbers}
 use Rattle.chain_core.proofs.MergeBegun.{begun_upper, behind_source, behind_top, leaf_numbered, leaf_ready, locator_stops, source_ready, source_stops, top_stops, twice_turns}
-use Rattle.chain_core.proofs.Handing.{handed, nothing_made}
+use Rattle.vx_base.proofs.Handed.{handed, not_if_ok}
 use Rattle.chain_core.proofs.merge_start.begin_upper.Goals as goal
 
 pub begin-requires-clause-numbers : goal.begin-requires-clause-numbers
@@ -24,7 +24,7 @@ returns-in_err-leaf g c =
     let d = g.S.Store.disk c.args.store.now in
     let a = g.S.Store.disk c.begin.new.store in
     record {
-      begun = nothing_made _ c.from_residual.result c.from_residual.ensures.0;
+      begun = not_if_ok c.from_residual.result _ c.from_residual.ensures.1 _;
       err = handed (λ answer. IfErr answer (λ (fault : SealFault). BeginsMerge m c.args.merge.now d a (Err fault))) c.from_residual.result c.in_err-leaf.field-0.0 c.from_residual.ensures
           (top_stops m c.args.merge.now d c.requires.files c.requires.plan c.leaf_of-top.result.now c.data_session-leaf_ids.result c.leaf_of-top.ensures c.data_session-leaf_ids.ensures a c.begin.ensures.moments c.in_err-leaf.field-0.0 c.in_err-leaf.ensures.err);
     }
@@ -53,7 +53,7 @@ returns-in_err-source g c =
     let r1 = behind_top m c.args.merge.now d c.requires.files c.requires.plan c.leaf_of-top.result.now c.data_session-leaf_ids.result c.leaf_of-top.ensures c.data_session-leaf_ids.ensures a c.begin.ensures.moments leaf c.in_ok-leaf.ensures.served c.in_ok-leaf.ensures.counts in
     let b = g.S.Store.disk c.begin-2.new.store in
     record {
-      begun = nothing_made _ c.from_residual-in_err-source.result c.from_residual-in_err-source.ensures.0;
+      begun = not_if_ok c.from_residual-in_err-source.result _ c.from_residual-in_err-source.ensures.1 _;
       err = handed (λ answer. IfErr answer (λ (fault : SealFault). BeginsMerge m c.args.merge.now d b (Err fault))) c.from_residual-in_err-source.result c.in_err-source.field-0.0 c.from_residual-in_err-source.ensures
           (source_stops m c.args.merge.now d c.requires.files c.requires.plan leaf a r1 c.log_session-source_ids.result c.log_session-source_ids.ensures b c.begin-2.ensures.moments c.in_err-source.field-0.0 c.in_err-source.ensures.err);
     }
@@ -82,7 +82,7 @@ returns-in_err-link_twice g c =
     let r2 = behind_source m c.args.merge.now d c.requires.files c.requires.plan leaf a r1 c.log_session-source_ids.result c.log_session-source_ids.ensures b c.begin-2.ensures.moments source c.in_ok-source.ensures.served c.in_ok-source.ensures.counts in
     let e = g.S.Store.disk c.link_twice.new.store in
     record {
-      begun = nothing_made _ c.from_residual-in_err-link_twice.result c.from_residual-in_err-link_twice.ensures.0;
+      begun = not_if_ok c.from_residual-in_err-link_twice.result _ c.from_residual-in_err-link_twice.ensures.1 _;
       err = handed (λ answer. IfErr answer (λ (fault : SealFault). BeginsMerge m c.args.merge.now d e (Err fault))) c.from_residual-in_err-link_twice.result c.in_err-link_twice.field-0.0 c.from_residual-in_err-link_twice.ensures
           (locator_stops m c.args.merge.now d c.requires.files c.requires.plan leaf source b r2 c.in_ok-source.ensures.parts c.as_slice.result.now c.as_slice.ensures.pages e c.link_twice.ensures.moments c.in_err-link_twice.field-0.0 c.in_err-link_twice.ensures.err);
     }

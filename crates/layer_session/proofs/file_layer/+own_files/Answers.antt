@@ -5,13 +5,12 @@ use Rattle.layer_session.specs.declared.file_layer.FileLayer.{FileLayer}
 use Rattle.chain_model.specs.Images.{members_of}
 use Rattle.chain_model.specs.Members.{layers_of}
 use Rattle.layer_session.proofs.FileLayers.{each_same, first_file, have_hold, held_through, later_file, none_same, none_held}
-use Rattle.layer_session.proofs.Parted.{ok_then}
 use Rattle.layer_session.proofs.ReadOnly.{err_then, some_failed}
 use Rattle.std.specs.Prelude.{Err}
 use Rattle.store_model.specs.Disk.{Disk}
 use Rattle.layer_session.specs.ReadOnly.{SomeReadFailed}
 use Rattle.layer_session.proofs.Owned.{adds_found}
-use Rattle.vx_base.proofs.Handed.{failed_for, not_ok}
+use Rattle.vx_base.proofs.Handed.{failed_for, not_ok, ok_then}
 use Rattle.layer_session.proofs.Handing.{file_there, same_of_each, stays_then}
 use Rattle.layer_session.proofs.file_layer.+own_files.Goals as goal
 

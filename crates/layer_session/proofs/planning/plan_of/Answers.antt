@@ -1,9 +1,12 @@
-use Rattle.std.proofs.Common.{◌≡◌, ◌≢◌, ◌⊎◌, ◌%◌, ◌∙◌, true, false, inl, inr, sym, subst, arith}
+use Rattle.std.proofs.Common.{◌≡◌, ◌≢◌, ◌⊎◌, ◌+◌, ◌*◌, ◌%◌, ◌<◌, ◌≤◌, ◌∙◌, true, false, inl, inr, sym, subst, arith}
 use Rattle.layer_session.specs.TablesRead.{HasRead}
-use Rattle.table_pages.specs.Held.{AreTablesIn, held_file, shape_of}
-use Rattle.vhdx_format.specs.Layers.{table_entry}
+use Rattle.table_pages.specs.Held.{AreTablesIn, HasTables, held_file, shape_of}
+use Rattle.vhdx_format.specs.Layers.{entry_of, table_entry}
 use Rattle.layer_session.proofs.Choices.{chosen_drop, chosen_leave, chosen_make, chosen_part, planned_then, readable_then, said_then}
 use Rattle.layer_session.proofs.Planned.{both_not, entry_reads, planned_write, read_then}
+use Rattle.layer_session.proofs.Sectors.{first_below}
+use Rattle.layer_session.proofs.Known.{failed_from, fails_from, held_still, of_parts, state_fits}
+use Rattle.vx_base.proofs.Handed.{failed_for, not_if_ok, not_ok, ok_then}
 use Rattle.layer_session.proofs.planning.plan_of.Goals as goal
 use Rattle.layer_session.proofs.planning.plan_of.Goals.{then-word-eq2, else-word-eq2, else-trims-via-then-trims+else-is_whole_block, else-trims-via-else-trims, else-parts-2-via-then-parts-2+else-state-eq-NOT_PRESENT, else-parts-2-via-else-parts-2}
 
@@ -84,3 +87,123 @@ returns-else-state-ge-FULLY_PRESENT-clause-planned g c trace told =
     by_parent : ((c.args.tables.now.parts.parent ≡ true) × (c.in_ok-word.word % 8 ≢ 0)) ⊎ (c.args.tables.now.parts.parent ≡ false) → (c.args.tables.now.parts.parent ≡ false) ⊎ (c.in_ok-word.word % 8 ≢ 0)
     by_parent (inl h) = inr h.1
     by_parent (inr h) = inl h
+
+pub entry_index-requires-clause-parts : goal.entry_index-requires-clause-parts
+entry_index-requires-clause-parts g c = c.requires.readable.sizes
+
+pub entry_index-requires-clause-sector : goal.entry_index-requires-clause-sector
+entry_index-requires-clause-sector g c = first_below c.args.first c.args.count c.args.tables.now.parts.sectors c.requires.some c.requires.on_disk
+
+pub entry-requires-clause-there : goal.entry-requires-clause-there
+entry-requires-clause-there g c = c.requires.readable.there
+
+pub entry-requires-clause-parts : goal.entry-requires-clause-parts
+entry-requires-clause-parts g c = c.requires.readable.sizes
+
+pub entry-requires-clause-index : goal.entry-requires-clause-index
+entry-requires-clause-index g c = c.entry_index.ensures.inside
+
+pub entry-requires-clause-tables : goal.entry-requires-clause-tables
+entry-requires-clause-tables g c = c.requires.readable.tables
+
+pub returns-in_err-word-clause-planned : goal.returns-in_err-word-clause-planned
+returns-in_err-word-clause-planned g c = not_if_ok c.from_residual.result _ c.from_residual.ensures.1 _
+
+pub returns-in_err-word-clause-reads : goal.returns-in_err-word-clause-reads
+returns-in_err-word-clause-reads g c = entry_reads _ _ _ c.entry.ensures.as_held c.entry.ensures.places
+
+pub returns-in_err-word-clause-stays : goal.returns-in_err-word-clause-stays
+returns-in_err-word-clause-stays g c = not_ok c.from_residual.result _ c.from_residual.ensures.1 _
+
+pub returns-in_err-word-clause-err : goal.returns-in_err-word-clause-err
+returns-in_err-word-clause-err g c = failed_for c.from_residual.result _ c.from_residual.ensures.1 _ c.in_err-word.ensures.err
+
+pub is_whole_block-requires-clause-parts : goal.is_whole_block-requires-clause-parts
+is_whole_block-requires-clause-parts g c = c.requires.readable.sizes
+
+pub is_whole_block-requires-clause-on_disk : goal.is_whole_block-requires-clause-on_disk
+is_whole_block-requires-clause-on_disk g c = c.requires.on_disk
+
+pub is_whole_block-requires-clause-some : goal.is_whole_block-requires-clause-some
+is_whole_block-requires-clause-some g c = c.requires.some
+
+pub returns-then-is_whole_block-clause-reads : goal.returns-then-is_whole_block-clause-reads
+returns-then-is_whole_block-clause-reads g c = entry_reads _ _ _ c.entry.ensures.as_held c.entry.ensures.places
+
+pub returns-then-is_whole_block-clause-stays : goal.returns-then-is_whole_block-clause-stays
+returns-then-is_whole_block-clause-stays g c = c.in_ok-word.ensures.stays
+
+pub overflow_cast-state : goal.overflow_cast-state
+overflow_cast-state g c = state_fits c.in_ok-word.word
+
+pub plan_part-requires-clause-parent : goal.plan_part-requires-clause-parent
+plan_part-requires-clause-parent g c = of_parts (λ p. p.parent ≡ true) _ _ c.entry.ensures.as_held.parts_are c.if-parts.true
+
+pub plan_part-requires-clause-some : goal.plan_part-requires-clause-some
+plan_part-requires-clause-some g c = c.requires.some
+
+pub plan_part-requires-clause-on_disk : goal.plan_part-requires-clause-on_disk
+plan_part-requires-clause-on_disk g c = of_parts (λ p. c.args.first + c.args.count ≤ p.sectors) _ _ c.entry.ensures.as_held.parts_are c.requires.on_disk
+
+pub plan_part-requires-clause-run : goal.plan_part-requires-clause-run
+plan_part-requires-clause-run g c = of_parts (λ p. c.args.first * p.sector % p.block + c.args.count * p.sector ≤ p.block) _ _ c.entry.ensures.as_held.parts_are c.requires.run
+
+pub plan_part-requires-clause-state : goal.plan_part-requires-clause-state
+plan_part-requires-clause-state g c = c.if-state-eq-PARTLY_PRESENT.true
+
+pub plan_part-requires-clause-word : goal.plan_part-requires-clause-word
+plan_part-requires-clause-word g c =
+    held_still (λ p file. c.in_ok-word.word ≡ table_entry p file (entry_of p c.args.first)) c.args.tables.now c.entry.new.self _ _ c.entry.ensures.as_held c.in_ok-word.ensures.stays
+    (λ t told. subst (λ i. c.in_ok-word.word ≡ table_entry (shape_of c.args.tables.now.parts) (held_file c.args.tables.now t) i) c.entry_index.ensures.index (c.in_ok-word.ensures.entry t told))
+
+pub returns-then-state-eq-PARTLY_PRESENT-clause-stays : goal.returns-then-state-eq-PARTLY_PRESENT-clause-stays
+returns-then-state-eq-PARTLY_PRESENT-clause-stays g c = ok_then c.plan_part.result (λ e. e ∙ c.in_ok-word.ensures.stays) c.plan_part.ensures.stays
+
+pub returns-then-state-eq-PARTLY_PRESENT-clause-err : goal.returns-then-state-eq-PARTLY_PRESENT-clause-err
+returns-then-state-eq-PARTLY_PRESENT-clause-err g c = fails_from c.plan_part.result _ _ _ _ _ c.entry.ensures.as_held.parts_are c.in_ok-word.ensures.stays c.plan_part.ensures.err
+
+pub bitmap_entry_index-requires-clause-parts : goal.bitmap_entry_index-requires-clause-parts
+bitmap_entry_index-requires-clause-parts g c = c.requires.readable.sizes
+
+pub bitmap_entry_index-requires-clause-parent : goal.bitmap_entry_index-requires-clause-parent
+bitmap_entry_index-requires-clause-parent g c = c.if-parts-2.true
+
+pub bitmap_entry_index-requires-clause-sector : goal.bitmap_entry_index-requires-clause-sector
+bitmap_entry_index-requires-clause-sector g c = first_below c.args.first c.args.count c.args.tables.now.parts.sectors c.requires.some c.requires.on_disk
+
+pub entry-requires-then-state-eq-NOT_PRESENT-clause-there : goal.entry-requires-then-state-eq-NOT_PRESENT-clause-there
+entry-requires-then-state-eq-NOT_PRESENT-clause-there g c =
+    subst (λ d. c.entry.new.self.parts.file < d.files) (sym c.in_ok-word.ensures.stays)
+    (of_parts (λ p. p.file < (g.S.Store.disk c.args.store.now).files) _ _ c.entry.ensures.as_held.parts_are c.requires.readable.there)
+
+pub entry-requires-then-state-eq-NOT_PRESENT-clause-parts : goal.entry-requires-then-state-eq-NOT_PRESENT-clause-parts
+entry-requires-then-state-eq-NOT_PRESENT-clause-parts g c = of_parts HasTables _ _ c.entry.ensures.as_held.parts_are c.requires.readable.sizes
+
+pub entry-requires-then-state-eq-NOT_PRESENT-clause-index : goal.entry-requires-then-state-eq-NOT_PRESENT-clause-index
+entry-requires-then-state-eq-NOT_PRESENT-clause-index g c = of_parts (λ p. 8 * c.bitmap_entry_index.result + 8 ≤ p.bat_len) _ _ c.entry.ensures.as_held.parts_are c.bitmap_entry_index.ensures.inside
+
+pub returns-in_err-bitmap-clause-planned : goal.returns-in_err-bitmap-clause-planned
+returns-in_err-bitmap-clause-planned g c = not_if_ok c.from_residual-in_err-bitmap.result _ c.from_residual-in_err-bitmap.ensures.1 _
+
+pub returns-in_err-bitmap-clause-stays : goal.returns-in_err-bitmap-clause-stays
+returns-in_err-bitmap-clause-stays g c = not_ok c.from_residual-in_err-bitmap.result _ c.from_residual-in_err-bitmap.ensures.1 _
+
+pub returns-in_err-bitmap-clause-err : goal.returns-in_err-bitmap-clause-err
+returns-in_err-bitmap-clause-err g c =
+    failed_for c.from_residual-in_err-bitmap.result _ c.from_residual-in_err-bitmap.ensures.1 _
+    (failed_from _ _ _ _ _ _ c.entry.ensures.as_held.parts_are c.in_ok-word.ensures.stays c.in_err-bitmap.ensures.err)
+
+pub returns-then-state-eq-NOT_PRESENT-clause-stays : goal.returns-then-state-eq-NOT_PRESENT-clause-stays
+returns-then-state-eq-NOT_PRESENT-clause-stays g c = c.in_ok-bitmap.ensures.stays ∙ c.in_ok-word.ensures.stays
+
+pub returns-then-state-ge-FULLY_PRESENT-clause-reads : goal.returns-then-state-ge-FULLY_PRESENT-clause-reads
+returns-then-state-ge-FULLY_PRESENT-clause-reads g c = entry_reads _ _ _ c.entry.ensures.as_held c.entry.ensures.places
+
+pub returns-then-state-ge-FULLY_PRESENT-clause-stays : goal.returns-then-state-ge-FULLY_PRESENT-clause-stays
+returns-then-state-ge-FULLY_PRESENT-clause-stays g c = c.in_ok-word.ensures.stays
+
+pub returns-else-state-ge-FULLY_PRESENT-clause-reads : goal.returns-else-state-ge-FULLY_PRESENT-clause-reads
+returns-else-state-ge-FULLY_PRESENT-clause-reads g c = entry_reads _ _ _ c.entry.ensures.as_held c.entry.ensures.places
+
+pub returns-else-state-ge-FULLY_PRESENT-clause-stays : goal.returns-else-state-ge-FULLY_PRESENT-clause-stays
+returns-else-state-ge-FULLY_PRESENT-clause-stays g c = c.in_ok-word.ensures.stays

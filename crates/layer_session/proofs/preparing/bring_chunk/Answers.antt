@@ -1,4 +1,4 @@
-use Rattle.std.proofs.Common.{◌≡◌, ◌+◌, ◌*◌, ◌/◌, ◌%◌, ◌^◌, ◌≤◌, length, true, false, refl, if◌then◌else◌, ◌∙◌, ap, subst, sym}
+use Rattle.std.proofs.Common.{◌≡◌, ◌+◌, ◌-◌, ◌*◌, ◌/◌, ◌%◌, ◌^◌, ◌≤◌, length, true, false, inl, refl, if◌then◌else◌, ◌∙◌, ap, subst, sym}
 use Rattle.vhdx_format.specs.Fields.{megabyte}
 use Rattle.store_model.specs.File.{seen}
 use Rattle.store_model.specs.Trace.{file_of}
@@ -9,7 +9,8 @@ use Rattle.layer_session.proofs.BitRuns.{each_map}
 use Rattle.layer_session.proofs.Brought.{block_there, hand_then, named_same, names_still, pages_brought}
 use Rattle.layer_session.proofs.EntryBrought.{entry_brought}
 use Rattle.layer_session.proofs.Equal.{true_false}
-use Rattle.vx_base.proofs.Handed.{not_ok}
+use Rattle.layer_session.proofs.Known.{brought_none, entry_at_hand, entry_few, few_bits, none_more, pages_few, pages_inside, place_aligned, room_less, room_one}
+use Rattle.vx_base.proofs.Handed.{failed_for, not_ok}
 use Rattle.layer_session.proofs.Exits.{bits_within, le_more, less_le}
 use Rattle.layer_session.proofs.preparing.bring_chunk.Goals as goal
 
@@ -145,3 +146,84 @@ bring_entry-requires-clause-there g c = c.requires.readable.there
 
 pub bring_pages-requires-clause-there : goal.bring_pages-requires-clause-there
 bring_pages-requires-clause-there g c = c.requires.readable.there
+
+pub bitmap_entry_index-requires-clause-parent : goal.bitmap_entry_index-requires-clause-parent
+bitmap_entry_index-requires-clause-parent g c = c.requires.parent c.if-missing.true
+
+pub bring_entry-requires-clause-tables : goal.bring_entry-requires-clause-tables
+bring_entry-requires-clause-tables g c = c.requires.readable.tables
+
+pub bring_entry-requires-clause-room : goal.bring_entry-requires-clause-room
+bring_entry-requires-clause-room g c = inl (room_one (length c.args.tables.now.pending) _ c.requires.room)
+
+pub returns-then-missing-clause-few : goal.returns-then-missing-clause-few
+returns-then-missing-clause-few g c = entry_few c.bring_entry.result _ c.args.tables.now.pending c.bring_entry.new.self.pending c.args.missing _ c.if-missing.true c.bring_entry.ensures.adds c.bring_entry.ensures.unchanged
+
+pub returns-then-missing-clause-entry : goal.returns-then-missing-clause-entry
+returns-then-missing-clause-entry g c e = entry_at_hand c.bring_entry.result c.args.tables.now.parts _ _ c.args.tables.now.pending c.bring_entry.new.self.pending c.bitmap_entry_index.ensures.index c.bring_entry.ensures.adds
+
+pub bits_of-requires-clause-on_disk : goal.bits_of-requires-clause-on_disk
+bits_of-requires-clause-on_disk g c = c.requires.on_disk
+
+pub bits_of-requires-clause-few : goal.bits_of-requires-clause-few
+bits_of-requires-clause-few g c = none_more _ _ c.requires.few
+
+pub returns-in_default-clause-brought : goal.returns-in_default-clause-brought
+returns-in_default-clause-brought g c = brought_none c.args.tables.now (g.S.Store.disk c.args.store.now) c.requires.readable.tables
+
+pub bring_pages-requires-clause-aligned : goal.bring_pages-requires-clause-aligned
+bring_pages-requires-clause-aligned g c = place_aligned c.in-Some.bits.word
+
+pub bring_pages-requires-clause-within : goal.bring_pages-requires-clause-within
+bring_pages-requires-clause-within g c =
+    pages_inside (c.in-Some.bits.first % 2 ^ 23) (c.in-Some.bits.end - c.in-Some.bits.first) c.pages_of_bits-pages.result
+    (bits_within (c.args.sector / 2 ^ 23) c.in-Some.bits.first c.in-Some.bits.end c.in-Some.ensures.span.from c.in-Some.ensures.span.some c.in-Some.ensures.span.to) c.pages_of_bits-pages.ensures
+
+pub bring_pages-requires-clause-room : goal.bring_pages-requires-clause-room
+bring_pages-requires-clause-room g c =
+    room_less (length c.args.tables.now.pending) c.pages_of_bits-pages.result (most_bit_pages (shape_of c.args.tables.now.parts) c.args.count)
+    (pages_few (shape_of c.args.tables.now.parts) (record { sector = c.requires.readable.sizes.sector; block = c.requires.readable.sizes.block }) (c.args.sector / 2 ^ 23) c.args.first c.args.count c.in-Some.bits.first c.in-Some.bits.end c.pages_of_bits-pages.result
+    c.in-Some.ensures.span.near c.in-Some.ensures.span.far c.pages_of_bits-pages.ensures)
+    c.requires.room
+
+pub bring_pages-requires-clause-tables : goal.bring_pages-requires-clause-tables
+bring_pages-requires-clause-tables g c = c.requires.readable.tables
+
+pub returns-in_err-bring_pages-clause-few : goal.returns-in_err-bring_pages-clause-few
+returns-in_err-bring_pages-clause-few g c =
+    few_bits c.args.missing (length c.bring_pages.new.self.pending) (length c.args.tables.now.pending) c.pages_of_bits-pages.result (most_bit_pages (shape_of c.args.tables.now.parts) c.args.count) c.if-missing.false c.bring_pages.ensures.few
+    (pages_few (shape_of c.args.tables.now.parts) (record { sector = c.requires.readable.sizes.sector; block = c.requires.readable.sizes.block }) (c.args.sector / 2 ^ 23) c.args.first c.args.count c.in-Some.bits.first c.in-Some.bits.end c.pages_of_bits-pages.result
+    c.in-Some.ensures.span.near c.in-Some.ensures.span.far c.pages_of_bits-pages.ensures)
+
+pub returns-in_err-bring_pages-clause-there : goal.returns-in_err-bring_pages-clause-there
+returns-in_err-bring_pages-clause-there g c e = c.requires.there e
+
+pub returns-in_err-bring_pages-clause-err : goal.returns-in_err-bring_pages-clause-err
+returns-in_err-bring_pages-clause-err g c = failed_for c.from_residual.result _ c.from_residual.ensures.1 _ c.in_err-bring_pages.ensures.err
+
+pub name_bitmap-requires-clause-sizes : goal.name_bitmap-requires-clause-sizes
+name_bitmap-requires-clause-sizes g c = c.requires.readable.sizes
+
+pub name_bitmap-requires-clause-on_disk : goal.name_bitmap-requires-clause-on_disk
+name_bitmap-requires-clause-on_disk g c = c.requires.on_disk
+
+pub name_bitmap-requires-clause-few : goal.name_bitmap-requires-clause-few
+name_bitmap-requires-clause-few g c = none_more _ _ c.requires.few
+
+pub returns-clause-few : goal.returns-clause-few
+returns-clause-few g c =
+    few_bits c.args.missing (length c.bring_pages.new.self.pending) (length c.args.tables.now.pending) c.pages_of_bits-pages.result (most_bit_pages (shape_of c.args.tables.now.parts) c.args.count) c.if-missing.false c.bring_pages.ensures.few
+    (pages_few (shape_of c.args.tables.now.parts) (record { sector = c.requires.readable.sizes.sector; block = c.requires.readable.sizes.block }) (c.args.sector / 2 ^ 23) c.args.first c.args.count c.in-Some.bits.first c.in-Some.bits.end c.pages_of_bits-pages.result
+    c.in-Some.ensures.span.near c.in-Some.ensures.span.far c.pages_of_bits-pages.ensures)
+
+pub returns-clause-len : goal.returns-clause-len
+returns-clause-len g c = c.name_bitmap.ensures.len
+
+pub returns-clause-same : goal.returns-clause-same
+returns-clause-same g c e = absurd (true_false (sym e ∙ (let off : c.args.missing ≡ false = c.if-missing.false in off)))
+
+pub returns-clause-named : goal.returns-clause-named
+returns-clause-named g c e = c.name_bitmap.ensures.named
+
+pub returns-clause-stays : goal.returns-clause-stays
+returns-clause-stays g c = c.in_ok-bring_pages.ensures.stays

@@ -2,11 +2,10 @@ use Rattle.std.proofs.Common.{List, ◌∷◌, Contains, IfErr, arith, sym, ap, 
 use Rattle.layer_session.specs.Calls.{AddsOwned}
 use Rattle.layer_session.specs.ReadOnly.{AreRead, AreReadable, AreSameRead, SomeReadFailed, numbers_of}
 use Rattle.layer_session.specs.declared.read_layer.ReadLayer.{ReadLayer}
-use Rattle.layer_session.proofs.Parted.{ok_then}
 use Rattle.layer_session.proofs.ReadOnly.{adds_through, err_then, later_number, same_each, same_none, none_read, some_failed}
 use Rattle.std.specs.Prelude.{Err}
 use Rattle.store_model.specs.Disk.{Disk}
-use Rattle.vx_base.proofs.Handed.{failed_for, not_ok}
+use Rattle.vx_base.proofs.Handed.{failed_for, not_ok, ok_then}
 use Rattle.layer_session.proofs.Handing.{first_number, same_of_each, stays_then}
 use Rattle.layer_session.proofs.Owned.{adds_found}
 use Rattle.layer_session.proofs.read_layer.+own_through.Goals as goal

@@ -4,9 +4,8 @@ use Rattle.store_model.specs.Trace.{file_of}
 use Rattle.layer_session.specs.Calls.{HasOwned}
 use Rattle.layer_session.specs.Reading.{marked_layer}
 use Rattle.layer_session.proofs.Owned.{marked_joined, next_place, rest_inside, rest_long}
-use Rattle.layer_session.proofs.Parted.{ok_then}
 use Rattle.store_model.specs.Disk.{Disk}
-use Rattle.vx_base.proofs.Handed.{failed_for, not_ok}
+use Rattle.vx_base.proofs.Handed.{failed_for, not_ok, ok_then}
 use Rattle.layer_session.proofs.Handing.{fails_then, few_rows, front_in, front_within, none_owned, stays_then}
 use Rattle.layer_session.proofs.reading.+own_marked.Goals as goal
 

@@ -1,9 +1,9 @@
 use Rattle.std.proofs.Common.{◌+◌, ◌-◌, ◌*◌, arith, ap, subst, ◌∙◌, refl, length}
 use Rattle.layer_session.specs.TablesRead.{HasRead}
 use Rattle.layer_session.proofs.Owned.{adds_rest}
-use Rattle.layer_session.proofs.Parted.{adds_again, reads_rest, ok_then}
+use Rattle.layer_session.proofs.Parted.{adds_again, reads_rest}
 use Rattle.layer_session.proofs.Planned.{read_none, read_then}
-use Rattle.vx_base.proofs.Handed.{failed_for, not_ok}
+use Rattle.vx_base.proofs.Handed.{failed_for, not_ok, ok_then}
 use Rattle.layer_session.proofs.Handing.{fails_then, few_bytes, few_rows, front_in, stays_then}
 use Rattle.table_pages.specs.declared.tables.TableParts.{TableParts}
 use Rattle.layer_session.proofs.reading.+own_missing.Goals as goal

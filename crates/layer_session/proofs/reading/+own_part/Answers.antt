@@ -9,9 +9,9 @@ use Rattle.layer_session.specs.TablesRead.{AreBitsThere, AreReadable, HasRead}
 use Rattle.layer_session.specs.Keeping.{IsPartAt}
 use Rattle.store_model.specs.Disk.{Disk, WhereTold}
 use Rattle.layer_session.proofs.Owned.{owned_rest, rest_long}
-use Rattle.layer_session.proofs.Parted.{owned_again, part_again, part_front, part_rest, stored_again, ok_then}
+use Rattle.layer_session.proofs.Parted.{owned_again, part_again, part_front, part_rest, stored_again}
 use Rattle.layer_session.proofs.Planned.{bits_there_again, read_again, read_none, read_then, same_bitmap}
-use Rattle.vx_base.proofs.Handed.{failed_for, not_ok}
+use Rattle.vx_base.proofs.Handed.{failed_for, not_ok, ok_then}
 use Rattle.layer_session.proofs.Handing.{fails_then, few_bytes, few_rows, front_in, none_owned, stays_then}
 use Rattle.layer_session.proofs.reading.+own_part.Goals as goal
 

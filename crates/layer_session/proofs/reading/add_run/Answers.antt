@@ -1,8 +1,8 @@
 use Rattle.std.proofs.Common.{◌∙◌, ap}
+use Rattle.vx_base.proofs.Handed.{ok_then}
 use Rattle.vhdx_format.specs.SectorBitmaps.{bit_value}
 use Rattle.layer_session.specs.Reading.{layer_by}
 use Rattle.layer_session.proofs.Owned.{adds_found, adds_owned}
-use Rattle.layer_session.proofs.Parted.{ok_then}
 use Rattle.layer_session.proofs.reading.add_run.Goals as goal
 
 pub returns-then-found-clause-added : goal.returns-then-found-clause-added

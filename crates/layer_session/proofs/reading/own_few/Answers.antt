@@ -3,8 +3,8 @@ use Rattle.store_model.specs.File.{seen}
 use Rattle.store_model.specs.Trace.{file_of}
 use Rattle.table_pages.specs.Held.{held_file}
 use Rattle.layer_session.proofs.Planned.{bits_reads, has_bitmap, same_bitmap}
-use Rattle.layer_session.proofs.Parted.{part_owned, part_within, ok_then}
-use Rattle.vx_base.proofs.Handed.{failed_for, not_ok}
+use Rattle.layer_session.proofs.Parted.{part_owned, part_within}
+use Rattle.vx_base.proofs.Handed.{failed_for, not_ok, ok_then}
 use Rattle.layer_session.proofs.Handing.{fails_then, stays_then, there_still}
 use Rattle.layer_session.proofs.reading.own_few.Goals as goal
 

@@ -8,13 +8,14 @@ use Rattle.vhdx_format.specs.Layers.{entry_of, state_at, table_entry}
 use Rattle.table_pages.specs.declared.tables.TableParts.{TableParts}
 use Rattle.table_pages.specs.Held.{held_file, shape_of}
 use Rattle.layer_session.specs.TablesRead.{AreReadable, HasRead}
-use Rattle.layer_session.proofs.Parted.{absent_owned, full_owned, ok_then, owned_again, part_again, run_within, start_is, stored_again, zeros_owned}
+use Rattle.layer_session.proofs.Parted.{absent_owned, full_owned, owned_again, part_again, run_within, start_is, stored_again, zeros_owned}
 use Rattle.layer_session.proofs.Planned.{bits_there_again, entry_reads, read_again, read_then}
 use Rattle.bat_entry.proofs.Standing.{absent, here, marked}
 use Rattle.layer_session.proofs.Spots.{in_chunk}
 use Rattle.bat_entry.proofs.Standing as standing
-use Rattle.vx_base.proofs.Handed.{failed_for, not_ok}
+use Rattle.vx_base.proofs.Handed.{failed_for, not_ok, ok_then}
 use Rattle.layer_session.proofs.Handing.{bytes_of, fails_then, sectors_of, stays_then, there_still}
+use Rattle.layer_session.proofs.Sectors.{first_below}
 use Rattle.layer_session.proofs.reading.own_run.Goals as goal
 
 pub returns-in-Here-clause-owned : goal.returns-in-Here-clause-owned
@@ -234,3 +235,12 @@ returns-in-Marked-clause-err g c = fails_then c.own_part.result c.args.tables.no
 
 pub returns-in-Zeros-clause-stays : goal.returns-in-Zeros-clause-stays
 returns-in-Zeros-clause-stays g c = c.in_ok-word.ensures.stays
+
+pub entry_index-requires-clause-sector : goal.entry_index-requires-clause-sector
+entry_index-requires-clause-sector g c = first_below c.args.first c.args.count c.args.tables.now.parts.sectors c.requires.some c.requires.on_disk
+
+pub offset_in_block-requires-clause-sector : goal.offset_in_block-requires-clause-sector
+offset_in_block-requires-clause-sector g c = first_below c.args.first c.args.count c.args.tables.now.parts.sectors c.requires.some c.requires.on_disk
+
+pub set_range-requires-clause-fits : goal.set_range-requires-clause-fits
+set_range-requires-clause-fits g c = c.requires.ends

@@ -1,7 +1,7 @@
 use Rattle.std.proofs.Common.{◌∙◌, ap, sym, length}
 use Rattle.std.proofs.lemmas.List.{take_at}
+use Rattle.vx_base.proofs.ByteLists.{length-overwritten}
 use Rattle.store_model.specs.Bytes.{written_over}
-use Rattle.store_model.proofs.Parts.{length-overwritten}
 use Rattle.mem_file.proofs.file.write_within.Goals as goal
 
 pub returns : goal.returns

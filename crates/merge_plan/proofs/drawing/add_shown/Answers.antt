@@ -1,10 +1,11 @@
 use Rattle.std.proofs.Common.{◌<◌, length, refl, ap, sym, subst, ◌∙◌, arith}
+use Rattle.vx_base.proofs.Handed.{failed_for, not_ok}
 use Rattle.store_model.specs.Disk.{Disk}
 use Rattle.store_model.specs.File.{seen}
 use Rattle.store_model.specs.Trace.{file_of}
 use Rattle.vhdx_format.specs.FileParts.{HasNumbers, LieWithin}
 use Rattle.link_rules.specs.declared.linked.LinkedFile.{LinkedFile}
-use Rattle.merge_plan.proofs.Gathered.{failed_for, no_more, not_ok, not_ok_so, one_more}
+use Rattle.merge_plan.proofs.Gathered.{no_more, not_ok_so, one_more}
 use Rattle.merge_plan.proofs.Opened.{lie_at, one_failed}
 use Rattle.merge_plan.proofs.drawing.add_shown.Goals as goal
 

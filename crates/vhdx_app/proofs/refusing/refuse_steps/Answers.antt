@@ -1,4 +1,3 @@
-use Rattle.std.proofs.Common.{inl}
 use Rattle.vhdx_app.specs.Refusals.{IsBase, MetadataFull, NotInChain}
 use Rattle.vhdx_app.specs.Sessions.{meaning_of_steps}
 use Rattle.vhdx_app.specs.declared.refusal.StepsRefusal.TheVariants as steps
@@ -8,11 +7,11 @@ use Rattle.vhdx_app.proofs.Said.{refusal_sent, reports_for}
 use Rattle.vhdx_app.proofs.refusing.refuse_steps.Goals as goal
 
 pub returns-in-ReadOnly : goal.returns-in-ReadOnly
-returns-in-ReadOnly g c = reports_for meaning_of_steps _ _ _ _ _ c.args.refusal steps.ReadOnly c.in-ReadOnly.is (inl c.deliver.ensures)
+returns-in-ReadOnly g c = reports_for meaning_of_steps _ _ _ _ _ c.args.refusal steps.ReadOnly c.in-ReadOnly.is (refusal_sent _ _ _ _ Refused _ _ c.call_line.result c.call_line.ensures c.refuse.ensures)
 
 pub returns-in-Spent : goal.returns-in-Spent
 returns-in-Spent g c =
-    reports_for meaning_of_steps _ _ _ _ _ c.args.refusal (steps.Spent c.in-Spent.number) c.in-Spent.is (refusal_sent _ _ _ _ Refused _ _ c.spent_line.result c.spent_line.ensures c.refuse.ensures)
+    reports_for meaning_of_steps _ _ _ _ _ c.args.refusal (steps.Spent c.in-Spent.number) c.in-Spent.is (refusal_sent _ _ _ _ Refused _ _ c.call_line-in-Spent.result c.call_line-in-Spent.ensures c.refuse-in-Spent.ensures)
 
 pub returns-in-NotInChain : goal.returns-in-NotInChain
 returns-in-NotInChain g c =

@@ -1,5 +1,6 @@
 use Rattle.std.proofs.Common.{List, refl, subst, sym, ◌++◌, ◌∙◌}
 use Rattle.std.specs.Prelude.{All, IfErr, IfOk}
+use Rattle.vhdx_app.proofs.Followed.{last_once}
 use Rattle.store_model.specs.Disk.{WhereTold}
 use Rattle.chain_model.specs.Members.{NoneTwice}
 use Rattle.link_rules.specs.Chains.{names_of}
@@ -15,7 +16,6 @@ use Rattle.vhdx_app.proofs.Lending.{lent_here}
 use Rattle.vhdx_app.proofs.Over.{not_lent}
 use Rattle.vhdx_app.proofs.OverAll.{back_all, barred, not_run_all, run_all}
 use Rattle.vhdx_app.proofs.Said.{err_as}
-use Rattle.vhdx_app.proofs.Serving.{last_once_of}
 use Rattle.vhdx_app.proofs.steps.run_linked.Goals as goal
 
 pub returns-in_err-check_mode-clause-err : goal.returns-in_err-check_mode-clause-err
@@ -31,7 +31,7 @@ returns-in_err-names-clause-err g c =
     err_as (NotRunOver c.args.mode c.args.source.now c.args.linked.now _ _ _ _) c.from_residual-in_err-names.result (steps.Chain chain.NoRoom) c.from_residual-in_err-names.ensures.1 (not_lent c.args.mode c.args.source.now c.args.linked.now _ _ _ chain.NoRoom c.requires.idle refl)
 
 pub attach-requires-clause-once : goal.attach-requires-clause-once
-attach-requires-clause-once g c = subst (λ (fs : List LinkedFile). NoneTwice (names_of fs)) (sym c.as_slice-files.ensures) (last_once_of c.args.linked.now.retired (names_of c.args.linked.now.files) c.requires.once)
+attach-requires-clause-once g c = subst (λ (fs : List LinkedFile). NoneTwice (names_of fs)) (sym c.as_slice-files.ensures) (last_once c.args.linked.now.retired (names_of c.args.linked.now.files) c.requires.once)
 
 pub attach-requires-clause-opened : goal.attach-requires-clause-opened
 attach-requires-clause-opened g c t told = subst (AreOpened (contents t)) (sym c.as_slice-files.ensures) (c.requires.chain t told).opened
@@ -42,12 +42,12 @@ returns-in_err-store-clause-err g c =
     (not_lent c.args.mode c.args.source.now c.args.linked.now _ _ _ c.in_err-store.field-0.0 c.requires.idle c.in_err-store.ensures.err)
 
 pub run_on-store-requires-clause-once : goal.run_on-store-requires-clause-once
-run_on-store-requires-clause-once g c = subst (λ (fs : List LinkedFile). NoneTwice (names_of fs)) (sym c.as_slice-files.ensures) (last_once_of c.args.linked.now.retired (names_of c.args.linked.now.files) c.requires.once)
+run_on-store-requires-clause-once g c = subst (λ (fs : List LinkedFile). NoneTwice (names_of fs)) (sym c.as_slice-files.ensures) (last_once c.args.linked.now.retired (names_of c.args.linked.now.files) c.requires.once)
 
 pub run_on-store-requires-clause-lent : goal.run_on-store-requires-clause-lent
 run_on-store-requires-clause-lent g c =
     let fs = c.as_slice-files.result.now in
-    let once = subst (λ (fs : List LinkedFile). NoneTwice (names_of fs)) (sym c.as_slice-files.ensures) (last_once_of c.args.linked.now.retired (names_of c.args.linked.now.files) c.requires.once) in
+    let once = subst (λ (fs : List LinkedFile). NoneTwice (names_of fs)) (sym c.as_slice-files.ensures) (last_once c.args.linked.now.retired (names_of c.args.linked.now.files) c.requires.once) in
     let chain = subst (λ (fs : List LinkedFile). WhereTold (g.H.Host.hosted c.args.host.now).folder (IsChainIn (record { retired = c.args.linked.now.retired; files = fs }))) (sym c.as_slice-files.ensures) c.requires.chain in
     lent_here fs _ _ _ once (λ f told. ((chain f told).in_use, (chain f told).opened)) c.in_ok-store.ensures.ok
 

@@ -7,7 +7,7 @@ use Rattle.chain_core.specs.Sessions.{Session, seen}
 use Rattle.chain_core.specs.declared.chain.Chain.{Chain}
 use Rattle.chain_core.specs.declared.layers.Layers.{Layers}
 use Rattle.chain_core.proofs.Accepted.{err_is, fit_asks_none, on_err_any, one_noted, place_asks_none}
-use Rattle.chain_core.proofs.Called.{nothing_done}
+use Rattle.vx_base.proofs.Handed.{not_ok}
 use Rattle.chain_core.proofs.Stopped.{never_first, never_second, not_stopped, stopped_first, stopped_second}
 use Rattle.chain_core.proofs.chain.Chain.accept.Goals as goal
 
@@ -24,15 +24,15 @@ returns-in_err-admit g c =
     let recorder = ap (λ k. k.recorder) e.only in
     record {
       events = e.events;
-      fits = nothing_done r _ same.0;
+      fits = not_ok r _ same.1 _;
       only = e.only ∙ ap (λ k. record c.args.self.now { events = c.admit.new.self.events; recorder = k }) (sym recorder);
       early = stopped_first cause later x r _ is same.1 e.only;
-      fit = nothing_done r _ same.0;
-      whole = nothing_done r _ same.0;
-      range = nothing_done r _ same.0;
-      session = nothing_done r _ same.0;
-      noted = nothing_done r _ same.0;
-      told = nothing_done r _ same.0;
+      fit = not_ok r _ same.1 _;
+      whole = not_ok r _ same.1 _;
+      range = not_ok r _ same.1 _;
+      session = not_ok r _ same.1 _;
+      noted = not_ok r _ same.1 _;
+      told = not_ok r _ same.1 _;
       err_noted = on_err_any r _ (ap g.R.Recorder.noted recorder);
       err_told = on_err_any r _ (ap g.R.Recorder.told recorder);
       room = λ fit. absurd (never_first cause later x is fit);
@@ -59,15 +59,15 @@ returns-in_err-check g c =
     let is = ap (λ (l : Layers). misplaced (call_of c.args.call) l) (sym (ap (λ k. k.layers) e.only)) ∙ c.in_err-check.ensures.err in
     record {
       events = e.events;
-      fits = nothing_done r _ same.0;
+      fits = not_ok r _ same.1 _;
       only = e.only ∙ ap (λ k. record c.args.self.now { events = c.admit.new.self.events; recorder = k }) (sym recorder);
       early = stopped_second cause later x r _ f.ok is same.1 e.only;
-      fit = nothing_done r _ same.0;
-      whole = nothing_done r _ same.0;
-      range = nothing_done r _ same.0;
-      session = nothing_done r _ same.0;
-      noted = nothing_done r _ same.0;
-      told = nothing_done r _ same.0;
+      fit = not_ok r _ same.1 _;
+      whole = not_ok r _ same.1 _;
+      range = not_ok r _ same.1 _;
+      session = not_ok r _ same.1 _;
+      noted = not_ok r _ same.1 _;
+      told = not_ok r _ same.1 _;
       err_noted = on_err_any r _ (ap g.R.Recorder.noted recorder);
       err_told = on_err_any r _ (ap g.R.Recorder.told recorder);
       room = λ fit. absurd (never_second cause later x f.ok is fit);
@@ -89,15 +89,15 @@ returns-in_err-note g c =
     let none : later ≡ None = ap (λ (l : Layers). misplaced (call_of c.args.call) l) (sym (ap (λ k. k.layers) e.only)) ∙ c.in_ok-check.ensures.ok in
     record {
       events = e.events;
-      fits = nothing_done r _ same.0;
+      fits = not_ok r _ same.1 _;
       only = ap (λ (k : Chain g.row.S.Denot g.row.R.Denot g.row.S-R.Denot). record k { recorder = c.note.new.self }) e.only;
       early = not_stopped cause later r _ f.ok none;
-      fit = nothing_done r _ same.0;
-      whole = nothing_done r _ same.0;
-      range = nothing_done r _ same.0;
-      session = nothing_done r _ same.0;
-      noted = nothing_done r _ same.0;
-      told = nothing_done r _ same.0;
+      fit = not_ok r _ same.1 _;
+      whole = not_ok r _ same.1 _;
+      range = not_ok r _ same.1 _;
+      session = not_ok r _ same.1 _;
+      noted = not_ok r _ same.1 _;
+      told = not_ok r _ same.1 _;
       err_noted = on_err_any r _ (n.err_count ∙ ap g.R.Recorder.noted recorder);
       err_told = on_err_any r _ (n.err_told ∙ ap g.R.Recorder.told recorder);
       room = λ fit. err_is r _ same.1;

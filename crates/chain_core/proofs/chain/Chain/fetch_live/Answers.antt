@@ -6,7 +6,8 @@ use Rattle.chain_core.specs.declared.layers.Layers.{Layers}
 use Rattle.layer_session.specs.ReadOnly.{SomeReadFailed}
 use Rattle.guest_model.specs.declared.refusal.ChainRefusal.TheVariants.{ReadFault}
 use Rattle.chain_core.proofs.Copied.{fetch_stopped, fetched, room_counted, sound_counted, sound_read, unfetched, sound_refused}
-use Rattle.chain_core.proofs.Called.{nothing_done, read_session}
+use Rattle.chain_core.proofs.Called.{read_session}
+use Rattle.vx_base.proofs.Handed.{not_ok}
 use Rattle.chain_core.proofs.Stopped.{never_first, never_second, not_stopped, stopped_first, stopped_second}
 use Rattle.chain_core.proofs.MergeSpots.{stripe_merge, stripe_there}
 use Rattle.chain_core.proofs.chain.Chain.fetch_live.Goals as goal
@@ -71,7 +72,7 @@ returns-in_err-admit g c =
       cause = λ fit. absurd (never_first cause later x is fit);
       leaf = ap leaf_number layers;
       merge = (ap (λ (l : Layers). l.merge) layers, ap (λ (l : Layers). l.retiring) layers);
-      taken = nothing_done r _ same.0;
+      taken = not_ok r _ same.1 _;
       told = fetch_stopped before.layers after.layers before.disk after.disk layers disk c.args.piece.now r same.0;
     }
 
@@ -98,7 +99,7 @@ returns-in_err-find_stripe g c =
       cause = λ fit. absurd (never_second cause later x f.ok is fit);
       leaf = ap leaf_number layers;
       merge = (ap (λ (l : Layers). l.merge) layers, ap (λ (l : Layers). l.retiring) layers);
-      taken = nothing_done r _ same.0;
+      taken = not_ok r _ same.1 _;
       told = fetch_stopped before.layers c.admit.new.self.layers before.disk (g.S.Store.disk c.admit.new.self.store) layers disk c.args.piece.now r same.0;
     }
 

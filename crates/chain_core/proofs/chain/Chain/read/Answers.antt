@@ -10,9 +10,10 @@ use Rattle.chain_core.specs.Reading.{Finds}
 use Rattle.chain_core.specs.Refusing.{IfRefused, refused}
 use Rattle.chain_core.specs.Sessions.{IsCounted, Session, leaf_number, seen}
 use Rattle.chain_core.specs.States.{entry}
-use Rattle.chain_core.proofs.Called.{declined, never_no_room, not_refused, nothing_done, read_caused, read_followed, read_session, read_whole, still_room}
+use Rattle.chain_core.proofs.Called.{declined, never_no_room, not_refused, read_caused, read_followed, read_session, read_whole, still_room}
+use Rattle.vx_base.proofs.Handed.{not_ok, ok_then}
 use Rattle.chain_core.proofs.Concluding.{answered}
-use Rattle.chain_core.proofs.Copied.{noted_most, ok_map, room_accepted}
+use Rattle.chain_core.proofs.Copied.{noted_most, room_accepted}
 use Rattle.chain_core.proofs.Looking.{found_before, looked}
 use Rattle.chain_core.proofs.Noting.{notes_so, refused_first, sound_looked}
 use Rattle.chain_core.proofs.chain.Chain.read.Goals as goal
@@ -40,7 +41,7 @@ returns-in_err-accept g c =
       notes = d.notes;
       cause = d.read;
       free = λ takes none. f.free takes (still_room x r same.1 none);
-      finds = nothing_done r _ same.0;
+      finds = not_ok r _ same.1 _;
       told = d.told;
     }
 
@@ -67,7 +68,7 @@ returns g c =
     let layers_then = ap (λ k. k.layers) e.only in
     let disk_then = ap (λ k. g.S.Store.disk k.store) e.only in
     let events : after.events ≡ before.events + 1 = ap (λ k. k.events) e.only ∙ a.fits in
-    let kept = ok_map done (λ e. ap (λ k. g.R.Recorder.noted k) e) e.kept in
+    let kept = ok_then done (λ e. ap (λ k. g.R.Recorder.noted k) e) e.kept in
     let answer = e.answer ∙ ap (answer_of place) c.unread-done.ensures in
     record {
       sound = sound_looked before after mid.layers new disk1 disk2 done c.requires.sound a.whole events (room_accepted call before after.events fit events) (noted_most done before.noted place after.noted a.noted kept e.noted) layers_is layers_then disk_then p.reads e.broken;
@@ -77,7 +78,7 @@ returns g c =
       leaf = ap leaf_number layers_then ∙ p.reads.leaf ∙ ap leaf_number layers_is;
       merge = read_followed call before after mid.layers new disk1 disk2 place r layers_is disk_is layers_then disk_then c.args.first count refl p.reads done e.answer;
       early = not_refused call before r (IsCounted c.args.self.now c.conclude.new.self) fit;
-      notes = λ fit. notes_so (entry c.args.who call) before after place (g.R.Recorder.told mid.recorder) done r e.answer (subst (λ (n : ℕ). g.R.Recorder.told mid.recorder ≡ option_map (λ h. h ++ entry c.args.who (calls.Read c.args.first (length c.args.out.now / n)) ∷ []) before.told) c.from.ensures a.told) a.noted (ok_map done (λ e. ap (λ k. g.R.Recorder.told k) e) e.kept) kept e.told e.noted;
+      notes = λ fit. notes_so (entry c.args.who call) before after place (g.R.Recorder.told mid.recorder) done r e.answer (subst (λ (n : ℕ). g.R.Recorder.told mid.recorder ≡ option_map (λ h. h ++ entry c.args.who (calls.Read c.args.first (length c.args.out.now / n)) ∷ []) before.told) c.from.ensures a.told) a.noted (ok_then done (λ e. ap (λ k. g.R.Recorder.told k) e) e.kept) kept e.told e.noted;
       cause = read_caused call before after mid.layers new disk1 disk2 place r layers_is disk_is layers_then disk_then found answer p.stays p.err
           (read_whole found mid.broken after.broken (subst (λ (d : Result (Unit {0}) LayerFault). IfNone (breaks d) (after.broken ≡ mid.broken)) c.unread-done.ensures e.fault) (ap (λ k. k.broken) a.only ∙ a.whole));
       free = λ takes none. never_no_room place done r e.answer none;

@@ -1,4 +1,5 @@
 use Rattle.std.proofs.Common.{ap, is_some, not, refl, subst, sym, ℕ, ◌+◌, ◌^◌, ◌∙◌, ◌≡◌}
+use Rattle.vx_base.proofs.Handed.{ok_then}
 use Rattle.guest_model.specs.declared.call.Call.{Call}
 use Rattle.guest_model.specs.declared.call.Call.TheVariants as calls
 use Rattle.layer_session.specs.declared.file.Layer.{Layer}
@@ -9,7 +10,7 @@ use Rattle.chain_core.specs.Sessions.{AreReady, IsCounted, IsLow, Session, has_m
 use Rattle.chain_core.specs.States.{entry}
 use Rattle.chain_core.proofs.Called.{caused, declined, followed, never_no_room, not_refused, still_room, still_whole}
 use Rattle.chain_core.proofs.Concluding.{answered, room_told}
-use Rattle.chain_core.proofs.Copied.{always, follows_has, noted_most, ok_map, room_accepted, sound_behind, sound_low}
+use Rattle.chain_core.proofs.Copied.{always, follows_has, noted_most, room_accepted, sound_behind, sound_low}
 use Rattle.chain_core.proofs.Noting.{notes_so, refused_first}
 use Rattle.chain_core.proofs.chain.Chain.trim.Goals as goal
 
@@ -66,7 +67,7 @@ returns g c =
     let disk_then = ap (λ k. g.S.Store.disk k.store) e.only in
     let follows : LayerFollows place call mid.layers new done = subst (λ (n : ℕ). LayerFollows n call mid.layers new done) c.len.ensures p.merge in
     let events : after.events ≡ before.events + 1 = ap (λ k. k.events) e.only ∙ a.fits in
-    let kept = ok_map done (λ e. ap (λ k. g.R.Recorder.noted k) e) e.kept in
+    let kept = ok_then done (λ e. ap (λ k. g.R.Recorder.noted k) e) e.kept in
     let geometry = ap (λ (l : Layers). l.geometry) layers_then ∙ p.geometry ∙ ap (λ (l : Layers). l.geometry) layers_is in
     record {
       sound = sound_behind before after done c.requires.sound a.whole events (room_accepted call before after.events a.fit events) (noted_most done before.noted place after.noted a.noted kept e.noted)
@@ -80,7 +81,7 @@ returns g c =
       leaf = ap leaf_number layers_then ∙ p.leaf ∙ ap leaf_number layers_is;
       merge = followed call before after mid.layers new disk1 disk2 place r layers_is disk_is layers_then disk_then done e.answer follows;
       early = not_refused call before r (IsCounted c.args.self.now c.conclude.new.self) a.fit;
-      notes = λ fit. notes_so (entry c.args.who call) before after place (g.R.Recorder.told mid.recorder) done r e.answer a.told a.noted (ok_map done (λ e. ap (λ k. g.R.Recorder.told k) e) e.kept) kept e.told e.noted;
+      notes = λ fit. notes_so (entry c.args.who call) before after place (g.R.Recorder.told mid.recorder) done r e.answer a.told a.noted (ok_then done (λ e. ap (λ k. g.R.Recorder.told k) e) e.kept) kept e.told e.noted;
       cause = caused call before after mid.layers new disk1 disk2 place r layers_is disk_is layers_then disk_then done e.answer p.counts p.err (still_whole done mid.broken after.broken e.fault (ap (λ k. k.broken) a.only ∙ a.whole)) e.broken;
       free = λ takes none. never_no_room place done r e.answer none;
       room = λ fit. room_told (λ (leaf : Layer). not leaf.leave) c.args.first c.args.count c.args.count place before.layers mid.layers before.disk disk1 done r refl layers_is disk_is e.answer p.room;

@@ -1,6 +1,6 @@
 use Rattle.std.proofs.Common.{refl}
 use Rattle.chain_core.specs.LeafStarting.{BeginsLeafMerge, leaf_files_in}
-use Rattle.chain_core.proofs.Handing.{handed}
+use Rattle.vx_base.proofs.Handed.{handed}
 use Rattle.chain_core.proofs.layers.Layers.begin_leaf_merge.Goals as goal
 
 pub returns-in_err-both : goal.returns-in_err-both

@@ -1,7 +1,7 @@
 use Rattle.std.proofs.Common.{ap, refl}
 use Rattle.link_rules.specs.declared.linked.LinkedFile.{LinkedFile}
 use Rattle.chain_core.specs.MergeStarting.{BeginsMerge, files_in}
-use Rattle.chain_core.proofs.Handing.{handed}
+use Rattle.vx_base.proofs.Handed.{handed}
 use Rattle.chain_core.proofs.layers.Layers.begin_merge.Goals as goal
 
 pub returns-in_err-begun : goal.returns-in_err-begun

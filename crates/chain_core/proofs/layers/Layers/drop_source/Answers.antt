@@ -8,7 +8,7 @@ use Rattle.chain_core.specs.declared.layers.Layers.{Layers}
 use Rattle.chain_core.proofs.Copied.{low_on}
 use Rattle.chain_core.proofs.Exchanged.{child_session, child_waits, exchanged_low, exchanged_numbers}
 use Rattle.chain_core.proofs.Finishes.{finish_done, finish_stopped_first, finish_stopped_second, finish_stopped_third, settled_ready}
-use Rattle.chain_core.proofs.Handing.{handed}
+use Rattle.vx_base.proofs.Handed.{handed}
 use Rattle.chain_core.proofs.Places.{alone, merge_of}
 use Rattle.chain_core.proofs.layers.Layers.drop_source.Goals as goal
 

@@ -7,7 +7,7 @@ use Rattle.chain_core.specs.Answering.{EndsTold}
 use Rattle.chain_core.specs.Ending.{AreAllReady, AreNumbered, EndsOnTold}
 use Rattle.chain_core.specs.Sessions.{AreApart}
 use Rattle.chain_core.proofs.Ending.{below_failed, below_numbered, ends_told, leaf_apart, leaf_ready}
-use Rattle.chain_core.proofs.Handing.{handed}
+use Rattle.vx_base.proofs.Handed.{handed}
 use Rattle.chain_core.proofs.Holding.{rest_told}
 use Rattle.chain_core.proofs.RetireStays.{all_ready}
 use Rattle.chain_core.proofs.layers.Layers.end.Goals as goal

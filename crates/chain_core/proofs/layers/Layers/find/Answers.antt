@@ -4,8 +4,8 @@ use Rattle.layer_session.specs.ReadOnly.{SomeReadFailed}
 use Rattle.store_model.specs.Disk.{Disk}
 use Rattle.vx_base.specs.declared.parts.Geometry.{Geometry}
 use Rattle.chain_core.proofs.Finding.{finds}
-use Rattle.vx_base.proofs.Handed.{failed_for, on_ok_map}
-use Rattle.chain_core.proofs.Onward.{not_ok, reads_on}
+use Rattle.vx_base.proofs.Handed.{failed_for, not_ok, ok_then}
+use Rattle.chain_core.proofs.Onward.{reads_on}
 use Rattle.chain_core.proofs.layers.Layers.find.Goals as goal
 
 pub own_leaf-requires-clause-ready : goal.own_leaf-requires-clause-ready
@@ -24,10 +24,10 @@ pub returns-in_err-own_leaf-clause-reads : goal.returns-in_err-own_leaf-clause-r
 returns-in_err-own_leaf-clause-reads g c = c.in_err-own_leaf.ensures.reads
 
 pub returns-in_err-own_leaf-clause-finds : goal.returns-in_err-own_leaf-clause-finds
-returns-in_err-own_leaf-clause-finds g c = not_ok c.from_residual.result c.from_residual.ensures.0 _
+returns-in_err-own_leaf-clause-finds g c = not_ok c.from_residual.result _ c.from_residual.ensures.1 _
 
 pub returns-in_err-own_leaf-clause-stays : goal.returns-in_err-own_leaf-clause-stays
-returns-in_err-own_leaf-clause-stays g c = not_ok c.from_residual.result c.from_residual.ensures.0 _
+returns-in_err-own_leaf-clause-stays g c = not_ok c.from_residual.result _ c.from_residual.ensures.1 _
 
 pub returns-in_err-own_leaf-clause-err : goal.returns-in_err-own_leaf-clause-err
 returns-in_err-own_leaf-clause-err g c = failed_for c.from_residual.result c.in_err-own_leaf.field-0.0 c.from_residual.ensures.1 (SomeReadFailed (g.S.Store.disk c.args.store.now) (g.S.Store.disk c.own_leaf.new.store)) c.in_err-own_leaf.ensures.err
@@ -55,7 +55,7 @@ returns-clause-finds g c =
     c.requires.few c.requires.on_disk len c.in_ok-own_leaf.ensures.reads c.in_ok-own_leaf.ensures.stays c.in_ok-own_leaf.ensures.adds c.own_below.ensures.adds
 
 pub returns-clause-stays : goal.returns-clause-stays
-returns-clause-stays g c = on_ok_map c.own_below.result _ _ (λ same. same ∙ c.in_ok-own_leaf.ensures.stays) c.own_below.ensures.stays
+returns-clause-stays g c = ok_then c.own_below.result (λ same. same ∙ c.in_ok-own_leaf.ensures.stays) c.own_below.ensures.stays
 
 pub returns-clause-err : goal.returns-clause-err
 returns-clause-err g c = subst (λ (d : Disk). IfErr c.own_below.result (SomeReadFailed d (g.S.Store.disk c.own_below.new.store))) c.in_ok-own_leaf.ensures.stays c.own_below.ensures.err

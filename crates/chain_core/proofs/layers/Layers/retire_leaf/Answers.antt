@@ -1,7 +1,7 @@
 use Rattle.std.proofs.Common.{refl}
 use Rattle.chain_core.specs.Finished.{Finishes}
 use Rattle.chain_core.specs.declared.layers.Layers.{Layers}
-use Rattle.chain_core.proofs.Handing.{handed}
+use Rattle.vx_base.proofs.Handed.{handed}
 use Rattle.chain_core.proofs.LeafPuts.{some_kept}
 use Rattle.chain_core.proofs.RetireLeaf.{clear_low, clear_merge, clear_settled, finish_retired, first_ready, hand_can, hand_session, hand_target, hand_there, identify_merge, identify_next, identify_ready, identify_session, identify_there, leaf_session, retire_can, retire_merge, retire_session, second_ready, settle_low, stopped_fifth, stopped_first, stopped_fourth, stopped_second, stopped_sixth, stopped_third, target_low, target_session}
 use Rattle.chain_core.proofs.layers.Layers.retire_leaf.Goals as goal

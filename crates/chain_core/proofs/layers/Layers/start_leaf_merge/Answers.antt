@@ -4,7 +4,7 @@ use Rattle.store_model.specs.declared.fault.SealFault.TheVariants.{NoRoom}
 use Rattle.chain_core.specs.LeafStarting.{StartsWithLeafMerge, leaf_files_in, spent_leaf}
 use Rattle.chain_core.specs.declared.merge_start.MergeStartRefusal.TheVariants.{Begin, Plan}
 use Rattle.chain_core.proofs.LeafPlanned.{below_served, has_started, leaf_numbers, low, no_room, not_begun, plan_at, spent_start, unplanned}
-use Rattle.chain_core.proofs.Handing.{handed}
+use Rattle.vx_base.proofs.Handed.{handed}
 use Rattle.chain_core.proofs.MergePlanned.{none_of}
 use Rattle.chain_core.proofs.layers.Layers.start_leaf_merge.Goals as goal
 

@@ -7,7 +7,7 @@ use Rattle.merge_plan.specs.Merging.{source_place}
 use Rattle.chain_core.specs.MergeStarting.{StartsWithMerge, files_in, spent}
 use Rattle.chain_core.specs.Starting.{AreReadOf}
 use Rattle.chain_core.specs.declared.merge_start.MergeStartRefusal.TheVariants.{Begin, Plan}
-use Rattle.chain_core.proofs.Handing.{handed}
+use Rattle.vx_base.proofs.Handed.{handed}
 use Rattle.chain_core.proofs.MergePlanned.{above_served, below_served, can_at, child_some, has_begun, leaf_numbers, low, no_room, none_of, not_begun, plan_at, spent_start, unplanned}
 use Rattle.chain_core.proofs.MergeSpots.{few_above, few_rest, not_first, not_last}
 use Rattle.chain_core.proofs.layers.Layers.start_merge.Goals as goal

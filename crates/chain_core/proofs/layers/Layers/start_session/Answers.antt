@@ -6,7 +6,7 @@ use Rattle.chain_core.specs.Starting.{BeginsLow, EachOpensAlike, LeavesOthersFro
 use Rattle.store_model.specs.Disk.{Disk}
 use Rattle.merge_plan.specs.Attached.{CanStart}
 use Rattle.vx_base.proofs.Handed.{failed_for}
-use Rattle.chain_core.proofs.Onward.{not_if_ok}
+use Rattle.vx_base.proofs.Handed.{not_if_ok}
 use Rattle.chain_core.proofs.Beginning.{files_rest, none_changed, of_disk, parted, session_answers}
 use Rattle.chain_core.proofs.Fresh.{fresh}
 use Rattle.chain_core.proofs.layers.Layers.start_session.Goals as goal
@@ -50,16 +50,16 @@ pub choose_ids-requires : goal.choose_ids-requires
 choose_ids-requires g c = c.requires.files
 
 pub returns-in_err-new-clause-begun : goal.returns-in_err-new-clause-begun
-returns-in_err-new-clause-begun g c = not_if_ok c.from_residual.result c.from_residual.ensures.0 _
+returns-in_err-new-clause-begun g c = not_if_ok c.from_residual.result _ c.from_residual.ensures.1 _
 
 pub returns-in_err-new-clause-ready : goal.returns-in_err-new-clause-ready
-returns-in_err-new-clause-ready g c = not_if_ok c.from_residual.result c.from_residual.ensures.0 _
+returns-in_err-new-clause-ready g c = not_if_ok c.from_residual.result _ c.from_residual.ensures.1 _
 
 pub returns-in_err-new-clause-low : goal.returns-in_err-new-clause-low
-returns-in_err-new-clause-low g c = not_if_ok c.from_residual.result c.from_residual.ensures.0 _
+returns-in_err-new-clause-low g c = not_if_ok c.from_residual.result _ c.from_residual.ensures.1 _
 
 pub returns-in_err-new-clause-geometry : goal.returns-in_err-new-clause-geometry
-returns-in_err-new-clause-geometry g c = not_if_ok c.from_residual.result c.from_residual.ensures.0 _
+returns-in_err-new-clause-geometry g c = not_if_ok c.from_residual.result _ c.from_residual.ensures.1 _
 
 pub returns-in-len1-up-clause-ready : goal.returns-in-len1-up-clause-ready
 returns-in-len1-up-clause-ready g c = c.begin.ensures.ready

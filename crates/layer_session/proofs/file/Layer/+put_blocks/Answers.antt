@@ -1,4 +1,5 @@
-use Rattle.std.proofs.Common.{◌≡◌, ◌≤◌, ◌+◌, ◌-◌, ◌*◌, arith, rules, refl, sym, subst, ap, ◌∙◌, length, take, drop, false}
+use Rattle.std.proofs.Common.{◌≡◌, ◌≤◌, ◌+◌, ◌-◌, ◌*◌, arith, refl, sym, subst, ap, ◌∙◌, length, take, drop, false}
+use Rattle.layer_session.proofs.Leading.{keeps_now}
 use Rattle.layer_session.specs.declared.planning.Step.TheVariants.{Leave}
 use Rattle.table_pages.specs.declared.tables.TableParts.{TableParts}
 use Rattle.layer_session.specs.Calls.{with_bytes}
@@ -6,14 +7,14 @@ use Rattle.layer_session.specs.Prepared.{IsPrepared}
 use Rattle.layer_session.specs.Taking.{IsDone}
 use Rattle.layer_session.proofs.Frames.{next_prepared, next_small, next_wants, plan_there, run_pages, run_room, run_todo}
 use Rattle.layer_session.proofs.Joining.{keeps_puts, part_outside, put_none, puts_more}
-use Rattle.layer_session.proofs.Readying.{quiet_now}
 use Rattle.layer_session.proofs.Told.{if_err, if_err_map, ok_map}
 use Rattle.layer_session.proofs.Zeroing.{back_whole, broken_more, bytes_join, bytes_nobody, bytes_off, join_broken, join_done, join_moments}
+use Rattle.vx_base.proofs.Handed.{err_is}
 use Rattle.layer_session.proofs.file.Layer.+put_blocks.Goals as goal
 
 pub returns-then-count-eq0-clause-moments : goal.returns-then-count-eq0-clause-moments
 returns-then-count-eq0-clause-moments g t c =
-    keeps_puts c.args.self.now c.args.first c.args.count (g.S.Store.disk c.args.store.now).told (g.S.Store.disk c.args.store.now).told (quiet_now c.args.self.now (g.S.Store.disk c.args.store.now).told)
+    keeps_puts c.args.self.now c.args.first c.args.count (g.S.Store.disk c.args.store.now).told (g.S.Store.disk c.args.store.now).told (keeps_now c.args.self.now (g.S.Store.disk c.args.store.now).told)
 
 pub returns-then-count-eq0-clause-done : goal.returns-then-count-eq0-clause-done
 returns-then-count-eq0-clause-done g t c =
@@ -42,7 +43,7 @@ returns-in_err-put_run-clause-moments g t c =
 
 pub returns-in_err-put_run-clause-broken : goal.returns-in_err-put_run-clause-broken
 returns-in_err-put_run-clause-broken g t c =
-    if_err c.from_residual.result c.in_err-put_run.field-0.0 _ (search rules)
+    if_err c.from_residual.result c.in_err-put_run.field-0.0 _ (err_is c.from_residual.result _ c.from_residual.ensures.1)
     (broken_more c.args.self.now c.put_run.new.self c.args.first c.args.count c.args.first c.run_in_block-len.result (part_outside c.args.first c.args.count c.args.first c.run_in_block-len.result (omega arith) (omega arith)) (g.S.Store.disk c.args.store.now) (g.S.Store.disk c.put_run.new.store) c.in_err-put_run.field-0.0 c.in_err-put_run.ensures.broken)
 
 pub overflow_add-k : goal.overflow_add-k

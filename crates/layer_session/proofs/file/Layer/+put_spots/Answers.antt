@@ -1,5 +1,6 @@
-use Rattle.std.proofs.Common.{◌≡◌, ◌+◌, ◌-◌, ◌*◌, ◌%◌, ◌<◌, ◌≤◌, ℕ, Bool, true, false, arith, rules, refl, sym, subst, ap, ◌∙◌, length, take, drop, lt_of_lt_of_le}
+use Rattle.std.proofs.Common.{◌≡◌, ◌+◌, ◌-◌, ◌*◌, ◌%◌, ◌<◌, ◌≤◌, ℕ, Bool, true, false, arith, refl, sym, subst, ap, ◌∙◌, length, take, drop, lt_of_lt_of_le}
 use Rattle.std.specs.Prelude.{OnOk, IfErr}
+use Rattle.layer_session.proofs.Leading.{keeps_now}
 use Rattle.vhdx_format.specs.SectorBitmaps.{bit_of, bit_value}
 use Rattle.vhdx_format.specs.Layers.{HasSizes}
 use Rattle.store_model.specs.Disk.{WhereBothTold, WhereTold}
@@ -9,17 +10,17 @@ use Rattle.chain_model.specs.Layers as chain
 use Rattle.layer_session.specs.declared.masked.Spot.{Spot}
 use Rattle.layer_session.specs.Masked.{HasMarkPages, IsBrokenNamed, IsDoneNamed, PutsNamed, is_masked, with_masked}
 use Rattle.layer_session.proofs.Masking.{keeps_named, masked_kept, masked_nobody, nothing_named, range_broken, range_named, skip_layer, skip_test, spots_broken, spots_done, spots_moments}
-use Rattle.layer_session.proofs.Readying.{quiet_now}
 use Rattle.layer_session.proofs.Spots.{in_chunk, next_kept, next_spot, pages_of, pages_stay, rest_fits, spot_low_part, spot_less}
 use Rattle.layer_session.proofs.Told.{if_err, if_err_map, ok_map}
 use Rattle.layer_session.proofs.Zeroing.{back_whole}
 use Rattle.layer_session.specs.Steps.{held_by}
 use Rattle.layer_session.proofs.Equal.{not_is_false, not_is_true}
+use Rattle.vx_base.proofs.Handed.{err_is}
 use Rattle.layer_session.proofs.file.Layer.+put_spots.Goals as goal
 
 pub returns-then-count-eq0-clause-moments : goal.returns-then-count-eq0-clause-moments
 returns-then-count-eq0-clause-moments g t c =
-    keeps_named c.args.self.now (is_masked c.args.first c.args.count c.args.at c.args.mask.now) (g.S.Store.disk c.args.store.now).told (g.S.Store.disk c.args.store.now).told (quiet_now c.args.self.now (g.S.Store.disk c.args.store.now).told)
+    keeps_named c.args.self.now (is_masked c.args.first c.args.count c.args.at c.args.mask.now) (g.S.Store.disk c.args.store.now).told (g.S.Store.disk c.args.store.now).told (keeps_now c.args.self.now (g.S.Store.disk c.args.store.now).told)
 
 pub returns-then-count-eq0-clause-done : goal.returns-then-count-eq0-clause-done
 returns-then-count-eq0-clause-done g t c =
@@ -133,7 +134,7 @@ returns-in_err-put_spot-clause-broken g t c =
     let fits : n ≤ c.args.count = c.first_run-run.ensures.most in
     let on : c.first_run-run.result.set ≡ true = not_is_false c.if-not-run.false in
     let set : (i : ℕ) → c.args.at ≤ i → i < c.args.at + n → bit_of c.args.mask.now i ≡ 1 = λ i a b. c.first_run-run.ensures.same i a b ∙ ap bit_value on in
-    if_err c.from_residual.result c.in_err-put_spot.field-0.0 _ (search rules)
+    if_err c.from_residual.result c.in_err-put_spot.field-0.0 _ (err_is c.from_residual.result _ c.from_residual.ensures.1)
     (range_broken c.args.self.now c.put_spot.new.self c.args.first n c.args.count c.args.at c.args.mask.now fits set (g.S.Store.disk c.args.store.now) (g.S.Store.disk c.put_spot.new.store) c.in_err-put_spot.field-0.0 c.in_err-put_spot.ensures.broken)
 
 pub put_spots-requires-2 : goal.put_spots-requires-2

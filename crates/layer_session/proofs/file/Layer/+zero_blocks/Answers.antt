@@ -1,4 +1,5 @@
-use Rattle.std.proofs.Common.{◌≤◌, ◌+◌, ◌-◌, arith, rules, refl, sym, subst, ap, not}
+use Rattle.std.proofs.Common.{◌≤◌, ◌+◌, ◌-◌, arith, refl, sym, subst, ap, not}
+use Rattle.layer_session.proofs.Leading.{keeps_now}
 use Rattle.layer_session.specs.declared.planning.Step.TheVariants.{Leave}
 use Rattle.store_model.specs.Disk.{WhereTold}
 use Rattle.table_pages.specs.declared.tables.TableParts.{TableParts}
@@ -9,14 +10,14 @@ use Rattle.layer_session.specs.Steps.{Wants}
 use Rattle.layer_session.specs.Taking.{IsDone}
 use Rattle.layer_session.proofs.Frames.{next_prepared, next_small, next_wants, plan_there, run_pages, run_room, run_todo}
 use Rattle.layer_session.proofs.Joining.{keeps_puts, part_outside, put_none, puts_more}
-use Rattle.layer_session.proofs.Readying.{quiet_now}
 use Rattle.layer_session.proofs.Told.{if_err, if_err_map, ok_map}
 use Rattle.layer_session.proofs.Zeroing.{broken_more, zeros_join, zeros_nobody, zeros_off, join_broken, join_done, join_moments}
+use Rattle.vx_base.proofs.Handed.{err_is}
 use Rattle.layer_session.proofs.file.Layer.+zero_blocks.Goals as goal
 
 pub returns-then-count-eq0-clause-moments : goal.returns-then-count-eq0-clause-moments
 returns-then-count-eq0-clause-moments g t c =
-    keeps_puts c.args.self.now c.args.first c.args.count (g.S.Store.disk c.args.store.now).told (g.S.Store.disk c.args.store.now).told (quiet_now c.args.self.now (g.S.Store.disk c.args.store.now).told)
+    keeps_puts c.args.self.now c.args.first c.args.count (g.S.Store.disk c.args.store.now).told (g.S.Store.disk c.args.store.now).told (keeps_now c.args.self.now (g.S.Store.disk c.args.store.now).told)
 
 pub returns-then-count-eq0-clause-done : goal.returns-then-count-eq0-clause-done
 returns-then-count-eq0-clause-done g t c =
@@ -45,7 +46,7 @@ returns-in_err-zero_block-clause-moments g t c =
 
 pub returns-in_err-zero_block-clause-broken : goal.returns-in_err-zero_block-clause-broken
 returns-in_err-zero_block-clause-broken g t c =
-    if_err c.from_residual.result c.in_err-zero_block.field-0.0 _ (search rules)
+    if_err c.from_residual.result c.in_err-zero_block.field-0.0 _ (err_is c.from_residual.result _ c.from_residual.ensures.1)
     (broken_more c.args.self.now c.zero_block.new.self c.args.first c.args.count c.args.first c.run_in_block-len.result (part_outside c.args.first c.args.count c.args.first c.run_in_block-len.result (omega arith) (omega arith)) (g.S.Store.disk c.args.store.now) (g.S.Store.disk c.zero_block.new.store) c.in_err-zero_block.field-0.0 c.in_err-zero_block.ensures.broken)
 
 pub overflow_add-k : goal.overflow_add-k

@@ -1,17 +1,18 @@
-use Rattle.std.proofs.Common.{◌≡◌, ◌+◌, ◌-◌, ◌*◌, arith, rules, sym, subst, ap, ◌∙◌, take, refl}
+use Rattle.std.proofs.Common.{◌≡◌, ◌+◌, ◌-◌, ◌*◌, arith, sym, subst, ap, ◌∙◌, take, refl}
+use Rattle.layer_session.proofs.Leading.{keeps_now}
 use Rattle.store_model.specs.Disk.{WhereBothTold, WhereTold}
 use Rattle.layer_session.specs.Calls.{PutsInto, sectors_in, with_zeros}
 use Rattle.layer_session.specs.Steps.{StandFrom}
 use Rattle.layer_session.specs.Taking.{IsBroken, IsDone}
 use Rattle.layer_session.proofs.Joining.{keeps_puts, part_outside, put_none, puts_more}
 use Rattle.layer_session.proofs.Zeroing.{broken_more, done_zeros, entries_join, first_stands, join_broken, join_done, join_moments, piece_at, piece_clear, piece_count, piece_long, piece_some, piece_whole, place_small, rest_stands, zeros_join, zeros_nobody, zeros_off}
-use Rattle.layer_session.proofs.Readying.{quiet_now}
 use Rattle.layer_session.proofs.Told.{if_err, if_err_map, ok_map}
+use Rattle.vx_base.proofs.Handed.{err_is}
 use Rattle.layer_session.proofs.file.Layer.+zero_run.Goals as goal
 
 pub returns-then-count-eq0-clause-moments : goal.returns-then-count-eq0-clause-moments
 returns-then-count-eq0-clause-moments g t c =
-    keeps_puts c.args.self.now c.args.first c.args.count (g.S.Store.disk c.args.store.now).told (g.S.Store.disk c.args.store.now).told (quiet_now c.args.self.now (g.S.Store.disk c.args.store.now).told)
+    keeps_puts c.args.self.now c.args.first c.args.count (g.S.Store.disk c.args.store.now).told (g.S.Store.disk c.args.store.now).told (keeps_now c.args.self.now (g.S.Store.disk c.args.store.now).told)
 
 pub slice_bounds-write-end : goal.slice_bounds-write-end
 slice_bounds-write-end g t c =
@@ -36,7 +37,7 @@ returns-in_err-write-clause-moments g t c =
 pub returns-in_err-write-clause-broken : goal.returns-in_err-write-clause-broken
 returns-in_err-write-clause-broken g t c =
     let n : sectors_in c.args.self.now (take (c.from-sector.result * c.min-len.result) c.deref.result.now) ≡ c.min-len.result = piece_count c.args.self.now c.from-sector.result c.min-len.result c.from-sector.ensures c.requires.ready.readable.sizes.sector (omega (arith, c.min-len.ensures)) c.deref.result.now (c.deref.ensures.value ∙ c.requires.ready.clear) in
-    if_err c.from_residual.result c.in_err-write.field-0.0 _ (search rules)
+    if_err c.from_residual.result c.in_err-write.field-0.0 _ (err_is c.from_residual.result _ c.from_residual.ensures.1)
     (broken_more c.args.self.now c.args.self.now c.args.first c.args.count c.args.first c.min-len.result (part_outside c.args.first c.args.count c.args.first c.min-len.result (omega arith) (omega (arith, c.min-len.ensures))) (g.S.Store.disk c.args.store.now) (g.S.Store.disk c.write.new.store) c.in_err-write.field-0.0 (subst (λ k. IsBroken c.args.self.now c.args.self.now c.args.first k (g.S.Store.disk c.args.store.now) (g.S.Store.disk c.write.new.store) c.in_err-write.field-0.0) n c.in_err-write.ensures.broken))
 
 pub zero_run-requires : goal.zero_run-requires

@@ -1,4 +1,11 @@
-use Rattle.std.proofs.Common.{◌≡◌, sym, subst, List, [], map, ◌∙◌}
+use Rattle.std.proofs.Common.{◌≡◌, ◌<◌, inl, inr, refl, sym, subst, List, [], map, ◌∙◌}
+use Rattle.store_model.specs.Plans.{FailsToChange}
+use Rattle.vx_base.proofs.Handed.{failed_for, not_ok}
+use Rattle.layer_session.specs.ByLayers.{TellsAllSame}
+use Rattle.layer_session.proofs.Exits.{le_more}
+use Rattle.layer_session.proofs.Leading.{keeps_now}
+use Rattle.layer_session.proofs.Known.{both_untold}
+use Rattle.layer_session.proofs.WriteSteps.{open_for}
 use Rattle.store_model.specs.Disk.{WhereBothTold}
 use Rattle.block_alloc.specs.Spaces as spaces
 use Rattle.vhdx_format.specs.declared.log_entry.Page.{Page}
@@ -81,3 +88,109 @@ returns-then-not-can_commit-clause-ready g c =
     let l : Layer = c.args.self.now in
     subst (λ (pages : List Page). (let n : Layer = record l { tables = record (l.tables) { pending = pages } } in IsReady n (g.S.Store.disk c.args.store.now))) (sym c.clear.ensures)
     (left_out l (g.S.Store.disk c.args.store.now) c.requires.ready (λ all. true_false (sym (c.can_commit.ensures.1 all) ∙ c.if-not-can_commit.true)))
+
+pub returns-then-not-can_commit-clause-moments : goal.returns-then-not-can_commit-clause-moments
+returns-then-not-can_commit-clause-moments g c = keeps_now c.args.self.now (g.S.Store.disk c.args.store.now).told
+
+pub returns-then-not-can_commit-clause-committed : goal.returns-then-not-can_commit-clause-committed
+returns-then-not-can_commit-clause-committed g c =
+    let n : Layer = record (c.args.self.now) { tables = record (c.args.self.now.tables) { pending = c.clear.new.self } } in
+    both_untold (HasCommitted c.args.self.now n) (g.S.Store.disk c.args.store.now).told (λ t e. true_false (sym (c.can_commit.ensures.1 (c.requires.ready.told t e).1.can) ∙ c.if-not-can_commit.true))
+
+pub returns-then-not-can_commit-clause-empty : goal.returns-then-not-can_commit-clause-empty
+returns-then-not-can_commit-clause-empty g c = c.clear.ensures
+
+pub returns-then-not-can_commit-clause-number : goal.returns-then-not-can_commit-clause-number
+returns-then-not-can_commit-clause-number g c = le_more c.args.self.now.log.number 1
+
+pub returns-then-not-can_commit-clause-header : goal.returns-then-not-can_commit-clause-header
+returns-then-not-can_commit-clause-header g c = refl
+
+pub returns-then-not-can_commit-clause-parts : goal.returns-then-not-can_commit-clause-parts
+returns-then-not-can_commit-clause-parts g c = refl
+
+pub returns-then-not-can_commit-clause-leave : goal.returns-then-not-can_commit-clause-leave
+returns-then-not-can_commit-clause-leave g c = refl
+
+pub returns-then-not-can_commit-clause-plans : goal.returns-then-not-can_commit-clause-plans
+returns-then-not-can_commit-clause-plans g c = refl
+
+pub returns-then-not-can_commit-clause-counts : goal.returns-then-not-can_commit-clause-counts
+returns-then-not-can_commit-clause-counts g c = refl
+
+pub returns-then-not-can_commit-clause-says : goal.returns-then-not-can_commit-clause-says
+returns-then-not-can_commit-clause-says g c =
+    let n : Layer = record (c.args.self.now) { tables = record (c.args.self.now.tables) { pending = c.clear.new.self } } in
+    both_untold (TellsAllSame c.args.self.now n) (g.S.Store.disk c.args.store.now).told (λ t e. true_false (sym (c.can_commit.ensures.1 (c.requires.ready.told t e).1.can) ∙ c.if-not-can_commit.true))
+
+pub returns-then-not-can_commit-clause-space : goal.returns-then-not-can_commit-clause-space
+returns-then-not-can_commit-clause-space g c = inl refl
+
+pub commit-requires-clause-there : goal.commit-requires-clause-there
+commit-requires-clause-there g c = subst (λ f. f < (g.S.Store.disk c.args.store.now).files) (sym c.requires.ready.one_file) c.requires.ready.readable.there
+
+pub commit-requires-clause-pages : goal.commit-requires-clause-pages
+commit-requires-clause-pages g c = c.can_commit.ensures.0 c.if-not-can_commit.false
+
+pub returns-in_err-commit-clause-committed : goal.returns-in_err-commit-clause-committed
+returns-in_err-commit-clause-committed g c = not_ok c.from_residual.result _ c.from_residual.ensures.1 _
+
+pub returns-in_err-commit-clause-ready : goal.returns-in_err-commit-clause-ready
+returns-in_err-commit-clause-ready g c = not_ok c.from_residual.result _ c.from_residual.ensures.1 _
+
+pub returns-in_err-commit-clause-empty : goal.returns-in_err-commit-clause-empty
+returns-in_err-commit-clause-empty g c = not_ok c.from_residual.result _ c.from_residual.ensures.1 _
+
+pub returns-in_err-commit-clause-says : goal.returns-in_err-commit-clause-says
+returns-in_err-commit-clause-says g c = not_ok c.from_residual.result _ c.from_residual.ensures.1 _
+
+pub returns-in_err-commit-clause-space : goal.returns-in_err-commit-clause-space
+returns-in_err-commit-clause-space g c = not_ok c.from_residual.result _ c.from_residual.ensures.1 _
+
+pub returns-in_err-commit-clause-counts : goal.returns-in_err-commit-clause-counts
+returns-in_err-commit-clause-counts g c = not_ok c.from_residual.result _ c.from_residual.ensures.1 _
+
+pub returns-in_err-commit-clause-number : goal.returns-in_err-commit-clause-number
+returns-in_err-commit-clause-number g c = c.commit.ensures.number
+
+pub returns-in_err-commit-clause-header : goal.returns-in_err-commit-clause-header
+returns-in_err-commit-clause-header g c = c.commit.ensures.header
+
+pub returns-in_err-commit-clause-parts : goal.returns-in_err-commit-clause-parts
+returns-in_err-commit-clause-parts g c = refl
+
+pub returns-in_err-commit-clause-leave : goal.returns-in_err-commit-clause-leave
+returns-in_err-commit-clause-leave g c = refl
+
+pub returns-in_err-commit-clause-plans : goal.returns-in_err-commit-clause-plans
+returns-in_err-commit-clause-plans g c = refl
+
+pub returns-in_err-commit-clause-err : goal.returns-in_err-commit-clause-err
+returns-in_err-commit-clause-err g c = failed_for c.from_residual.result _ c.from_residual.ensures.1 _ (subst (λ f. FailsToChange f (g.S.Store.disk c.args.store.now) (g.S.Store.disk c.commit.new.store) c.in_err-commit.field-0.0) c.requires.ready.one_file c.in_err-commit.ensures.err)
+
+pub returns-clause-empty : goal.returns-clause-empty
+returns-clause-empty g c = c.in_ok-commit.ensures.taken
+
+pub returns-clause-number : goal.returns-clause-number
+returns-clause-number g c = c.commit.ensures.number
+
+pub returns-clause-header : goal.returns-clause-header
+returns-clause-header g c = c.commit.ensures.header
+
+pub returns-clause-parts : goal.returns-clause-parts
+returns-clause-parts g c = refl
+
+pub returns-clause-leave : goal.returns-clause-leave
+returns-clause-leave g c = refl
+
+pub returns-clause-plans : goal.returns-clause-plans
+returns-clause-plans g c = refl
+
+pub returns-clause-space : goal.returns-clause-space
+returns-clause-space g c = inr c.committed.ensures
+
+pub returns-clause-counts : goal.returns-clause-counts
+returns-clause-counts g c = c.in_ok-commit.ensures.counts
+
+pub commit-requires-clause-open : goal.commit-requires-clause-open
+commit-requires-clause-open g c = open_for c.args.self.now (g.S.Store.disk c.args.store.now) c.requires.ready

@@ -1,4 +1,4 @@
-use Rattle.std.proofs.Common.{◌≡◌, List, length, rules, refl, sym, subst}
+use Rattle.std.proofs.Common.{◌≡◌, ◌∙◌, List, length, refl, sym, subst}
 use Rattle.std.specs.Vec.{with_items}
 use Rattle.std.proofs.lemmas.List.{with_items_is}
 use Rattle.store_model.specs.Disk.{Disk}
@@ -19,7 +19,7 @@ look-requires-clause-readable g c = tables_readable c.args.self.now (g.S.Store.d
 
 pub returns-in-Ok-clause-looked : goal.returns-in-Ok-clause-looked
 returns-in-Ok-clause-looked g c t told =
-    let long : length c.look.new.plans ≡ c.args.self.now.plans.len = search rules in
+    let long : length c.look.new.plans ≡ c.args.self.now.plans.len = c.look.auto.plans ∙ c.as_mut_slice-plans.ensures.len in
     subst (λ (plans : List Plan). IsLooked (shape_of c.args.self.now.tables.parts) (held_by c.args.self.now t) c.args.trims plans 0 c.args.first c.args.count c.in-Ok.wanted) (sym (with_items_is c.args.self.now.plans c.look.new.plans long))
     (c.in-Ok.ensures.looked t told)
 
@@ -27,7 +27,7 @@ pub returns-in-Ok-clause-leads : goal.returns-in-Ok-clause-leads
 returns-in-Ok-clause-leads g c =
     let l : Layer = c.args.self.now in
     let disk : Disk = g.S.Store.disk c.args.store.now in
-    let long : length c.look.new.plans ≡ l.plans.len = search rules in
+    let long : length c.look.new.plans ≡ l.plans.len = c.look.auto.plans ∙ c.as_mut_slice-plans.ensures.len in
     let mid : Layer = record l { tables = c.look.new.tables } in
     let new : Layer = record l { tables = c.look.new.tables; plans = with_items l.plans c.look.new.plans } in
     let one : IsSame l mid disk = read_is_same l c.look.new.tables disk c.look.ensures.reads c.requires.ready.readable in
@@ -38,7 +38,7 @@ pub returns-in-Err-clause-leads : goal.returns-in-Err-clause-leads
 returns-in-Err-clause-leads g c =
     let l : Layer = c.args.self.now in
     let disk : Disk = g.S.Store.disk c.args.store.now in
-    let long : length c.look.new.plans ≡ l.plans.len = search rules in
+    let long : length c.look.new.plans ≡ l.plans.len = c.look.auto.plans ∙ c.as_mut_slice-plans.ensures.len in
     let mid : Layer = record l { tables = c.look.new.tables } in
     let new : Layer = record l { tables = c.look.new.tables; plans = with_items l.plans c.look.new.plans } in
     let one : IsSame l mid disk = read_is_same l c.look.new.tables disk c.look.ensures.reads c.requires.ready.readable in
@@ -47,5 +47,5 @@ returns-in-Err-clause-leads g c =
 
 pub returns-in-Ok-clause-counted : goal.returns-in-Ok-clause-counted
 returns-in-Ok-clause-counted g c =
-    let long : length c.look.new.plans ≡ c.args.self.now.plans.len = search rules in
+    let long : length c.look.new.plans ≡ c.args.self.now.plans.len = c.look.auto.plans ∙ c.as_mut_slice-plans.ensures.len in
     subst (λ (plans : List Plan). AreCounted (shape_of c.args.self.now.tables.parts) plans 0 c.args.first c.args.count c.in-Ok.wanted) (sym (with_items_is c.args.self.now.plans c.look.new.plans long)) c.in-Ok.ensures.counted

@@ -1,12 +1,12 @@
-use Rattle.std.proofs.Common.{◌≡◌, ◌/◌, ◌^◌, List, length, true, false, ap, ◌∙◌, inl, inr, rules, sym, subst, refl}
+use Rattle.std.proofs.Common.{◌≡◌, ◌+◌, ◌-◌, ◌/◌, ◌%◌, ◌^◌, List, length, true, false, ap, ◌∙◌, inl, inr, sym, subst, refl}
 use Rattle.std.specs.Prelude.{None}
 use Rattle.std.specs.Vec.{with_items}
 use Rattle.std.proofs.lemmas.List.{with_items_is}
 use Rattle.store_model.specs.Disk.{Disk}
-use Rattle.table_pages.specs.Held.{shape_of}
+use Rattle.table_pages.specs.Held.{bit_pages, shape_of}
 use Rattle.layer_session.specs.declared.file.Layer.{Layer}
 use Rattle.layer_session.specs.declared.planning.Plan.{Plan}
-use Rattle.layer_session.specs.Bringing.{AreBitsOf, AreNamed, HasBits, HasEntry, InChunk, Leads, LeadsTo, NamesBitmap, SpansBits}
+use Rattle.layer_session.specs.Bringing.{AreBitsOf, AreNamed, HasBits, HasEntry, HasMade, InChunk, Leads, most_bit_pages, LeadsTo, NamesBitmap, SpansBits}
 use Rattle.layer_session.specs.Calls.{IsSame}
 use Rattle.layer_session.specs.Planning.{EachRun}
 use Rattle.layer_session.specs.Steps.{held_by}
@@ -15,7 +15,11 @@ use Rattle.layer_session.proofs.Leading.{leads_same, leads_then, planned_long, p
 use Rattle.layer_session.proofs.Readable.{same_self}
 use Rattle.vx_base.proofs.Handed.{err_is, not_ok}
 use Rattle.layer_session.proofs.Exits.{few_in, le_more, refused_for, says_self}
+use Rattle.layer_session.specs.ByLayers.{TellsSameBut}
 use Rattle.layer_session.specs.ByTables.{most_made}
+use Rattle.layer_session.proofs.AtHand.{items_same}
+use Rattle.layer_session.proofs.Known.{few_made, pages_few, room_less}
+use Rattle.layer_session.proofs.Told.{both_map}
 use Rattle.layer_session.proofs.file.Layer.make_chunk.Goals as goal
 
 pub returns-then-not-missing-clause-leads : goal.returns-then-not-missing-clause-leads
@@ -46,7 +50,7 @@ returns-clause-leads g c =
     let l : Layer = c.args.self.now in
     let m : Layer = c.make_bitmap.new.self in
     let disk : Disk = g.S.Store.disk c.make_bitmap.new.store in
-    let long : length c.name_bitmap.new.plans ≡ m.plans.len = search rules in
+    let long : length c.name_bitmap.new.plans ≡ m.plans.len = c.name_bitmap.ensures.len ∙ c.as_mut_slice.ensures.len in
     let n : Layer = record m { plans = with_items m.plans c.name_bitmap.new.plans } in
     let leads : LeadsTo l m (g.S.Store.disk c.args.store.now) disk = c.in_ok-word.ensures.leads in
     let same : IsSame m n disk = plans_same m n disk refl leads.ready.readable (planned_long m c.name_bitmap.new.plans long leads.ready.plans) in
@@ -56,9 +60,9 @@ pub returns-clause-at_hand : goal.returns-clause-at_hand
 returns-clause-at_hand g c =
     let l : Layer = c.args.self.now in
     let m : Layer = c.make_bitmap.new.self in
-    let long : length c.name_bitmap.new.plans ≡ m.plans.len = search rules in
+    let long : length c.name_bitmap.new.plans ≡ m.plans.len = c.name_bitmap.ensures.len ∙ c.as_mut_slice.ensures.len in
     let leads : LeadsTo l m (g.S.Store.disk c.args.store.now) (g.S.Store.disk c.make_bitmap.new.store) = c.in_ok-word.ensures.leads in
-    let items : c.as_mut_slice.result.now ≡ l.plans.items = search rules in
+    let items : c.as_mut_slice.result.now ≡ l.plans.items = c.as_mut_slice.ensures.value ∙ items_same l m c.make_bitmap.ensures.plans in
     let spans : SpansBits (shape_of l.tables.parts) l.plans.items (c.args.sector / 2 ^ 23) 0 c.args.first c.args.count c.in-Some.bits =
     subst (λ (plans : List Plan). SpansBits (shape_of l.tables.parts) plans (c.args.sector / 2 ^ 23) 0 c.args.first c.args.count c.in-Some.bits) c.as_slice.ensures.value c.in-Some.ensures in
     let named : AreNamed (shape_of l.tables.parts) (c.args.sector / 2 ^ 23) l.plans.items c.name_bitmap.new.plans 0 c.args.first c.args.count =
@@ -71,7 +75,7 @@ pub returns-clause-there : goal.returns-clause-there
 returns-clause-there g c t told =
     let l : Layer = c.args.self.now in
     let m : Layer = c.make_bitmap.new.self in
-    let long : length c.name_bitmap.new.plans ≡ m.plans.len = search rules in
+    let long : length c.name_bitmap.new.plans ≡ m.plans.len = c.name_bitmap.ensures.len ∙ c.as_mut_slice.ensures.len in
     subst (λ (plans : List Plan). EachRun (shape_of l.tables.parts) plans (InChunk (c.args.sector / 2 ^ 23) (NamesBitmap (shape_of l.tables.parts) (held_by m t))) 0 c.args.first c.args.count) (sym (with_items_is m.plans c.name_bitmap.new.plans long))
     (names_new (shape_of l.tables.parts) (held_by m t) c.name_bitmap.new.plans c.args.sector c.args.first c.args.count c.in_ok-word.word (c.requires.parent (let on : c.args.missing ≡ true = c.if-not-missing.false in on)) c.in_ok-word.ensures.six
     (made_told l m c.args.sector c.in_ok-word.word (g.S.Store.disk c.args.store.now).told (g.S.Store.disk c.make_bitmap.new.store).told t c.in_ok-word.ensures.made told) c.name_bitmap.ensures.word)
@@ -80,8 +84,8 @@ pub returns-clause-named : goal.returns-clause-named
 returns-clause-named g c =
     let l : Layer = c.args.self.now in
     let m : Layer = c.make_bitmap.new.self in
-    let long : length c.name_bitmap.new.plans ≡ m.plans.len = search rules in
-    let items : c.as_mut_slice.result.now ≡ l.plans.items = search rules in
+    let long : length c.name_bitmap.new.plans ≡ m.plans.len = c.name_bitmap.ensures.len ∙ c.as_mut_slice.ensures.len in
+    let items : c.as_mut_slice.result.now ≡ l.plans.items = c.as_mut_slice.ensures.value ∙ items_same l m c.make_bitmap.ensures.plans in
     subst (λ (plans : List Plan). AreNamed (shape_of l.tables.parts) (c.args.sector / 2 ^ 23) l.plans.items plans 0 c.args.first c.args.count) (sym (with_items_is m.plans c.name_bitmap.new.plans long))
     (subst (λ (plans : List Plan). AreNamed (shape_of l.tables.parts) (c.args.sector / 2 ^ 23) plans c.name_bitmap.new.plans 0 c.args.first c.args.count) items c.name_bitmap.ensures.named)
 
@@ -210,3 +214,30 @@ returns-then-not-missing-clause-says g c = says_self c.args.self.now (c.args.sec
 
 pub returns-in_default-clause-says : goal.returns-in_default-clause-says
 returns-in_default-clause-says g c = says_self c.args.self.now (c.args.sector / 2 ^ 23) (g.S.Store.disk c.args.store.now).told
+
+pub make_bitmap-requires-clause-few : goal.make_bitmap-requires-clause-few
+make_bitmap-requires-clause-few g c =
+    room_less (length c.args.self.now.tables.pending + 1) (bit_pages (c.in-Some.bits.first % 2 ^ 23) (c.in-Some.bits.end - c.in-Some.bits.first)) (most_bit_pages (shape_of c.args.self.now.tables.parts) c.args.count)
+    (pages_few (shape_of c.args.self.now.tables.parts) (record { sector = c.requires.ready.readable.sizes.sector; block = c.requires.ready.readable.sizes.block }) (c.args.sector / 2 ^ 23) c.args.first c.args.count c.in-Some.bits.first c.in-Some.bits.end _
+    c.in-Some.ensures.span.near c.in-Some.ensures.span.far refl) (c.requires.pages c.if-not-missing.false)
+
+pub returns-in_err-word-clause-pages : goal.returns-in_err-word-clause-pages
+returns-in_err-word-clause-pages g c =
+    few_made c.args.missing (length c.make_bitmap.new.self.tables.pending) (length c.args.self.now.tables.pending) (bit_pages (c.in-Some.bits.first % 2 ^ 23) (c.in-Some.bits.end - c.in-Some.bits.first)) (most_bit_pages (shape_of c.args.self.now.tables.parts) c.args.count)
+    c.if-not-missing.false c.make_bitmap.ensures.few
+    (pages_few (shape_of c.args.self.now.tables.parts) (record { sector = c.requires.ready.readable.sizes.sector; block = c.requires.ready.readable.sizes.block }) (c.args.sector / 2 ^ 23) c.args.first c.args.count c.in-Some.bits.first c.in-Some.bits.end _
+    c.in-Some.ensures.span.near c.in-Some.ensures.span.far refl)
+
+pub returns-clause-pages : goal.returns-clause-pages
+returns-clause-pages g c =
+    few_made c.args.missing (length c.make_bitmap.new.self.tables.pending) (length c.args.self.now.tables.pending) (bit_pages (c.in-Some.bits.first % 2 ^ 23) (c.in-Some.bits.end - c.in-Some.bits.first)) (most_bit_pages (shape_of c.args.self.now.tables.parts) c.args.count)
+    c.if-not-missing.false c.make_bitmap.ensures.few
+    (pages_few (shape_of c.args.self.now.tables.parts) (record { sector = c.requires.ready.readable.sizes.sector; block = c.requires.ready.readable.sizes.block }) (c.args.sector / 2 ^ 23) c.args.first c.args.count c.in-Some.bits.first c.in-Some.bits.end _
+    c.in-Some.ensures.span.near c.in-Some.ensures.span.far refl)
+
+pub name_bitmap-requires-clause-few : goal.name_bitmap-requires-clause-few
+name_bitmap-requires-clause-few g c = few_in _ _ c.requires.few (ap length (c.as_mut_slice.ensures.value ∙ items_same c.args.self.now c.make_bitmap.new.self c.make_bitmap.ensures.plans) ∙ c.requires.ready.plans)
+
+pub returns-clause-says : goal.returns-clause-says
+returns-clause-says g c =
+    both_map (HasMade c.args.self.now c.make_bitmap.new.self c.args.sector c.in_ok-word.word) (TellsSameBut (c.args.sector / 2 ^ 23) c.args.self.now c.make_bitmap.new.self) _ _ c.in_ok-word.ensures.made (λ t u a b made. made.says)

@@ -1,8 +1,8 @@
 use Rattle.std.proofs.Common.{◌+◌, arith}
+use Rattle.vx_base.proofs.Handed.{ok_then}
 use Rattle.layer_session.specs.Calls.{own_bytes}
 use Rattle.layer_session.specs.Reading.{layer_by}
 use Rattle.layer_session.proofs.Owned.{adds_alike}
-use Rattle.layer_session.proofs.Parted.{ok_then}
 use Rattle.layer_session.proofs.Readable.{layer_is, read_is_same, tables_readable, tables_stored}
 use Rattle.layer_session.proofs.file.Layer.own.Goals as goal
 

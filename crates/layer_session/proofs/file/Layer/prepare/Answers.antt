@@ -15,6 +15,9 @@ use Rattle.log_write.specs.Sessions.{LogState}
 use Rattle.layer_session.specs.Bringing.{Leads}
 use Rattle.vx_base.proofs.Handed.{err_is, not_ok}
 use Rattle.layer_session.proofs.Exits.{le_more, ok_not_full}
+use Rattle.table_pages.specs.Held.{shape_of}
+use Rattle.layer_session.specs.Planning.{AreCounted}
+use Rattle.layer_session.proofs.Known.{leads_counts, leads_leave, leads_parts, leads_ready, of_parts, one_less}
 use Rattle.layer_session.proofs.file.Layer.prepare.Goals as goal
 
 pub returns-in_err-wanted-clause-room : goal.returns-in_err-wanted-clause-room
@@ -146,3 +149,30 @@ returns-clause-prepared g c = c.put_at_hand.ensures.prepared
 
 pub returns-clause-header : goal.returns-clause-header
 returns-clause-header g c = c.put_at_hand.ensures.header ∙ ap (λ (s : LogState). s.header) c.plan.ensures.log
+
+pub returns-in_err-wanted-clause-parts : goal.returns-in_err-wanted-clause-parts
+returns-in_err-wanted-clause-parts g c = leads_parts c.args.self.now c.plan.new.self (g.S.Store.disk c.args.store.now) (g.S.Store.disk c.plan.new.store) c.plan.result c.plan.ensures.leads
+
+pub returns-clause-parts : goal.returns-clause-parts
+returns-clause-parts g c = leads_parts c.plan.new.self c.put_at_hand.new.self (g.S.Store.disk c.plan.new.store) (g.S.Store.disk c.put_at_hand.new.store) c.put_at_hand.result c.put_at_hand.ensures.leads ∙ c.in_ok-wanted.ensures.leads.parts
+
+pub returns-in_err-wanted-clause-leave : goal.returns-in_err-wanted-clause-leave
+returns-in_err-wanted-clause-leave g c = leads_leave c.args.self.now c.plan.new.self (g.S.Store.disk c.args.store.now) (g.S.Store.disk c.plan.new.store) c.plan.result c.plan.ensures.leads
+
+pub returns-clause-leave : goal.returns-clause-leave
+returns-clause-leave g c = leads_leave c.plan.new.self c.put_at_hand.new.self (g.S.Store.disk c.plan.new.store) (g.S.Store.disk c.put_at_hand.new.store) c.put_at_hand.result c.put_at_hand.ensures.leads ∙ c.in_ok-wanted.ensures.leads.leave
+
+pub put_at_hand-requires-clause-numbers : goal.put_at_hand-requires-clause-numbers
+put_at_hand-requires-clause-numbers g c = subst (λ (s : LogState). s.number ≤ 18446744069414584320) (sym c.plan.ensures.log) (one_less c.args.self.now.log.number _ c.requires.numbers)
+
+pub put_at_hand-requires-clause-counted : goal.put_at_hand-requires-clause-counted
+put_at_hand-requires-clause-counted g c = of_parts (λ p. AreCounted (shape_of p) c.plan.new.self.plans.items 0 c.args.first c.args.count c.in_ok-wanted.wanted) _ _ c.in_ok-wanted.ensures.leads.parts c.in_ok-wanted.ensures.counted
+
+pub returns-clause-ready : goal.returns-clause-ready
+returns-clause-ready g c = leads_ready c.plan.new.self c.put_at_hand.new.self (g.S.Store.disk c.plan.new.store) (g.S.Store.disk c.put_at_hand.new.store) c.put_at_hand.result c.put_at_hand.ensures.leads
+
+pub returns-clause-number : goal.returns-clause-number
+returns-clause-number g c = subst (λ (s : LogState). c.put_at_hand.new.self.log.number ≤ s.number + 1) c.plan.ensures.log c.put_at_hand.ensures.number
+
+pub returns-clause-counts : goal.returns-clause-counts
+returns-clause-counts g c = leads_counts c.plan.new.self c.put_at_hand.new.self (g.S.Store.disk c.args.store.now) (g.S.Store.disk c.plan.new.store) (g.S.Store.disk c.put_at_hand.new.store) c.put_at_hand.result c.in_ok-wanted.ensures.leads.counts c.put_at_hand.ensures.leads

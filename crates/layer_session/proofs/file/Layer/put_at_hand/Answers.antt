@@ -1,18 +1,24 @@
-use Rattle.std.proofs.Common.{◌≡◌, ℕ, ◌+◌, ◌*◌, ◌<◌, ◌≤◌, ◌-◌, ◌&&◌, ◌==◌, ◌∙◌, Bool, true, false, length, arith, ap, refl, sym, subst}
-use Rattle.std.proofs.lemmas.Bool.{eq-eqb}
-use Rattle.std.specs.Prelude.{Err, not}
+use Rattle.std.proofs.Common.{◌≡◌, ℕ, ◌+◌, ◌*◌, ◌/◌, ◌^◌, ◌<◌, ◌≤◌, ◌-◌, ◌&&◌, ◌==◌, ◌∙◌, Bool, true, false, length, arith, ap, refl, sym, subst}
+use Rattle.std.proofs.lemmas.Bool.{and_parts, eq-eqb}
+use Rattle.std.specs.Prelude.{Err, Some, not}
+use Rattle.store_model.specs.Disk.{Disk}
+use Rattle.layer_session.proofs.Sectors.{first_below}
 use Rattle.table_pages.specs.declared.tables.TableParts.{TableParts}
 use Rattle.layer_session.specs.declared.preparing.Missing.{Missing}
-use Rattle.layer_session.specs.ByTables.{IsBitmapEntryAtHand}
+use Rattle.layer_session.specs.ByTables.{HaveBits, IsBitmapEntryAtHand, most_made}
+use Rattle.layer_session.specs.Planning.{EachRun}
+use Rattle.layer_session.specs.Steps.{held_by}
+use Rattle.layer_session.proofs.BothChunks.{names_of}
+use Rattle.layer_session.proofs.Known.{end_fits, made_far, made_near, most_some, of_parts}
 use Rattle.layer_session.specs.declared.file.LayerFault.{LayerFault}
-use Rattle.layer_session.specs.Bringing.{Leads}
+use Rattle.layer_session.specs.Bringing.{HasEntry, Leads}
 use Rattle.layer_session.proofs.AtHand.{entries_four, far_two, hand_four, lacks_four, lacks_three, near_two, prepared_five, room_four, room_three, there_four, wants_five}
 use Rattle.layer_session.proofs.Leading.{leads_on, leads_then, prepared_by}
 use Rattle.table_pages.specs.Held.{shape_of}
 use Rattle.log_write.specs.Sessions.{LogState}
 use Rattle.layer_session.specs.Blocks.{blocks_of}
 use Rattle.vx_base.proofs.Handed.{err_is, not_ok}
-use Rattle.layer_session.proofs.Exits.{first_on, last_on, pages_room, never_full, never_handed}
+use Rattle.layer_session.proofs.Exits.{last_on, pages_room, never_full, never_handed}
 use Rattle.layer_session.specs.Bringing.{most_bit_pages}
 use Rattle.layer_session.proofs.file.Layer.put_at_hand.Goals as goal
 
@@ -228,7 +234,7 @@ pub make_chunk-requires-2-clause-ready : goal.make_chunk-requires-2-clause-ready
 make_chunk-requires-2-clause-ready g c = c.in_ok-make_chunk.ensures.leads.ready
 
 pub make_chunk-requires-clause-sector : goal.make_chunk-requires-clause-sector
-make_chunk-requires-clause-sector g c = subst (λ (p : TableParts). c.args.first < p.sectors) (sym (c.in_ok-bring_pages.ensures.leads.parts ∙ c.in_ok-make_room.ensures.leads.parts)) (first_on c.args.first c.args.count _ c.requires.some c.requires.on_disk)
+make_chunk-requires-clause-sector g c = subst (λ (p : TableParts). c.args.first < p.sectors) (sym (c.in_ok-bring_pages.ensures.leads.parts ∙ c.in_ok-make_room.ensures.leads.parts)) (first_below c.args.first c.args.count _ c.requires.some c.requires.on_disk)
 
 pub bring_pages-requires-clause-room : goal.bring_pages-requires-clause-room
 bring_pages-requires-clause-room g c = pages_room (length c.make_room.new.self.tables.pending) c.pages_for.result (most_bit_pages (shape_of c.make_room.new.self.tables.parts) c.args.count) (c.pages_for.ensures.is ∙ ap (λ (p : TableParts). 2 + 2 * (2 + most_bit_pages (shape_of p) c.args.count)) (sym c.in_ok-make_room.ensures.leads.parts)) c.in_ok-make_room.ensures.room
@@ -238,3 +244,45 @@ make_chunk-requires-2-clause-sector g c = subst (λ (p : TableParts). c.args.fir
 
 pub overflow_sub-last : goal.overflow_sub-last
 overflow_sub-last g c = let h = c.requires.some in omega (arith, h)
+
+pub overflow_add-last : goal.overflow_add-last
+overflow_add-last g c = end_fits c.args.self.now.tables.parts c.requires.ready.readable.sizes c.args.first c.args.count c.requires.on_disk
+
+pub bring_pages-requires-clause-near : goal.bring_pages-requires-clause-near
+bring_pages-requires-clause-near g c e = of_parts (λ p. p.parent ≡ true) _ _ c.in_ok-make_room.ensures.leads.parts ((and_parts _ _ (ap (λ (m : Missing). m.near) (sym c.find_missing-missing.ensures) ∙ e)).0)
+
+pub bring_pages-requires-clause-far : goal.bring_pages-requires-clause-far
+bring_pages-requires-clause-far g c e = of_parts (λ p. p.parent ≡ true) _ _ c.in_ok-make_room.ensures.leads.parts ((and_parts _ _ (ap (λ (m : Missing). m.far) (sym c.find_missing-missing.ensures) ∙ e)).0)
+
+pub make_chunk-requires-clause-parent : goal.make_chunk-requires-clause-parent
+make_chunk-requires-clause-parent g c e = of_parts (λ p. p.parent ≡ true) _ _ (c.in_ok-bring_pages.ensures.leads.parts ∙ c.in_ok-make_room.ensures.leads.parts) ((and_parts _ _ (ap (λ (m : Missing). m.near) (sym c.find_missing-missing.ensures) ∙ e)).0)
+
+pub make_chunk-requires-2-clause-parent : goal.make_chunk-requires-2-clause-parent
+make_chunk-requires-2-clause-parent g c e = of_parts (λ p. p.parent ≡ true) _ _ (c.in_ok-make_chunk.ensures.leads.parts ∙ (c.in_ok-bring_pages.ensures.leads.parts ∙ c.in_ok-make_room.ensures.leads.parts)) ((and_parts _ _ (ap (λ (m : Missing). m.far) (sym c.find_missing-missing.ensures) ∙ e)).0)
+
+pub make_chunk-requires-clause-entries : goal.make_chunk-requires-clause-entries
+make_chunk-requires-clause-entries g c = of_parts (λ p. EachRun (shape_of p) c.bring_pages.new.self.plans.items (HasEntry c.bring_pages.new.self.tables) 0 c.args.first c.args.count) _ _ c.in_ok-bring_pages.ensures.leads.parts c.in_ok-bring_pages.ensures.brings.entries
+
+pub make_chunk-requires-clause-entry : goal.make_chunk-requires-clause-entry
+make_chunk-requires-clause-entry g c e = of_parts (λ p. IsBitmapEntryAtHand p c.args.first c.bring_pages.new.self.tables.pending) _ _ c.in_ok-bring_pages.ensures.leads.parts (c.in_ok-bring_pages.ensures.brings.near_entry e)
+
+pub make_chunk-requires-clause-at_hand : goal.make_chunk-requires-clause-at_hand
+make_chunk-requires-clause-at_hand g c e = of_parts (λ p. HaveBits (c.args.first / 2 ^ 23) (shape_of p) c.bring_pages.new.self.tables c.bring_pages.new.self.plans.items c.args.first c.args.count) _ _ c.in_ok-bring_pages.ensures.leads.parts (c.in_ok-bring_pages.ensures.brings.near e)
+
+pub make_chunk-requires-clause-there : goal.make_chunk-requires-clause-there
+make_chunk-requires-clause-there g c e t told =
+    let here : (g.S.Store.disk c.make_room.new.store).told ≡ Some t = ap (λ (d : Disk). d.told) (sym c.in_ok-bring_pages.ensures.stays) ∙ told in
+    names_of c.make_room.new.self.tables.parts c.bring_pages.new.self.tables.parts c.bring_pages.new.self.plans.items (c.args.first / 2 ^ 23) (held_by c.make_room.new.self t) (held_by c.bring_pages.new.self t) c.args.first c.args.count
+    c.in_ok-bring_pages.ensures.leads.parts (c.in_ok-bring_pages.ensures.held t here) (c.in_ok-bring_pages.ensures.near_there e t here)
+
+pub make_chunk-requires-clause-pages : goal.make_chunk-requires-clause-pages
+make_chunk-requires-clause-pages g c e =
+    of_parts (λ p. length c.bring_pages.new.self.tables.pending + 1 + most_bit_pages (shape_of p) c.args.count ≤ 120) _ _ c.in_ok-bring_pages.ensures.leads.parts
+    (made_near c.find_missing-missing.result (length c.make_room.new.self.tables.pending) _ c.pages_for.result (most_bit_pages (shape_of c.make_room.new.self.tables.parts) c.args.count) e c.bring_pages.ensures.few (most_some (shape_of c.make_room.new.self.tables.parts) c.args.count) (c.pages_for.ensures.is ∙ ap (λ (p : TableParts). 2 + 2 * (2 + most_bit_pages (shape_of p) c.args.count)) (sym c.in_ok-make_room.ensures.leads.parts)) c.in_ok-make_room.ensures.room)
+
+pub make_chunk-requires-2-clause-pages : goal.make_chunk-requires-2-clause-pages
+make_chunk-requires-2-clause-pages g c e =
+    of_parts (λ p. length c.make_chunk.new.self.tables.pending + 1 + most_bit_pages (shape_of p) c.args.count ≤ 120) _ _ (c.in_ok-make_chunk.ensures.leads.parts ∙ c.in_ok-bring_pages.ensures.leads.parts)
+    (made_far c.find_missing-missing.result (length c.make_room.new.self.tables.pending) (length c.bring_pages.new.self.tables.pending) _ c.pages_for.result (most_bit_pages (shape_of c.make_room.new.self.tables.parts) c.args.count) e c.bring_pages.ensures.few
+    (subst (λ (p : TableParts). length c.make_chunk.new.self.tables.pending ≤ length c.bring_pages.new.self.tables.pending + most_made c.find_missing-missing.result.near (shape_of p) c.args.count) c.in_ok-bring_pages.ensures.leads.parts c.make_chunk.ensures.pages)
+    (c.pages_for.ensures.is ∙ ap (λ (p : TableParts). 2 + 2 * (2 + most_bit_pages (shape_of p) c.args.count)) (sym c.in_ok-make_room.ensures.leads.parts)) c.in_ok-make_room.ensures.room)

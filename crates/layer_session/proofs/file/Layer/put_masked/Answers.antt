@@ -1,5 +1,8 @@
-use Rattle.std.proofs.Common.{◌≡◌, ◌+◌, ◌*◌, ◌%◌, ◌<◌, ◌≤◌, arith, rules, true, false, refl, sym, subst, ap, ◌∙◌}
+use Rattle.std.proofs.Common.{◌≡◌, ◌+◌, ◌*◌, ◌%◌, ◌<◌, ◌≤◌, arith, true, false, refl, sym, subst, ap, ◌∙◌}
 use Rattle.std.specs.Prelude.{Err}
+use Rattle.layer_session.proofs.Leading.{keeps_now}
+use Rattle.layer_session.proofs.Joining.{fails_from}
+use Rattle.store_model.proofs.Told.{counts_join}
 use Rattle.vhdx_format.specs.Layers.{HasSizes}
 use Rattle.store_model.specs.Disk.{WhereBothTold, WhereTold}
 use Rattle.table_pages.specs.Held.{shape_of}
@@ -8,19 +11,18 @@ use Rattle.layer_session.specs.Blocks.{run_in_block}
 use Rattle.layer_session.specs.Masked.{HasPutNamed, IsBrokenNamed, IsSpot, is_masked, with_masked}
 use Rattle.layer_session.specs.Steps.{Begins, Wants, held_by}
 use Rattle.layer_session.proofs.Frames.{run_pages, run_room, run_todo}
-use Rattle.layer_session.proofs.Masking.{all_broken, all_moments, all_put, early_broken, fails_behind, keeps_named, masked_off, none_masked, nothing_named, ready_broken, ready_moments, some_masked}
-use Rattle.layer_session.proofs.Readying.{quiet_now}
+use Rattle.layer_session.proofs.Masking.{all_broken, all_moments, all_put, early_broken, keeps_named, masked_off, none_masked, nothing_named, ready_broken, ready_moments, some_masked}
 use Rattle.layer_session.proofs.Spots.{all_in_block}
 use Rattle.layer_session.proofs.Told.{both_end, if_err_map, ok_map}
 use Rattle.layer_session.proofs.Equal.{true_false}
 use Rattle.layer_session.specs.Calls.{Fails}
-use Rattle.vx_base.proofs.Handed.{failed_for, not_ok}
-use Rattle.layer_session.proofs.Exits.{block_few, counts_then, either_way, full_off, had_room, no_refusal, not_full, ok_not_full, refused_for, refused_off, room_for, room_off}
+use Rattle.vx_base.proofs.Handed.{err_is, failed_for, not_ok}
+use Rattle.layer_session.proofs.Exits.{block_few, either_way, full_off, had_room, no_refusal, not_full, ok_not_full, refused_for, refused_off, room_for, room_off}
 use Rattle.layer_session.proofs.file.Layer.put_masked.Goals as goal
 
 pub returns-then-not-names_some-clause-moments : goal.returns-then-not-names_some-clause-moments
 returns-then-not-names_some-clause-moments g c =
-    keeps_named c.args.self.now (is_masked c.args.first c.args.count 0 c.args.mask.now) (g.S.Store.disk c.args.store.now).told (g.S.Store.disk c.args.store.now).told (quiet_now c.args.self.now (g.S.Store.disk c.args.store.now).told)
+    keeps_named c.args.self.now (is_masked c.args.first c.args.count 0 c.args.mask.now) (g.S.Store.disk c.args.store.now).told (g.S.Store.disk c.args.store.now).told (keeps_now c.args.self.now (g.S.Store.disk c.args.store.now).told)
 
 pub returns-then-not-names_some-clause-put : goal.returns-then-not-names_some-clause-put
 returns-then-not-names_some-clause-put g c =
@@ -40,11 +42,11 @@ returns-in_err-prepare-clause-moments g c =
 
 pub returns-in_err-prepare-clause-broken : goal.returns-in_err-prepare-clause-broken
 returns-in_err-prepare-clause-broken g c =
-    early_broken c.from_residual.result c.in_err-prepare.field-0.0 c.args.self.now c.prepare.new.self (is_masked c.args.first c.args.count 0 c.args.mask.now) (g.S.Store.disk c.args.store.now) (g.S.Store.disk c.prepare.new.store) (search rules) c.in_err-prepare.ensures.broken
+    early_broken c.from_residual.result c.in_err-prepare.field-0.0 c.args.self.now c.prepare.new.self (is_masked c.args.first c.args.count 0 c.args.mask.now) (g.S.Store.disk c.args.store.now) (g.S.Store.disk c.prepare.new.store) (err_is c.from_residual.result _ c.from_residual.ensures.1) c.in_err-prepare.ensures.broken
 
 pub returns-in_err-prepare-clause-full : goal.returns-in_err-prepare-clause-full
 returns-in_err-prepare-clause-full g c next e =
-    let told : c.from_residual.result ≡ Err c.in_err-prepare.field-0.0 = search rules in c.in_err-prepare.ensures.full next (sym told ∙ e)
+    let told : c.from_residual.result ≡ Err c.in_err-prepare.field-0.0 = err_is c.from_residual.result _ c.from_residual.ensures.1 in c.in_err-prepare.ensures.full next (sym told ∙ e)
 
 pub returns-in_err-prepare-clause-nothing : goal.returns-in_err-prepare-clause-nothing
 returns-in_err-prepare-clause-nothing g c none =
@@ -99,7 +101,7 @@ returns-in_err-spot-clause-moments g c =
 
 pub returns-in_err-spot-clause-broken : goal.returns-in_err-spot-clause-broken
 returns-in_err-spot-clause-broken g c =
-    ready_broken c.args.self.now c.prepare.new.self c.args.first c.args.count false (is_masked c.args.first c.args.count 0 c.args.mask.now) (g.S.Store.disk c.args.store.now) (g.S.Store.disk c.prepare.new.store) c.in_ok-prepare.ensures.done c.prepare.ensures.moments c.from_residual-in_err-spot.result c.in_err-spot.field-0.0 c.ready_spot.new.self (g.S.Store.disk c.ready_spot.new.store) (search rules) c.in_err-spot.ensures.broken
+    ready_broken c.args.self.now c.prepare.new.self c.args.first c.args.count false (is_masked c.args.first c.args.count 0 c.args.mask.now) (g.S.Store.disk c.args.store.now) (g.S.Store.disk c.prepare.new.store) c.in_ok-prepare.ensures.done c.prepare.ensures.moments c.from_residual-in_err-spot.result c.in_err-spot.field-0.0 c.ready_spot.new.self (g.S.Store.disk c.ready_spot.new.store) (err_is c.from_residual-in_err-spot.result _ c.from_residual-in_err-spot.ensures.1) c.in_err-spot.ensures.broken
 
 pub returns-in_err-spot-clause-nothing : goal.returns-in_err-spot-clause-nothing
 returns-in_err-spot-clause-nothing g c none =
@@ -234,7 +236,7 @@ pub returns-in_err-spot-clause-header : goal.returns-in_err-spot-clause-header
 returns-in_err-spot-clause-header g c = c.in_err-spot.ensures.broken.header ∙ c.prepare.ensures.header
 
 pub returns-in_err-spot-clause-err : goal.returns-in_err-spot-clause-err
-returns-in_err-spot-clause-err g c = failed_for c.from_residual-in_err-spot.result c.in_err-spot.field-0.0 c.from_residual-in_err-spot.ensures.1 (Fails c.args.self.now.tables.parts.file (g.S.Store.disk c.args.store.now) (g.S.Store.disk c.ready_spot.new.store)) (fails_behind c.args.self.now.tables.parts.file (g.S.Store.disk c.args.store.now) (g.S.Store.disk c.prepare.new.store) (g.S.Store.disk c.ready_spot.new.store) c.in_err-spot.field-0.0 c.in_err-spot.ensures.broken.cause c.in_err-spot.ensures.broken.written c.in_ok-prepare.ensures.counts (subst (λ n. Fails n (g.S.Store.disk c.prepare.new.store) (g.S.Store.disk c.ready_spot.new.store) c.in_err-spot.field-0.0) (ap (λ (p : TableParts). p.file) c.prepare.ensures.parts) c.in_err-spot.ensures.broken.fails))
+returns-in_err-spot-clause-err g c = failed_for c.from_residual-in_err-spot.result c.in_err-spot.field-0.0 c.from_residual-in_err-spot.ensures.1 (Fails c.args.self.now.tables.parts.file (g.S.Store.disk c.args.store.now) (g.S.Store.disk c.ready_spot.new.store)) (fails_from c.args.self.now.tables.parts.file (g.S.Store.disk c.args.store.now) (g.S.Store.disk c.prepare.new.store) (g.S.Store.disk c.ready_spot.new.store) c.in_err-spot.field-0.0 c.in_err-spot.ensures.broken.cause c.in_err-spot.ensures.broken.written c.in_ok-prepare.ensures.counts (subst (λ n. Fails n (g.S.Store.disk c.prepare.new.store) (g.S.Store.disk c.ready_spot.new.store) c.in_err-spot.field-0.0) (ap (λ (p : TableParts). p.file) c.prepare.ensures.parts) c.in_err-spot.ensures.broken.fails))
 
 pub returns-in_err-spot-clause-full : goal.returns-in_err-spot-clause-full
 returns-in_err-spot-clause-full g c next e = absurd (not_full c.from_residual-in_err-spot.result c.in_err-spot.field-0.0 c.from_residual-in_err-spot.ensures.1 c.in_err-spot.ensures.broken.cause c.in_err-spot.ensures.broken.written next e)
@@ -264,10 +266,10 @@ pub returns-clause-number : goal.returns-clause-number
 returns-clause-number g c = subst (λ n. n ≤ c.args.self.now.log.number + 1) (sym (either_way c.put_spots.result _ _ (IsBrokenNamed c.ready_spot.new.self c.put_spots.new.self (is_masked c.args.first c.args.count 0 c.args.mask.now) (g.S.Store.disk c.ready_spot.new.store) (g.S.Store.disk c.put_spots.new.store)) c.put_spots.ensures.done c.put_spots.ensures.broken (λ d. d.number) (λ e b. b.number) ∙ c.in_ok-spot.ensures.number)) c.prepare.ensures.number
 
 pub returns-clause-counts : goal.returns-clause-counts
-returns-clause-counts g c = ok_map c.put_spots.result _ _ c.put_spots.ensures.done (λ d. counts_then (g.S.Store.disk c.args.store.now) (g.S.Store.disk c.ready_spot.new.store) (g.S.Store.disk c.put_spots.new.store) (counts_then (g.S.Store.disk c.args.store.now) (g.S.Store.disk c.prepare.new.store) (g.S.Store.disk c.ready_spot.new.store) c.in_ok-prepare.ensures.counts c.in_ok-spot.ensures.counts) d.counts)
+returns-clause-counts g c = ok_map c.put_spots.result _ _ c.put_spots.ensures.done (λ d. counts_join (g.S.Store.disk c.args.store.now) (g.S.Store.disk c.ready_spot.new.store) (g.S.Store.disk c.put_spots.new.store) (counts_join (g.S.Store.disk c.args.store.now) (g.S.Store.disk c.prepare.new.store) (g.S.Store.disk c.ready_spot.new.store) c.in_ok-prepare.ensures.counts c.in_ok-spot.ensures.counts) d.counts)
 
 pub returns-clause-err : goal.returns-clause-err
-returns-clause-err g c = if_err_map c.put_spots.result (IsBrokenNamed c.ready_spot.new.self c.put_spots.new.self (is_masked c.args.first c.args.count 0 c.args.mask.now) (g.S.Store.disk c.ready_spot.new.store) (g.S.Store.disk c.put_spots.new.store)) (Fails c.args.self.now.tables.parts.file (g.S.Store.disk c.args.store.now) (g.S.Store.disk c.put_spots.new.store)) c.put_spots.ensures.broken (λ e b. fails_behind c.args.self.now.tables.parts.file (g.S.Store.disk c.args.store.now) (g.S.Store.disk c.ready_spot.new.store) (g.S.Store.disk c.put_spots.new.store) e b.cause b.written (counts_then (g.S.Store.disk c.args.store.now) (g.S.Store.disk c.prepare.new.store) (g.S.Store.disk c.ready_spot.new.store) c.in_ok-prepare.ensures.counts c.in_ok-spot.ensures.counts) (subst (λ n. Fails n (g.S.Store.disk c.ready_spot.new.store) (g.S.Store.disk c.put_spots.new.store) e) (ap (λ (p : TableParts). p.file) (c.in_ok-spot.ensures.parts ∙ c.prepare.ensures.parts)) b.fails))
+returns-clause-err g c = if_err_map c.put_spots.result (IsBrokenNamed c.ready_spot.new.self c.put_spots.new.self (is_masked c.args.first c.args.count 0 c.args.mask.now) (g.S.Store.disk c.ready_spot.new.store) (g.S.Store.disk c.put_spots.new.store)) (Fails c.args.self.now.tables.parts.file (g.S.Store.disk c.args.store.now) (g.S.Store.disk c.put_spots.new.store)) c.put_spots.ensures.broken (λ e b. fails_from c.args.self.now.tables.parts.file (g.S.Store.disk c.args.store.now) (g.S.Store.disk c.ready_spot.new.store) (g.S.Store.disk c.put_spots.new.store) e b.cause b.written (counts_join (g.S.Store.disk c.args.store.now) (g.S.Store.disk c.prepare.new.store) (g.S.Store.disk c.ready_spot.new.store) c.in_ok-prepare.ensures.counts c.in_ok-spot.ensures.counts) (subst (λ n. Fails n (g.S.Store.disk c.ready_spot.new.store) (g.S.Store.disk c.put_spots.new.store) e) (ap (λ (p : TableParts). p.file) (c.in_ok-spot.ensures.parts ∙ c.prepare.ensures.parts)) b.fails))
 
 pub returns-clause-full : goal.returns-clause-full
 returns-clause-full g c next e = absurd (full_off c.put_spots.result (IsBrokenNamed c.ready_spot.new.self c.put_spots.new.self (is_masked c.args.first c.args.count 0 c.args.mask.now) (g.S.Store.disk c.ready_spot.new.store) (g.S.Store.disk c.put_spots.new.store)) c.put_spots.ensures.broken (λ e b. (b.cause, b.written)) next e)

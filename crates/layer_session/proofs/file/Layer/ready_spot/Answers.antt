@@ -1,14 +1,18 @@
 use Rattle.std.proofs.Common.{◌/◌, ap, false, inl, inr, refl, subst}
-use Rattle.layer_session.proofs.Readying.{part_absent, quiet_now}
+use Rattle.layer_session.proofs.Sectors.{first_below}
+use Rattle.layer_session.proofs.Leading.{keeps_now}
+use Rattle.layer_session.proofs.Readying.{part_absent}
 use Rattle.layer_session.proofs.Spotting.{empty_kept, empty_spot, here_spot, made_kept, made_spot, make_may_be, mark_spot, self_kept}
 use Rattle.layer_session.specs.Taking.{IsBroken}
 use Rattle.vx_base.proofs.Handed.{failed_for, not_if_ok, not_ok}
-use Rattle.layer_session.proofs.Exits.{first_on, takes_one}
+use Rattle.layer_session.proofs.Exits.{takes_one}
 use Rattle.vhdx_format.specs.Fields.{megabyte}
 use Rattle.log_write.specs.Sessions.{LogState}
 use Rattle.layer_session.specs.Steps.{HasRoomFor}
 use Rattle.layer_session.specs.declared.planning.Step.TheVariants.{Make, MakePart}
 use Rattle.layer_session.proofs.Equal.{false_true}
+use Rattle.table_pages.specs.Held.{shape_of}
+use Rattle.layer_session.proofs.Known.{run_bits}
 use Rattle.layer_session.proofs.file.Layer.ready_spot.Goals as goal
 
 pub make_block-requires-clause-may : goal.make_block-requires-clause-may
@@ -17,7 +21,7 @@ make_block-requires-clause-may g c t told =
 
 pub returns-in-Mark-clause-moments : goal.returns-in-Mark-clause-moments
 returns-in-Mark-clause-moments g c =
-    quiet_now c.args.self.now (g.S.Store.disk c.args.store.now).told
+    keeps_now c.args.self.now (g.S.Store.disk c.args.store.now).told
 
 pub returns-in-Mark-clause-spot : goal.returns-in-Mark-clause-spot
 returns-in-Mark-clause-spot g c =
@@ -25,7 +29,7 @@ returns-in-Mark-clause-spot g c =
 
 pub returns-in-Write-clause-moments : goal.returns-in-Write-clause-moments
 returns-in-Write-clause-moments g c =
-    quiet_now c.args.self.now (g.S.Store.disk c.args.store.now).told
+    keeps_now c.args.self.now (g.S.Store.disk c.args.store.now).told
 
 pub returns-in-Write-clause-spot : goal.returns-in-Write-clause-spot
 returns-in-Write-clause-spot g c =
@@ -99,13 +103,13 @@ pub offset_in_block-requires-clause-parts : goal.offset_in_block-requires-clause
 offset_in_block-requires-clause-parts g c = c.requires.ready.readable.sizes
 
 pub offset_in_block-requires-clause-sector : goal.offset_in_block-requires-clause-sector
-offset_in_block-requires-clause-sector g c = first_on c.args.first c.args.count _ c.requires.some c.requires.on_disk
+offset_in_block-requires-clause-sector g c = first_below c.args.first c.args.count _ c.requires.some c.requires.on_disk
 
 pub make_block-requires-clause-first : goal.make_block-requires-clause-first
-make_block-requires-clause-first g c = first_on c.args.first c.args.count _ c.requires.some c.requires.on_disk
+make_block-requires-clause-first g c = first_below c.args.first c.args.count _ c.requires.some c.requires.on_disk
 
 pub make_empty-requires-clause-on_disk : goal.make_empty-requires-clause-on_disk
-make_empty-requires-clause-on_disk g c = first_on c.args.first c.args.count _ c.requires.some c.requires.on_disk
+make_empty-requires-clause-on_disk g c = first_below c.args.first c.args.count _ c.requires.some c.requires.on_disk
 
 pub make_block-requires-clause-ready : goal.make_block-requires-clause-ready
 make_block-requires-clause-ready g c = c.requires.ready
@@ -220,3 +224,11 @@ returns-in-Mark-clause-pages g c = record { bits = λ m. c.requires.pages.bits c
 
 pub returns-in-Write-clause-pages : goal.returns-in-Write-clause-pages
 returns-in-Write-clause-pages g c = record { bits = λ m. absurd (false_true m) }
+
+pub returns-in_ok-place-in-MakePart-clause-pages : goal.returns-in_ok-place-in-MakePart-clause-pages
+returns-in_ok-place-in-MakePart-clause-pages g c =
+    record {
+      bits = λ e k from to. c.in_ok-place-in-MakePart.ensures.leaves.pages _
+          (run_bits (shape_of c.args.self.now.tables.parts) (record { sector = c.requires.ready.readable.sizes.sector; block = c.requires.ready.readable.sizes.block }) c.args.plan.bitmap c.args.first c.args.count _ _ c.args.self.now.tables.pending refl refl c.requires.run
+          (c.requires.pages.all_bits c.in-MakePart.is) k from to);
+    }

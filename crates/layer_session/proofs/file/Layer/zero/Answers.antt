@@ -1,4 +1,4 @@
-use Rattle.std.proofs.Common.{rules, not, subst, ap, ◌≡◌, ◌∙◌, sym}
+use Rattle.std.proofs.Common.{not, subst, ap, ◌≡◌, ◌∙◌, sym}
 use Rattle.store_model.specs.Disk.{WhereBothTold}
 use Rattle.table_pages.specs.declared.tables.TableParts.{TableParts}
 use Rattle.layer_session.specs.Calls.{HasPut, with_zeros}
@@ -6,6 +6,7 @@ use Rattle.layer_session.proofs.Calling.{broken_call, broken_err, call_moments, 
 use Rattle.layer_session.proofs.Joining.{keeps_puts}
 use Rattle.layer_session.proofs.Told.{ok_map}
 use Rattle.std.specs.Prelude.{Err}
+use Rattle.vx_base.proofs.Handed.{err_is, failed_for, not_ok}
 use Rattle.layer_session.proofs.file.Layer.zero.Goals as goal
 
 pub returns-in_err-prepare-clause-moments : goal.returns-in_err-prepare-clause-moments
@@ -14,7 +15,7 @@ returns-in_err-prepare-clause-moments g c =
 
 pub returns-in_err-prepare-clause-broken : goal.returns-in_err-prepare-clause-broken
 returns-in_err-prepare-clause-broken g c =
-    broken_err c.from_residual.result c.in_err-prepare.field-0.0 c.args.self.now c.prepare.new.self c.args.first c.args.count (g.S.Store.disk c.args.store.now) (g.S.Store.disk c.prepare.new.store) (search rules) c.in_err-prepare.ensures.broken
+    broken_err c.from_residual.result c.in_err-prepare.field-0.0 c.args.self.now c.prepare.new.self c.args.first c.args.count (g.S.Store.disk c.args.store.now) (g.S.Store.disk c.prepare.new.store) (err_is c.from_residual.result _ c.from_residual.ensures.1) c.in_err-prepare.ensures.broken
 
 pub returns-clause-moments : goal.returns-clause-moments
 returns-clause-moments g c =
@@ -32,4 +33,28 @@ returns-clause-broken g c =
 
 pub returns-in_err-prepare-clause-full : goal.returns-in_err-prepare-clause-full
 returns-in_err-prepare-clause-full g c next e =
-    let told : c.from_residual.result ≡ Err c.in_err-prepare.field-0.0 = search rules in c.in_err-prepare.ensures.full next (sym told ∙ e)
+    let told : c.from_residual.result ≡ Err c.in_err-prepare.field-0.0 = err_is c.from_residual.result _ c.from_residual.ensures.1 in c.in_err-prepare.ensures.full next (sym told ∙ e)
+
+pub prepare-requires-clause-ready : goal.prepare-requires-clause-ready
+prepare-requires-clause-ready g c = c.requires.ready
+
+pub returns-in_err-prepare-clause-put : goal.returns-in_err-prepare-clause-put
+returns-in_err-prepare-clause-put g c = not_ok c.from_residual.result _ c.from_residual.ensures.1 _
+
+pub returns-in_err-prepare-clause-ready : goal.returns-in_err-prepare-clause-ready
+returns-in_err-prepare-clause-ready g c = not_ok c.from_residual.result _ c.from_residual.ensures.1 _
+
+pub returns-in_err-prepare-clause-counts : goal.returns-in_err-prepare-clause-counts
+returns-in_err-prepare-clause-counts g c = not_ok c.from_residual.result _ c.from_residual.ensures.1 _
+
+pub returns-in_err-prepare-clause-parts : goal.returns-in_err-prepare-clause-parts
+returns-in_err-prepare-clause-parts g c = c.prepare.ensures.parts
+
+pub returns-in_err-prepare-clause-number : goal.returns-in_err-prepare-clause-number
+returns-in_err-prepare-clause-number g c = c.prepare.ensures.number
+
+pub returns-in_err-prepare-clause-header : goal.returns-in_err-prepare-clause-header
+returns-in_err-prepare-clause-header g c = c.prepare.ensures.header
+
+pub returns-in_err-prepare-clause-err : goal.returns-in_err-prepare-clause-err
+returns-in_err-prepare-clause-err g c = failed_for c.from_residual.result _ c.from_residual.ensures.1 _ c.in_err-prepare.ensures.err

@@ -11,6 +11,7 @@ use Rattle.layer_session.proofs.Joining.{keeps_puts}
 use Rattle.layer_session.proofs.Readying.{make_broken, make_may, make_zeros}
 use Rattle.layer_session.proofs.Running.{run_broken, run_done, run_moments, run_others, stands_in, zeros_all}
 use Rattle.layer_session.proofs.Told.{if_err, if_err_map, ok_map}
+use Rattle.vx_base.proofs.Handed.{err_is}
 use Rattle.layer_session.proofs.file.Layer.zero_block.Goals as goal
 
 pub returns-in_err-place-clause-moments : goal.returns-in_err-place-clause-moments
@@ -70,7 +71,7 @@ returns-in_err-make_block-clause-moments g c =
 
 pub returns-in_err-make_block-clause-broken : goal.returns-in_err-make_block-clause-broken
 returns-in_err-make_block-clause-broken g c =
-    if_err c.from_residual.result c.in_err-make_block.field-0.0 _ (search rules) (make_broken c.args.self.now (g.S.Store.disk c.args.store.now) c.requires.ready c.args.plan c.args.first c.args.count c.requires.some c.requires.on_disk c.requires.run c.requires.todo
+    if_err c.from_residual.result c.in_err-make_block.field-0.0 _ (err_is c.from_residual.result _ c.from_residual.ensures.1) (make_broken c.args.self.now (g.S.Store.disk c.args.store.now) c.requires.ready c.args.plan c.args.first c.args.count c.requires.some c.requires.on_disk c.requires.run c.requires.todo
     c.make_block.new.self (g.S.Store.disk c.make_block.new.store) c.in_err-make_block.field-0.0 c.in_err-make_block.ensures.broken)
 
 pub returns-then-plan-eq4-clause-moments : goal.returns-then-plan-eq4-clause-moments

@@ -1,10 +1,10 @@
 use Rattle.std.proofs.Common.{sym, subst}
+use Rattle.vx_base.proofs.Handed.{ok_then}
 use Rattle.store_model.specs.Disk.{WhereBothTold}
 use Rattle.layer_session.specs.Calls.{HasCommitted, KeepsOver}
 use Rattle.layer_session.specs.FileLayers.{FileHasCommitted, FileKeepsOver}
 use Rattle.layer_session.specs.declared.file_layer.FileLayer.{FileLayer}
 use Rattle.layer_session.specs.declared.file_layer.FileLayer.TheVariants.{Session}
-use Rattle.layer_session.proofs.Parted.{ok_then}
 use Rattle.layer_session.proofs.Told.{both_map}
 use Rattle.layer_session.proofs.file_layer.FileLayer.commit.Goals as goal
 

@@ -1,5 +1,6 @@
 use Rattle.std.proofs.Common.{◌≡◌, ◌∙◌, [], Some, refl, sym, ap, subst}
 use Rattle.std.specs.Prelude.{IfErr, IfSome, OnErr, OnOk, option_map}
+use Rattle.vx_base.proofs.Handed.{ok_then}
 use Rattle.store_model.specs.Plans.{FailsToChange}
 use Rattle.log_write.specs.Writing.{HasNextNumber, identified_header}
 use Rattle.log_write.specs.Sessions.{LogState}
@@ -7,7 +8,6 @@ use Rattle.store_model.specs.Disk.{WhereBothTold}
 use Rattle.layer_session.specs.Identifying.{FileHasIdentified, FileIdentifiesOver, HasIdentified, IdentifiesOver}
 use Rattle.layer_session.specs.declared.file.Layer.{Layer}
 use Rattle.layer_session.specs.declared.file_layer.FileLayer.TheVariants.{Session}
-use Rattle.layer_session.proofs.Parted.{ok_then}
 use Rattle.layer_session.proofs.Told.{both_map}
 use Rattle.table_pages.specs.declared.tables.Tables.{Tables}
 use Rattle.layer_session.specs.FileLayers.{FileIsReady, WaitsForNone, log_header, log_number, number_of, table_parts}

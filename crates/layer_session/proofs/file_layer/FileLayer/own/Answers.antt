@@ -1,12 +1,12 @@
 use Rattle.std.proofs.Common.{sym, subst, length, ◌+◌, ◌*◌, ◌≤◌, ◌≡◌}
 use Rattle.std.specs.Prelude.{IfErr, OnOk}
+use Rattle.vx_base.proofs.Handed.{ok_then}
 use Rattle.store_model.specs.Disk.{ReadFailed, WhereTold}
 use Rattle.chain_model.specs.Layers as chain
 use Rattle.layer_session.specs.Calls.{AddsOwned}
 use Rattle.layer_session.specs.FileLayers.{FileCanBeRead, Holds, IsSameFile, number_of, table_parts}
 use Rattle.layer_session.specs.declared.file_layer.FileLayer.{FileLayer}
 use Rattle.layer_session.proofs.FileLayers.{has_held}
-use Rattle.layer_session.proofs.Parted.{ok_then}
 use Rattle.layer_session.specs.declared.file_layer.FileLayer.TheVariants.{Read, Session}
 use Rattle.layer_session.proofs.Handing.{same_read_file, same_session}
 use Rattle.layer_session.proofs.file_layer.FileLayer.own.Goals as goal

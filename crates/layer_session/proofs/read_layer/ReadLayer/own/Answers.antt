@@ -1,9 +1,9 @@
 use Rattle.std.proofs.Common.{◌+◌, arith}
+use Rattle.vx_base.proofs.Handed.{ok_then}
 use Rattle.store_model.specs.File.{seen}
 use Rattle.store_model.specs.Trace.{file_of}
 use Rattle.layer_session.specs.Reading.{layer_by}
 use Rattle.layer_session.proofs.Owned.{adds_alike}
-use Rattle.layer_session.proofs.Parted.{ok_then}
 use Rattle.layer_session.proofs.ReadOnly.{can_hold, read_holds, same_read}
 use Rattle.layer_session.proofs.Readable.{held_readable, held_stored, layer_is}
 use Rattle.layer_session.proofs.read_layer.ReadLayer.own.Goals as goal
