@@ -11,6 +11,7 @@ use Rattle.guest_model.specs.Ranges.{range_refusal}
 use Rattle.vx_base.specs.declared.parts.Geometry.{Geometry}
 use Rattle.chain_core.specs.Refusing.{broken_by, is_read, misplaced, out_of, range_of, unfit}
 use Rattle.chain_core.specs.declared.layers.Layers.{Layers}
+use Rattle.layer_session.proofs.Equal.{err_same, none_some, ok_err, some_same}
 
 pub on_err_any : {T E : Type 0} (result : Result T E) (P : Type 0) → P → OnErr result P
 on_err_any (Ok x) P p = tt
@@ -19,10 +20,10 @@ on_err_any (Err e) P p = p
 -- it asks for no memory
 no_room : (x : ChainRefusal) (result : Result (Unit {0}) ChainRefusal) → IsErrAnd result (λ e. e ≡ x) → result ≡ Err refusals.NoRoom → x ≡ refusals.NoRoom
 no_room x (Ok t) same is = absurd same
-no_room x (Err e) same is = sym same ∙ (let one : e ≡ refusals.NoRoom = cc in one)
+no_room x (Err e) same is = sym same ∙ err_same is
 
 by_fit : (n : ℕ) (b : Bool) (broken : Option StoreFault) → ◌≡◌ {A = Option ChainRefusal} (if b then broken_by broken else Some (refusals.Spent n)) (Some refusals.NoRoom) → ⊥
-by_fit n true None is = (let never : ◌≡◌ {A = Option ChainRefusal} None (Some refusals.NoRoom) = is in cc)
+by_fit n true None is = (let never : ◌≡◌ {A = Option ChainRefusal} None (Some refusals.NoRoom) = is in absurd (none_some never))
 by_fit n true (Some f) is = (let never : ◌≡◌ {A = Option ChainRefusal} (Some (refusals.Broken f.file f.count)) (Some refusals.NoRoom) = is in cc)
 by_fit n false broken is = (let never : ◌≡◌ {A = Option ChainRefusal} (Some (refusals.Spent n)) (Some refusals.NoRoom) = is in cc)
 
@@ -34,7 +35,7 @@ by_range : (first count limit sectors : ℕ) (a b c : Bool)
 by_range first count limit sectors true b c is = (let never : ◌≡◌ {A = Result (Unit {0}) ChainRefusal} (Err refusals.EmptyRange) (Err refusals.NoRoom) = is in cc)
 by_range first count limit sectors false true c is = (let never : ◌≡◌ {A = Result (Unit {0}) ChainRefusal} (Err (refusals.TooLong count limit)) (Err refusals.NoRoom) = is in cc)
 by_range first count limit sectors false false true is = (let never : ◌≡◌ {A = Result (Unit {0}) ChainRefusal} (Err (refusals.OutOfRange first count sectors)) (Err refusals.NoRoom) = is in cc)
-by_range first count limit sectors false false false is = (let never : ◌≡◌ {A = Result (Unit {0}) ChainRefusal} (Ok tt) (Err refusals.NoRoom) = is in cc)
+by_range first count limit sectors false false false is = (let never : ◌≡◌ {A = Result (Unit {0}) ChainRefusal} (Ok tt) (Err refusals.NoRoom) = is in absurd (ok_err never))
 
 range_asks : (first count limit sectors : ℕ) → range_refusal first count limit sectors ≡ Err refusals.NoRoom → ⊥
 range_asks first count limit sectors = by_range first count limit sectors (count == 0) (nat_lt limit count) (nat_lt sectors (first + count))
@@ -43,15 +44,15 @@ by_call : (g : Geometry) (call : Call) → range_of g call ≡ Err refusals.NoRo
 by_call g (Read first count) is = range_asks first count 2048 g.sectors is
 by_call g (Write first bytes) is = range_asks first (length bytes / g.sector) 2048 g.sectors is
 by_call g (Trim first count) is = range_asks first count 524288 g.sectors is
-by_call g Flush is = (let never : ◌≡◌ {A = Result (Unit {0}) ChainRefusal} (Ok tt) (Err refusals.NoRoom) = is in cc)
+by_call g Flush is = (let never : ◌≡◌ {A = Result (Unit {0}) ChainRefusal} (Ok tt) (Err refusals.NoRoom) = is in absurd (ok_err never))
 
 by_bar : (b : Bool) → ◌≡◌ {A = Option ChainRefusal} (if b then None else Some refusals.ReadOnly) (Some refusals.NoRoom) → ⊥
-by_bar true is = (let never : ◌≡◌ {A = Option ChainRefusal} None (Some refusals.NoRoom) = is in cc)
+by_bar true is = (let never : ◌≡◌ {A = Option ChainRefusal} None (Some refusals.NoRoom) = is in absurd (none_some never))
 by_bar false is = (let never : ◌≡◌ {A = Option ChainRefusal} (Some refusals.ReadOnly) (Some refusals.NoRoom) = is in cc)
 
 by_out : (r : Result (Unit {0}) ChainRefusal) (b : Bool) → (r ≡ Err refusals.NoRoom → ⊥) → out_of r (if b then None else Some refusals.ReadOnly) ≡ Some refusals.NoRoom → ⊥
 by_out (Ok t) b range is = by_bar b is
-by_out (Err e) b range is = range (ap Err (let one : e ≡ refusals.NoRoom = cc in one))
+by_out (Err e) b range is = range (ap Err (some_same is))
 
 pub place_asks_none : (call : Call) (layers : Layers) (x : ChainRefusal) (result : Result (Unit {0}) ChainRefusal) → misplaced call layers ≡ Some x → IsErrAnd result (λ e. e ≡ x) → result ≡ Err refusals.NoRoom → ⊥
 place_asks_none call layers x result cause same is = by_out (range_of layers.geometry call) (is_read call || is_some layers.leaf) (by_call layers.geometry call) (cause ∙ ap Some (no_room x result same is))

@@ -51,6 +51,7 @@ use Rattle.chain_core.specs.declared.starting.StartRefusal.{StartRefusal}
 use Rattle.chain_core.specs.Sessions.{AreApart, AreReady, AtMostOne, CanRelink, CanRetire, HasNoMerge, IsLow, IsMergeOf, IsReadyLeaf, IsRetiringOf, leaf_number}
 use Rattle.chain_core.specs.States.{AreHeld, AreWritten, IsCourse, IsRetiring, IsServing, WasSynced, plain, seen_in}
 use Rattle.chain_core.proofs.Steps.{still_once, still_read}
+use Rattle.layer_session.proofs.Equal.{false_true, none_some, some_same, true_false}
 
 -- ---- lists
 
@@ -103,7 +104,7 @@ none_loose_in t n (f ∷ files) s = (refl, none_loose_in t (n + 1) files s)
 -- ---- each sector is in one of them
 
 some_first : (o rest : Option (List ℕ)) → is_some o ≡ true → is_some (option_or o rest) ≡ true
-some_first None rest h = absurd (cc)
+some_first None rest h = absurd (false_true h)
 some_first (Some x) rest h = refl
 
 some_rest : (o rest : Option (List ℕ)) → is_some rest ≡ true → is_some (option_or o rest) ≡ true
@@ -312,7 +313,7 @@ module _ (trace : Trace) (leaf : LinkedFile) (others : List LinkedFile) (attache
       whole = whole;
       synced = all_synced (λ n. n == 0) trace 0 (leaf ∷ others) attached.each;
       written = subst (λ o. IfSome o (λ l. ((0 == 0) ≡ true) × AreWritten (λ n. n == 0) layers.below.items)) (sym is) (refl, none_written 1 others layers.below.items (omega arith) of);
-      still = λ other none. phase_others 0 Goes trace now over.phase other (λ same. let never : true ≡ false = ap (λ n. n == 0) (sym same) ∙ none in cc);
+      still = λ other none. phase_others 0 Goes trace now over.phase other (λ same. let never : true ≡ false = ap (λ n. n == 0) (sym same) ∙ none in true_false never);
       past = EachMoment-weaken (EachOpens leaf.name clean opening) (OpensToPrefix z opening [] (λ s. false) leaf.name) trace now (λ t opens. prefixes_stay.broken z opening [] (λ s. false) leaf.name t opens) goes.moments;
     }
 
@@ -391,11 +392,11 @@ begun_ready leaf others ids layers l before after can geometry is no_merge of ov
   where
     readers : (a b : Option Trace) → ((t : Trace) → a ≡ Some t → AreAttached (leaf ∷ others) t) → WhereBothTold (BeginsOver leaf.parts ids 0) a b
         → (t : Trace) → b ≡ Some t → (placed : List Placed) × HaveFiles layers.below.items t placed
-    readers None None attached over t e = let never : ◌≡◌ {A = Option Trace} None (Some t) = e in cc
+    readers None None attached over t e = let never : ◌≡◌ {A = Option Trace} None (Some t) = e in absurd (none_some never)
     readers None (Some y) attached over t e = absurd over
     readers (Some x) None attached over t e = absurd over
     readers (Some x) (Some y) attached over t e =
-        let same : y ≡ t = cc in (
+        let same : y ≡ t = some_same e in (
           placed_from x 1 others,
           subst (λ (n : Trace). HaveFiles layers.below.items n (placed_from x 1 others)) same
               (rest_read x leaf others (attached x refl) can.line can.once can.few (by_recursion IsServed (leaf ∷ others) can.served) ids y over layers.below.items of),

@@ -30,6 +30,7 @@ use Rattle.chain_core.specs.Sessions.{IsSound, KeepsMerge, Session, leaf_number,
 use Rattle.chain_core.specs.States.{disk_now, entry}
 use Rattle.chain_core.proofs.Concluding.{unanswered}
 use Rattle.chain_core.proofs.Copied.{sound_refused}
+use Rattle.layer_session.proofs.Equal.{err_same, ok_err}
 
 -- ---- refused before the files were reached
 
@@ -72,7 +73,7 @@ out_of_memory who call s t sound events noted told layers disk broken whole = de
 
 pub still_room : (e : ChainRefusal) (result : Result ℕ ChainRefusal) → IsErrAnd result (λ x. x ≡ e) → result ≡ Err NoRoom → ◌≡◌ {A = Result (Unit {0}) ChainRefusal} (Err e) (Err NoRoom)
 still_room e (Ok place) same is = absurd same
-still_room e (Err x) same is = ap Err (sym same ∙ (let one : x ≡ NoRoom = cc in one))
+still_room e (Err x) same is = ap Err (sym same ∙ err_same is)
 
 -- ---- once the layers have answered
 
@@ -81,7 +82,7 @@ pub not_refused : {T : Type 0} (call : Call) (s : Session) (result : Result T Ch
 not_refused call s result P fit = subst (λ o. IfSome o (λ e. (result ≡ Err e) × P)) (sym fit) tt
 
 pub never_no_room : (place : ℕ) (done : Result (Unit {0}) LayerFault) (result : Result ℕ ChainRefusal) → result ≡ answer_of place done → result ≡ Err NoRoom → ⊥
-never_no_room place (Ok t) result is same = (let never : ◌≡◌ {A = Result ℕ ChainRefusal} (Ok place) (Err NoRoom) = sym is ∙ same in cc)
+never_no_room place (Ok t) result is same = (let never : ◌≡◌ {A = Result ℕ ChainRefusal} (Ok place) (Err NoRoom) = sym is ∙ same in absurd (ok_err never))
 never_no_room place (Err (layer.Read f)) result is same = (let never = sym is ∙ same in cc)
 never_no_room place (Err (layer.FileFull n)) result is same = (let never = sym is ∙ same in cc)
 never_no_room place (Err (layer.Write f)) result is same = (let never = sym is ∙ same in cc)

@@ -32,6 +32,7 @@ use Rattle.chain_core.proofs.Putting.{apart_around, have_all, have_parts}
 use Rattle.chain_core.proofs.Replaced.{written_at}
 use Rattle.chain_core.proofs.Rests.{leaf_survives}
 use Rattle.chain_core.proofs.Steps.{goes_over, names_behind, phase_beside, relinks_alike, still_once, still_read}
+use Rattle.layer_session.proofs.Equal.{true_false}
 
 -- ---- a change of a file failed
 
@@ -39,7 +40,7 @@ use Rattle.chain_core.proofs.Steps.{goes_over, names_behind, phase_beside, relin
 pub ended_by : (v : State) (layers : Layers) (n : ℕ) (P : List ℕ → Type 0) (trace now : Trace) → IsServing layers v trace → v.writes n ≡ true → IsPhase n P trace now → EachOpensNow v trace now → HasEnded v trace now
 ended_by v layers n P trace now serving written phase moments = record {
   moments = moments;
-  still = λ k none. phase_others n P trace now phase k (λ same. let never : true ≡ false = sym written ∙ ap v.writes (sym same) ∙ none in cc) ∙ serving.still k none;
+  still = λ k none. phase_others n P trace now phase k (λ same. let never : true ≡ false = sym written ∙ ap v.writes (sym same) ∙ none in true_false never) ∙ serving.still k none;
   past = past_goes_on.quiet (sector_of v) v.opening v.history (λ s. false) v.leaf v.began trace now serving.past moments;
 }
 
@@ -149,7 +150,7 @@ module _ (v : State) (top : Placed) (pre : List Placed) (child source target : P
         synced = (serving.synced.0, all_but (WasSynced v.writes v.since) pre child after rest (λ h. h) serving.synced.1);
         written = subst (λ o. IfSome o (λ leaf. (v.writes top.number ≡ true) × AreWritten v.writes new.below.items)) (sym leaf_now)
             (written.0, subst (AreWritten v.writes) (sym items) (written_at l next parts_are v.writes a b written.1));
-        still = λ n none. phase_others child.number (ShowsFile child) trace now phase n (λ same. let never : true ≡ false = sym writes_child ∙ ap v.writes (sym same) ∙ none in cc) ∙ serving.still n none;
+        still = λ n none. phase_others child.number (ShowsFile child) trace now phase n (λ same. let never : true ≡ false = sym writes_child ∙ ap v.writes (sym same) ∙ none in true_false never) ∙ serving.still n none;
         past = past_goes_on.quiet z v.opening v.history (λ s. false) v.leaf v.began trace now serving.past on.moments;
       } in
       (on.moments, done)

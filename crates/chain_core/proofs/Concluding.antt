@@ -23,6 +23,7 @@ use Rattle.chain_core.specs.declared.layers.Layers.{Layers}
 use Rattle.chain_core.specs.States.{State, IsNextPlace, IsServing, entry, files_of, sector_of, wide}
 use Rattle.chain_core.specs.Answering.{Answers, FailsByChange, LayerAnswers, LayerRoomIs, LayerTold, NeedsNoRoom, RoomIs, answer_of, as_change}
 use Rattle.chain_core.proofs.Steps.{at_rest, failed}
+use Rattle.layer_session.proofs.Equal.{false_true}
 
 -- ---- where the store tells its content
 
@@ -95,7 +96,7 @@ unanswered next e old new before after x l d =
     subst (λ (a : Disk). SessionTold next e old new before a (Err x)) (sym d) (subst (λ (n : Layers). SessionTold next e old n before before (Err x)) (sym l) rested)
 
 pub refused_told : (next : ℕ) (e : Entry) (old new : Layers) (before after : Disk) (result : Result ℕ ChainRefusal) → IsErr result → new ≡ old → after ≡ before → SessionTold next e old new before after result
-refused_told next e old new before after (Ok place) err l d = absurd (cc)
+refused_told next e old new before after (Ok place) err l d = absurd (false_true err)
 refused_told next e old new before after (Err x) err l d = unanswered next e old new before after x l d
 
 -- ---- room in the leaf

@@ -27,6 +27,7 @@ use Rattle.chain_core.specs.Sessions.{AreReady, HasNoMerge, IsLow, IsSound, Keep
 use Rattle.chain_core.specs.States.{IsServing, State}
 use Rattle.chain_core.proofs.Looking.{both_same}
 use Rattle.chain_core.proofs.Steps.{at_rest}
+use Rattle.layer_session.proofs.Equal.{false_true, ok_err, some_none}
 
 -- ---- sound sessions
 
@@ -77,7 +78,7 @@ merging_low s sound whole merge =
 
 first_none : (a b : Option ChainRefusal) → or_else a b ≡ None → a ≡ None
 first_none None b h = refl
-first_none (Some x) b h = absurd (let never : ◌≡◌ {A = Option ChainRefusal} (Some x) None = h in cc)
+first_none (Some x) b h = absurd (let never : ◌≡◌ {A = Option ChainRefusal} (Some x) None = h in some_none never)
 
 -- a piece that isn't refused is one of a merge
 pub piece_merge : (piece : KeptPiece) (layers : Layers) → no_piece piece layers ≡ None → has_merge layers ≡ true
@@ -85,7 +86,7 @@ piece_merge piece layers h = by_test (has_merge layers) (first_none (no_merge la
   where
     by_test : (b : Bool) → cond b None (Some NoMerge) ≡ None → b ≡ true
     by_test true is = refl
-    by_test false is = absurd (let never : ◌≡◌ {A = Option ChainRefusal} (Some NoMerge) None = is in cc)
+    by_test false is = absurd (let never : ◌≡◌ {A = Option ChainRefusal} (Some NoMerge) None = is in some_none never)
 
 pub has_merge_same : (old new : Layers) → KeepsMerge old new → has_merge new ≡ has_merge old
 has_merge_same old new same = ap (λ m. is_some m || is_some new.retiring) same.0 ∙ ap (λ r. is_some old.merge || is_some r) same.1
@@ -107,19 +108,19 @@ room_counted events n broken fit one = go (nat_lt events (2 ^ 63)) refl fit
   where
     go : (b : Bool) → nat_lt events (2 ^ 63) ≡ b → ◌≡◌ {A = Option ChainRefusal} (if b then broken_by broken else Some (Spent events)) None → n ≤ 2 ^ 63
     go true is fit = let b : events < 2 ^ 63 = ltb-true events (2 ^ 63) is in omega (arith, b, one)
-    go false is fit = cc
+    go false is fit = absurd (some_none fit)
 
 -- ---- a call that is refused before the files are reached
 
 module _ (old new : Layers) (before after : Disk) (layers : new ≡ old) (disk : after ≡ before) where
   pub fetch_stopped : (piece : KeptPiece) (r : Result ℕ ChainRefusal) → IsErr r → WhereBothTold (λ trace now. (v : State) → IsServing old v trace → FetchAnswers piece v new trace now r) before.told after.told
-  fetch_stopped piece (Ok stamp) err = absurd (cc)
+  fetch_stopped piece (Ok stamp) err = absurd (false_true err)
   fetch_stopped piece (Err x) err =
       both_same (λ trace now. (v : State) → IsServing old v trace → FetchAnswers piece v new trace now (Err x)) before.told after.told (ap (λ (d : Disk). d.told) disk)
       (λ trace told v serving. at_rest v new trace (subst (λ (l : Layers). IsServing l v trace) (sym layers) serving))
 
   pub put_stopped : (piece : KeptPiece) (r : Result (Unit {0}) ChainRefusal) → IsErr r → WhereBothTold (λ trace now. (v : State) → IsServing old v trace → IsTruePiece v (piece_of piece) → PieceAnswers piece v new trace now r) before.told after.told
-  put_stopped piece (Ok done) err = absurd (cc)
+  put_stopped piece (Ok done) err = absurd (false_true err)
   put_stopped piece (Err x) err =
       both_same (λ trace now. (v : State) → IsServing old v trace → IsTruePiece v (piece_of piece) → PieceAnswers piece v new trace now (Err x)) before.told after.told (ap (λ (d : Disk). d.told) disk)
       (λ trace told v serving true_piece. by_refusal v trace (subst (λ (l : Layers). IsServing l v trace) (sym layers) serving) x)
@@ -193,7 +194,7 @@ module _ (layers0 layers1 layers2 : Layers) (disk0 disk1 disk2 : Disk) (l : laye
 
 -- refused before the files are reached
 pub finish_rested : (old new : Session) (r : Result (Unit {0}) ChainRefusal) → IsErr r → new.layers ≡ old.layers → new.disk ≡ old.disk → FinishTold old new r
-finish_rested old new (Ok done) err layers disk = absurd (cc)
+finish_rested old new (Ok done) err layers disk = absurd (false_true err)
 finish_rested old new (Err x) err layers disk =
     both_same (λ trace now. (v : State) → IsServing old.layers v trace → FinishAnswers old.layers.retiring v new.layers trace now (Err x)) old.disk.told new.disk.told (ap (λ (d : Disk). d.told) disk)
     (λ trace told v serving. by_refusal v trace (subst (λ (l : Layers). IsServing l v trace) (sym layers) serving) x)
@@ -260,7 +261,7 @@ unless_broken : (done : Result (Unit {0}) LayerFault) (broken : Option StoreFaul
 unless_broken (Ok t) broken P fault p whole = p
 unless_broken (Err (layer.Read f)) broken P fault p whole = p
 unless_broken (Err (layer.FileFull n)) broken P fault p whole = p
-unless_broken (Err (layer.Write f)) broken P fault p whole = absurd (let never : ◌≡◌ {A = Option StoreFault} (Some f) None = sym fault ∙ whole in cc)
+unless_broken (Err (layer.Write f)) broken P fault p whole = absurd (let never : ◌≡◌ {A = Option StoreFault} (Some f) None = sym fault ∙ whole in some_none never)
 
 pub always : (done : Result (Unit {0}) LayerFault) (P : Type 0) → P → UnlessBroken done P
 always (Ok t) P p = p
@@ -322,7 +323,7 @@ pub judged_has : (u : Option Underway) (t : Option Retiring) (r : Result (Unit {
 judged_has u t (Err e) judged = tt
 judged_has (Some u) t (Ok done) judged = refl
 judged_has None (Some t) (Ok done) judged = refl
-judged_has None None (Ok done) judged = absurd (let never : ◌≡◌ {A = Result (Unit {0}) ChainRefusal} (Ok done) (Err NoMerge) = judged in cc)
+judged_has None None (Ok done) judged = absurd (let never : ◌≡◌ {A = Result (Unit {0}) ChainRefusal} (Ok done) (Err NoMerge) = judged in ok_err never)
 
 -- a merge was finished, or a change failed
 pub sound_finished : (s t : Session) (layers : Layers) (disk : Disk) (done : Result (Unit {0}) StoreFault) → IsSound s → s.broken ≡ None → has_merge layers ≡ true → layers ≡ s.layers → t.events ≡ s.events + 1 → t.events ≤ 2 ^ 63 → t.noted ≡ s.noted
@@ -342,4 +343,4 @@ sound_finished s t layers disk done sound whole merge same one few noted finishe
   where
     done_well : (r : Result (Unit {0}) StoreFault) → IfSome (breaks (as_change r)) (λ fault. t.broken ≡ Some fault) → t.broken ≡ None → (P : Type 0) → OnOk r P → P
     done_well (Ok u) fault w P p = p
-    done_well (Err f) fault w P p = absurd (let never : ◌≡◌ {A = Option StoreFault} (Some f) None = sym fault ∙ w in cc)
+    done_well (Err f) fault w P p = absurd (let never : ◌≡◌ {A = Option StoreFault} (Some f) None = sym fault ∙ w in some_none never)

@@ -42,6 +42,7 @@ use Rattle.chain_core.proofs.Showing.{tight_others}
 use Rattle.chain_core.proofs.Standing.{leaf_of}
 use Rattle.chain_core.proofs.Steps.{goes_over, names_behind, still_once, still_read}
 use Rattle.store_model.proofs.Told.{both_join, both_from}
+use Rattle.layer_session.proofs.Equal.{err_ok, some_same, true_false}
 
 -- ---- where the store tells its content
 
@@ -161,15 +162,12 @@ pub record EndsFile (x : FileLayer) (result : Result (Unit {0}) StoreFault) (tra
   pub ended : OnOk result (FileHasEnded x trace now)
   pub reads : log_number x ≡ None → now ≡ trace
 
-same_trace : (a b : Trace) → ◌≡◌ {A = Option Trace} (Some a) (Some b) → a ≡ b
-same_trace a b e = cc
-
 file_ends : (x : FileLayer) (result : Result (Unit {0}) StoreFault) (a b : Option Trace) → WhereBothTold (FileKeepsOver x) a b → OnOk result (WhereBothTold (FileHasEnded x) a b) → (log_number x ≡ None → b ≡ a) → WhereBothTold (EndsFile x result) a b
 file_ends x result None None moments ended reads = tt
 file_ends x result None (Some n) moments ended reads = moments
 file_ends x result (Some t) None moments ended reads = moments
-file_ends x (Ok done) (Some t) (Some n) moments ended reads = record { moments = moments; ended = ended; reads = λ none. same_trace n t (reads none) }
-file_ends x (Err fault) (Some t) (Some n) moments ended reads = record { moments = moments; ended = tt; reads = λ none. same_trace n t (reads none) }
+file_ends x (Ok done) (Some t) (Some n) moments ended reads = record { moments = moments; ended = ended; reads = λ none. some_same {x = n} {y = t} (reads none) }
+file_ends x (Err fault) (Some t) (Some n) moments ended reads = record { moments = moments; ended = tt; reads = λ none. some_same {x = n} {y = t} (reads none) }
 
 -- what it does to a session that comes to its end
 abbrev EndsOne : State → List FileLayer → List Placed → List Placed → Trace → Trace → Result (Unit {0}) StoreFault → Type 0
@@ -199,7 +197,7 @@ module _ (v : State) (layers : List FileLayer) (x : FileLayer) (first : List Pla
     stays = file_stays (sector_of v) v.opening v.history v.leaf (dirty_now v) v.retired v.top v.rest (v.top ∷ first) f last trace now (ap (λ (c : List Placed). v.top ∷ c) parted) is.once is.served is.loose phase
 
     one_still : (other : ℕ) → v.writes other ≡ false → file_of now other ≡ file_of v.since other
-    one_still other none = phase_others f.number (ShowsFile f) trace now phase other (λ same. let never : true ≡ false = sym (written_own ∙ session) ∙ ap v.writes (sym same) ∙ none in cc) ∙ is.still other none
+    one_still other none = phase_others f.number (ShowsFile f) trace now phase other (λ same. let never : true ≡ false = sym (written_own ∙ session) ∙ ap v.writes (sym same) ∙ none in true_false never) ∙ is.still other none
 
     end_goes_on : HasEnded v trace now
     end_goes_on = record {
@@ -253,7 +251,7 @@ module _ (v : State) (layers : List FileLayer) (x : FileLayer) (first : List Pla
         ended = (
           record {
             kept = loosened_is_kept (λ s. false) f trace (λ s out. (all_right (λ p. v.writes p.number ≡ false → (s : ℕ) → p.is_loose s ≡ false) first (f ∷ []) is.tight).0 unwritten s) kept_own;
-            synced = λ writes. absurd (let never : true ≡ false = sym writes ∙ unwritten in cc);
+            synced = λ writes. absurd (let never : true ≡ false = sym writes ∙ unwritten in true_false never);
           },
           is.ended,
         );
@@ -390,7 +388,7 @@ module _ (v : State) (leaf : Layer) (trace mid now : Trace) (moments : EachOpens
   top_stays = file_stays (sector_of v) v.opening v.history v.leaf (dirty_now v) v.retired v.top v.rest [] v.top (others_of v.rest) mid now refl is.once is.served is.loose top_phase
 
   top_still : (other : ℕ) → v.writes other ≡ false → file_of now other ≡ file_of v.since other
-  top_still other none = phase_others v.top.number (ShowsFile v.top) mid now top_phase other (λ same. let never : true ≡ false = sym own ∙ ap v.writes (sym same) ∙ none in cc) ∙ is.still other none
+  top_still other none = phase_others v.top.number (ShowsFile v.top) mid now top_phase other (λ same. let never : true ≡ false = sym own ∙ ap v.writes (sym same) ∙ none in true_false never) ∙ is.still other none
 
   chain_ends : HasEnded v trace now
   chain_ends = record {
@@ -515,7 +513,7 @@ has_session (Session l) some = refl
 has_session (Read l) some = absurd (some refl)
 
 pub err_not_ok : (result : Result (Unit {0}) StoreFault) (fault : StoreFault) → result ≡ Err fault → result ≡ Ok tt → ⊥
-err_not_ok result fault failed done = let never : ◌≡◌ {A = Result (Unit {0}) StoreFault} (Err fault) (Ok tt) = sym failed ∙ done in cc
+err_not_ok result fault failed done = let never : ◌≡◌ {A = Result (Unit {0}) StoreFault} (Err fault) (Ok tt) = sym failed ∙ done in absurd (err_ok never)
 
 -- the change of one of them failed
 pub failed_here : (layers : List FileLayer) (x : FileLayer) (items : List FileLayer) (fault : StoreFault) (old new : Disk) → items ≡ layers ++ x ∷ [] → FileIsReady x old → (log_number x ≡ None → ⊥) → FailsToChange (number_of x) old new fault

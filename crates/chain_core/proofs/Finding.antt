@@ -43,6 +43,7 @@ use Rattle.layer_session.proofs.FileLayers.{file_layers_stand}
 use Rattle.chain_core.proofs.Steps.{LeafStep, written_on, course_on, leaving_on}
 use Rattle.chain_core.proofs.Standing.{leaf_of, merge_on, relink_on, retires_on, retiring_on}
 use Rattle.chain_core.proofs.Turning.{alike_same, all_read, all_resting, relink_same, retires_alike, retiring_alike, top_resting, turn_read}
+use Rattle.layer_session.proofs.Equal.{cons_nil, false_true, first_same, nil_cons, none_some, rest_same, some_none}
 
 -- ---- the store stays but for its counts of failed reads
 
@@ -151,12 +152,12 @@ leaf_reads old new leaf next file before after answer step kept same done failed
 same_numbers : (P : ℕ → Option ℕ → Type 0) (was now : List FileLayer) → map table_parts now ≡ map table_parts was → map log_number now ≡ map log_number was
     → AllByRecursion (λ l. P (number_of l) (log_number l)) was → AllByRecursion (λ l. P (number_of l) (log_number l)) now
 same_numbers P was [] parts logs all = tt
-same_numbers P [] (l ∷ now) parts logs all = absurd (let never : ◌≡◌ {A = List TableParts} (table_parts l ∷ map table_parts now) [] = parts in cc)
+same_numbers P [] (l ∷ now) parts logs all = absurd (let never : ◌≡◌ {A = List TableParts} (table_parts l ∷ map table_parts now) [] = parts in cons_nil never)
 same_numbers P (w ∷ was) (l ∷ now) parts logs all =
-    let own : table_parts w ≡ table_parts l = cc in
-    let log : log_number w ≡ log_number l = cc in
-    let rest : map table_parts now ≡ map table_parts was = cc in
-    let others : map log_number now ≡ map log_number was = cc in
+    let own : table_parts w ≡ table_parts l = sym (first_same parts) in
+    let log : log_number w ≡ log_number l = sym (first_same logs) in
+    let rest : map table_parts now ≡ map table_parts was = rest_same parts in
+    let others : map log_number now ≡ map log_number was = rest_same logs in
     (subst (λ (n : ℕ). P n (log_number l)) (ap (λ (p : TableParts). p.file) own) (subst (λ (k : Option ℕ). P (number_of w) k) log all.0), same_numbers P was now rest others all.1)
 
 numbers_same : (was now : List FileLayer) → map table_parts now ≡ map table_parts was → file_numbers now ≡ file_numbers was
@@ -164,14 +165,14 @@ numbers_same was [] parts = by_was was parts
   where
     by_was : (was : List FileLayer) → map table_parts [] ≡ map table_parts was → [] ≡ file_numbers was
     by_was [] parts = refl
-    by_was (w ∷ was) parts = absurd (let never : ◌≡◌ {A = List TableParts} [] (table_parts w ∷ map table_parts was) = parts in cc)
-numbers_same [] (l ∷ now) parts = absurd (let never : ◌≡◌ {A = List TableParts} (table_parts l ∷ map table_parts now) [] = parts in cc)
+    by_was (w ∷ was) parts = absurd (let never : ◌≡◌ {A = List TableParts} [] (table_parts w ∷ map table_parts was) = parts in nil_cons never)
+numbers_same [] (l ∷ now) parts = absurd (let never : ◌≡◌ {A = List TableParts} (table_parts l ∷ map table_parts now) [] = parts in cons_nil never)
 numbers_same (w ∷ was) (l ∷ now) parts =
-    let own : table_parts l ≡ table_parts w = cc in
-    let rest : map table_parts now ≡ map table_parts was = cc in
+    let own : table_parts l ≡ table_parts w = first_same parts in
+    let rest : map table_parts now ≡ map table_parts was = rest_same parts in
     let first : number_of l ≡ number_of w = ap (λ (p : TableParts). p.file) own in
     let others : file_numbers now ≡ file_numbers was = numbers_same was now rest in
-    cc
+    ap (λ n. n ∷ file_numbers now) first ∙ ap (λ ns. number_of w ∷ ns) others
 
 -- a merge is one of them still
 merge_same : (g : Geometry) (leaf : Option Layer) (was now : List FileLayer) (merge : Option Underway) → HaveSameNumbers was now → IfSome merge (IsMergeOf g leaf was) → IfSome merge (IsMergeOf g leaf now)
@@ -351,8 +352,8 @@ found a b z first count k bytes mask mask1 mask2 out out1 out2 one two below bit
 -- both parts are all files
 all_parts : (o p : Option Layer) (v : State) (s : ℕ) → option_map (λ (l : Layer). l.log.number) p ≡ option_map (λ (l : Layer). l.log.number) o → option_or (of_session o v s) (of_read p v s) ≡ seen_in (files_of v) s
 all_parts None None v s e = refl
-all_parts None (Some q) v s e = absurd (let h : ◌≡◌ {A = Option ℕ} (Some q.log.number) None = e in cc)
-all_parts (Some q) None v s e = absurd (let h : ◌≡◌ {A = Option ℕ} None (Some q.log.number) = e in cc)
+all_parts None (Some q) v s e = absurd (let h : ◌≡◌ {A = Option ℕ} (Some q.log.number) None = e in some_none h)
+all_parts (Some q) None v s e = absurd (let h : ◌≡◌ {A = Option ℕ} None (Some q.log.number) = e in none_some h)
 all_parts (Some q) (Some r) v s e = refl
 
 -- ---- what is read
@@ -380,7 +381,7 @@ joined z disk first (suc n) bytes inside len h =
     ∙ take-append-drop z bytes
 
 some_of : (o : Option (List ℕ)) (d : List ℕ) → is_some o ≡ true → o ≡ Some (unwrap_or o d)
-some_of None d h = absurd (cc)
+some_of None d h = absurd (false_true h)
 some_of (Some x) d h = refl
 
 -- the bytes are the disk's
@@ -398,7 +399,7 @@ replied z first count v layers trace out sized serving inside len has =
     ∙ sym (ap (λ (m : ℕ). take z (drop m out)) (mul_comm k z) ∙ has k (unwrap_or (seen_in (files_of v) (first + k)) (zeros z)) below (some_of (seen_in (files_of v) (first + k)) (zeros z) (serving.whole (first + k) (omega arith))))))
 
 first_of : (a b : Option ℕ) (x y : List (Option ℕ)) → a ∷ x ≡ b ∷ y → a ≡ b
-first_of a b x y e = cc
+first_of a b x y e = first_same e
 
 pub finds : (old mid : Layers) (disk mid_disk : Disk) (first count : ℕ) (mask1 mask2 out out1 out2 : List ℕ) (answer : Result (Unit {0}) StoreFault) → count ≤ 2048 → first + count ≤ old.geometry.sectors → length out2 ≡ old.geometry.sector * count
     → HasOnlyRead old mid disk mid_disk → mid_disk ≡ disk → AddsPart of_session first count old disk (replicate 256 0) mask1 out out1 → OnOk answer (AddsPart of_read first count mid mid_disk mask1 mask2 out1 out2)

@@ -43,6 +43,7 @@ use Rattle.chain_model.specs.Sessions.{IsServed, LooseAtTop}
 use Rattle.std.proofs.lemmas.List.{append_assoc, length-append, length-map}
 use Rattle.chain_core.proofs.MergeServed.{last_child}
 use Rattle.store_model.proofs.Told.{both_and, both_join, both_from}
+use Rattle.layer_session.proofs.Equal.{cons_nil, first_same, rest_same, some_same}
 
 -- ---- lists
 
@@ -106,11 +107,11 @@ lacks (f ∷ a) source b once = ((λ same. own a once.0 (sym same)), lacks a sou
 
 lacks_alike : (name : List ℕ) (xs ys : List Placed) → map look_of xs ≡ map look_of ys → AllByRecursion (λ f. f.member.name ≢ name) ys → AllByRecursion (λ f. f.member.name ≢ name) xs
 lacks_alike name [] ys same all = tt
-lacks_alike name (x ∷ xs) [] same all = absurd (let never : look_of x ∷ map look_of xs ≡ [] = same in cc)
+lacks_alike name (x ∷ xs) [] same all = absurd (let never : look_of x ∷ map look_of xs ≡ [] = same in cons_nil never)
 lacks_alike name (x ∷ xs) (y ∷ ys) same all =
     let e : look_of x ∷ map look_of xs ≡ look_of y ∷ map look_of ys = same in
-    let one : look_of x ≡ look_of y = cc in
-    ((λ is. all.0 (sym (ap (λ l. l.name) one) ∙ is)), lacks_alike name xs ys (cc) all.1)
+    let one : look_of x ≡ look_of y = first_same e in
+    ((λ is. all.0 (sym (ap (λ l. l.name) one) ∙ is)), lacks_alike name xs ys (rest_same e) all.1)
 
 looks_below : (pre : List Placed) (child after target other : Placed) (below : List Placed) → look_of after ≡ look_of child → look_of other ≡ look_of target
     → map look_of (pre ++ after ∷ other ∷ below) ≡ map look_of ((pre ++ child ∷ []) ++ target ∷ below)
@@ -217,7 +218,7 @@ module _ (v : State) (top : Placed) (above : List Placed) (source target : Place
   pub relinks_by : (parts : TableParts) → child_parts old.leaf old.below.items u.source ≡ Some parts → Relinks parts.bat_len u.relink (child_of top above) target
   relinks_by parts goes =
       let both : ◌≡◌ {A = Option TableParts} (Some course_of.parts) (Some parts) = sym course_of.goes_by ∙ goes in
-      let same : course_of.parts ≡ parts = cc in
+      let same : course_of.parts ≡ parts = some_same both in
       subst (λ (p : TableParts). Relinks p.bat_len u.relink (child_of top above) target) same course_of.relinks
 
 -- the leaf is the child

@@ -30,6 +30,7 @@ use Rattle.merge_plan.specs.declared.drawing.NewIds.{NewIds}
 use Rattle.chain_model.proofs.Showing.{eq_names}
 use Rattle.merge_plan.proofs.Planned.{passed}
 use Rattle.shown_ids.proofs.Places.{part_at}
+use Rattle.layer_session.proofs.Equal.{true_false}
 
 -- ---- the third of three identifiers
 
@@ -94,7 +95,7 @@ no_head id file log len whole none p head =
     let is : place_id file (log + 4096 * k) ≡ Some id = ap (λ (n : ℕ). place_id file (log + n)) same ∙ place_of_head id file log len p head fits in
     let differs : same_id id id ≡ false = no_place id file log (len / 4096) none k below id is in
     let never : true ≡ false = sym (eq_names id id refl) ∙ differs in
-    absurd (cc)
+    absurd (true_false never)
 
 -- ---- the leaf
 

@@ -15,6 +15,7 @@ use Rattle.chain_core.specs.Answering.{Answers, HasClosed, HasEndedWhole}
 use Rattle.chain_core.proofs.Steps.{at_rest}
 use Rattle.chain_core.proofs.Concluding.{SessionTold, same_told}
 use Rattle.chain_core.proofs.Rests.{new_top, opens_now}
+use Rattle.layer_session.proofs.Equal.{false_true}
 
 -- ---- once nothing is loose
 
@@ -52,7 +53,7 @@ rests_whole v layers trace is serving =
       ended = record { moments = (at_rest v layers trace serving).moments; still = serving.still; past = serving.past };
       all = all_durable v layers trace serving tight;
       links = served_links (sector_of v) v.opening v.history v.leaf v.retired (files_of v) trace serving.once serving.served;
-      synced = λ session. absurd (cc);
+      synced = λ session. absurd (false_true session);
     }
 
 pub rest_told : (layers : Layers) (disk : Disk) → layers.leaf ≡ None

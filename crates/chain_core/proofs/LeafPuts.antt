@@ -45,6 +45,7 @@ use Rattle.chain_core.proofs.Replaced.{AreParts, both_at, low_at, more_low, part
 use Rattle.chain_core.proofs.Standing.{leaf_of, same_files}
 use Rattle.chain_core.proofs.Steps.{LeafStep}
 use Rattle.chain_core.proofs.Turning.{Alike, KeepsTies, KeepsUnlessBroken, alike_marked, alike_same, all_but_one, piece_ties, retires_alike, retiring_alike, top_beside, turn_kept}
+use Rattle.layer_session.proofs.Equal.{false_true}
 
 -- ---- the layer below the leaf
 
@@ -61,7 +62,7 @@ first_put put = none put.above put.place
     none (x ∷ a) e = absurd (omega (arith, e))
 
 pub some_kept : (o : Option Retiring) → is_some o ≡ true → (r : Retiring) × (o ≡ Some r)
-some_kept None some = cc
+some_kept None some = absurd (false_true some)
 some_kept (Some r) some = (r, refl)
 
 -- no merge below the leaf is under way

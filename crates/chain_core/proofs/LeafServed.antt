@@ -43,6 +43,7 @@ use Rattle.chain_core.proofs.MergeFound.{IsFound, whole_first}
 use Rattle.chain_core.proofs.MergeServed.{Each, none_written, read_on, synced_on}
 use Rattle.chain_core.proofs.Phases.{tight}
 use Rattle.chain_core.proofs.Stages.{laid_gives}
+use Rattle.layer_session.proofs.Equal.{true_false}
 
 -- ---- what the pages were built of
 
@@ -62,8 +63,8 @@ pub record AreGiven (m : LeafFiles) (merge : LeafMerge) (t : Trace) : Type 0 whe
 
 two_false : (a b : Bool) → a ≡ false → b ≡ false → (a || b) ≡ false
 two_false false false x y = refl
-two_false true b x y = absurd (cc)
-two_false false true x y = absurd (cc)
+two_false true b x y = absurd (true_false x)
+two_false false true x y = absurd (true_false y)
 
 unwritten : (k : ℕ) → 2 ≤ k → is_first_two k ≡ false
 unwritten k from = two_false (k == 0) (k == 1) (ne_eqb k 0 (λ e. absurd (omega (arith, e, from)))) (ne_eqb k 1 (λ e. absurd (omega (arith, e, from))))
@@ -146,8 +147,8 @@ module _ (t0 now : Trace) (m : LeafFiles) (merge : LeafMerge) (given : AreGiven 
 
   synced_below : AllByRecursion (WasSynced is_first_two now) (top ∷ heir ∷ rest)
   synced_below = (
-    (λ w. absurd (let never : true ≡ false = w in cc)),
-    ((λ w. absurd (let never : true ≡ false = w in cc)), synced_on is_first_two t0 now 2 m.below beside_rest given.found.attached.each.1.1),
+    (λ w. absurd (let never : true ≡ false = w in true_false never)),
+    ((λ w. absurd (let never : true ≡ false = w in true_false never)), synced_on is_first_two t0 now 2 m.below beside_rest given.found.attached.each.1.1),
   )
 
   module _ (layers : Layers) (r : Retiring) (geometry : layers.geometry ≡ m.source.parts.geometry) (leaf_is : layers.leaf ≡ Some leaf) (none_now : layers.merge ≡ None) (merge_is : layers.retiring ≡ Some r) (below_is : layers.below.items ≡ Session target ∷ reads)

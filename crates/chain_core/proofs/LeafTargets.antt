@@ -41,13 +41,14 @@ use Rattle.chain_core.specs.States.{AreHeld, AreWritten, IsCleared, IsCourse, Is
 use Rattle.chain_core.proofs.Children.{ended_by}
 use Rattle.chain_core.proofs.Putting.{HasFailedPut, IsKeptAs, IsPut, apart_around}
 use Rattle.chain_core.proofs.Steps.{cleared_alike, fewer_marks, goes_over, names_behind, phase_beside, still_once, still_read}
+use Rattle.layer_session.proofs.Equal.{false_true, some_none, true_false}
 
 -- what is seen through three layers is there still, where the middle one owns more
 there_behind : (a t o r : Option (List ℕ)) → (is_some t ≡ true → is_some o ≡ true) → is_some (option_or a (option_or t r)) ≡ true → is_some (option_or a (option_or o r)) ≡ true
 there_behind (Some x) t o r more there = refl
 there_behind None t (Some y) r more there = refl
 there_behind None None None r more there = there
-there_behind None (Some x) None r more there = absurd (let never : false ≡ true = more refl in cc)
+there_behind None (Some x) None r more there = absurd (let never : false ≡ true = more refl in false_true never)
 
 module _ (v : State) (target : Placed) (below : List Placed) (first before : SectorLayer) (layers : Layers) (leaf l : Layer) (rest : List FileLayer) (trace : Trace) (serving : IsServing layers (record v { rest = retiring target below first before }) trace)
     (leaf_is : layers.leaf ≡ Some leaf) (was : layers.below.items ≡ Session l ∷ rest) where
@@ -86,7 +87,7 @@ module _ (v : State) (target : Placed) (below : List Placed) (first before : Sec
 
   -- no file but those that may be changed was changed
   still_on : (now : Trace) (P : List ℕ → Type 0) → IsPhase target.number P trace now → (n : ℕ) → v.writes n ≡ false → file_of now n ≡ file_of v.since n
-  still_on now P phase n none = phase_others target.number P trace now phase n (λ same. let never : true ≡ false = sym target_written ∙ ap v.writes (sym same) ∙ none in cc) ∙ serving.still n none
+  still_on now P phase n none = phase_others target.number P trace now phase n (λ same. let never : true ≡ false = sym target_written ∙ ap v.writes (sym same) ∙ none in true_false never) ∙ serving.still n none
 
   -- what a phase of the target leaves of the session, once it shows the other state
   pub serving_behind : (new : Layers) (r : Retiring) (next : Layer) (other : Placed) (P : List ℕ → Type 0) (now : Trace) → IsPhase target.number P trace now → new.geometry ≡ layers.geometry → new.merge ≡ layers.merge → new.retiring ≡ Some r → new.leaf ≡ Some leaf
@@ -158,7 +159,7 @@ module _ (v : State) (target : Placed) (below : List Placed) (first before : Sec
       where
         over_none : (o t : Option (List ℕ)) → o ≡ None → option_or o t ≡ t
         over_none None t h = refl
-        over_none (Some k) t h = absurd (let never : Some k ≡ None = h in cc)
+        over_none (Some k) t h = absurd (let never : Some k ≡ None = h in some_none never)
 
     module _ (new : Layers) (next : Layer) (geometry : new.geometry ≡ layers.geometry) (merge_now : new.merge ≡ layers.merge) (leaf_now : new.leaf ≡ Some leaf) (items : new.below.items ≡ Session next ∷ rest) (parts_are : next.tables.parts ≡ l.tables.parts) where
       lower_still : target_parts new.below.items ≡ Some leaving.lower

@@ -29,6 +29,7 @@ use Rattle.chain_core.specs.Answering.{EachOpensBefore, LayerAnswers, LayerTold,
 use Rattle.chain_core.proofs.Steps.{at_rest, fewer_marks}
 use Rattle.chain_core.proofs.Rests.{loose_after, new_top, opens_now, top_loose}
 use Rattle.chain_core.proofs.Concluding.{first_out}
+use Rattle.layer_session.proofs.Equal.{false_true}
 
 -- a read makes nothing loose
 read_leaves : (z first count : ℕ) (top : Placed) → top ≡ made z (calls.Read first count) top
@@ -83,7 +84,7 @@ read_on first count who v layers trace s =
       once = s.once;
       geometry = s.geometry;
       served = record { linked = s.served.linked; kept = s.served.kept; disk = s.served.disk ∙ sym (replay_unchanged z v.opening v.history e refl) };
-      loose = loose_after z v.history e v.top v.top v.rest (record { call = λ sector loose named. loose; flush = λ flush. absurd (let never : false ≡ true = flush in cc) }) (λ sector. refl) s.loose;
+      loose = loose_after z v.history e v.top v.top v.rest (record { call = λ sector loose named. loose; flush = λ flush. absurd (let never : false ≡ true = flush in false_true never) }) (λ sector. refl) s.loose;
       course = s.course;
       leaving = read_leaving first count v.history who layers v.writes z v.top v.rest s.leaving;
       held = s.held;

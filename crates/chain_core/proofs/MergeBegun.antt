@@ -56,10 +56,11 @@ use Rattle.chain_core.proofs.MergeReady.{serves_told}
 use Rattle.chain_core.proofs.MergeServed.{child_written, target_written, read_count}
 use Rattle.chain_core.proofs.MergeStages.{OpenedBy, end_stage, end_told, leaf_stage, leaf_told, locator_stage, locator_told, moments_of, serve_on, source_serves, source_stage, source_told, source_turns, still_of, target_serves, target_stage, target_told}
 use Rattle.chain_core.proofs.MergeTold.{served_at, told_last}
+use Rattle.layer_session.proofs.Equal.{false_true, true_false}
 
 or_left : (a b : Bool) → a ≡ true → (a || b) ≡ true
 or_left true b h = refl
-or_left false b h = absurd (cc)
+or_left false b h = absurd (false_true h)
 
 or_right : (a b : Bool) → b ≡ true → (a || b) ≡ true
 or_right true b h = refl
@@ -389,7 +390,7 @@ module _ (m : MergeFiles) (merge : Merge) (d : Disk) (can : CanStart (chain_file
         where
           front_counts : (files : List LinkedFile) (reads : List FileLayer) (o : Option Layer) → AreReadOf 1 (behind_first files) reads → is_some o ≡ nat_lt 0 (length files) → IfSome o (Made m.child.parts (length files)) → CountFrom 1 (reads ++ session_of o)
           front_counts [] [] None of is made = tt
-          front_counts [] [] (Some l) of is made = absurd (let never : true ≡ false = is in cc)
+          front_counts [] [] (Some l) of is made = absurd (let never : true ≡ false = is in true_false never)
           front_counts [] (x ∷ reads) o of is made = absurd of
           front_counts (f ∷ files) reads None of is made = absurd (leaf_only (length files) is)
           front_counts (f ∷ files) reads (Some l) of is made =

@@ -14,10 +14,11 @@ use Rattle.chain_core.specs.MergeStarting.{ChildBegun, ChildOver, target_place}
 use Rattle.chain_core.proofs.MergePhases.{AtChild, AtTarget, child_is_leaf, child_opens, child_reaches}
 use Rattle.chain_core.proofs.MergeStages.{OpenedBy}
 use Rattle.store_model.proofs.Told.{both_and, both_join}
+use Rattle.layer_session.proofs.Equal.{false_true, true_false}
 
 -- files above the source, of which the child is the leaf
 pub leaf_only : (n : ℕ) → false ≡ nat_lt 0 (suc n) → ⊥
-leaf_only n h = let more : nat_lt 0 (suc n) ≡ true = lt-ltb 0 (suc n) (omega arith) in let never : false ≡ true = h ∙ more in cc
+leaf_only n h = let more : nat_lt 0 (suc n) ≡ true = lt-ltb 0 (suc n) (omega arith) in let never : false ≡ true = h ∙ more in absurd (false_true never)
 
 child_after : (t0 : Trace) (above : List LinkedFile) (child source target : LinkedFile) (below : List LinkedFile) (ids : MergeIds) (pages : List Page) (inner : Option LogIds) (leaf source_layer target_layer : Layer) (l : Option Layer) (old now : Trace)
     → is_some inner ≡ nat_lt 0 (length above)
@@ -28,7 +29,7 @@ child_after t0 [] child source target below ids pages None leaf source_layer tar
     subst (λ (t : Trace). AtChild t0 (record { above = []; child = child; source = source; target = target; below = below }) ids pages None leaf source_layer target_layer None t) (sym b.0)
     (child_is_leaf t0 child source target below ids pages None leaf source_layer target_layer old r)
 child_after t0 [] child source target below ids pages None leaf source_layer target_layer (Some l) old now some r b = absurd b.1
-child_after t0 [] child source target below ids pages (Some inner) leaf source_layer target_layer l old now some r b = absurd (let never : true ≡ false = some in cc)
+child_after t0 [] child source target below ids pages (Some inner) leaf source_layer target_layer l old now some r b = absurd (let never : true ≡ false = some in true_false never)
 child_after t0 (f ∷ above) child source target below ids pages None leaf source_layer target_layer l old now some r b = absurd (leaf_only (length above) some)
 child_after t0 (f ∷ above) child source target below ids pages (Some inner) leaf source_layer target_layer None old now some r b = absurd b.1
 child_after t0 (f ∷ above) child source target below ids pages (Some inner) leaf source_layer target_layer (Some l) old now some r b =
@@ -44,7 +45,7 @@ child_open : (t0 : Trace) (above : List LinkedFile) (child source target : Linke
 child_open t0 [] child source target below ids pages None leaf source_layer target_layer old now some r over =
     let m : MergeFiles = record { above = []; child = child; source = source; target = target; below = below } in
     subst (λ (t : Trace). OpenedBy m (0 ∷ target_place m ∷ source_place m ∷ source_place m ∷ 0 ∷ []) t0 t) (sym over) (record { moments = r.moments; left = λ k apart. r.left k apart.1 })
-child_open t0 [] child source target below ids pages (Some inner) leaf source_layer target_layer old now some r over = absurd (let never : true ≡ false = some in cc)
+child_open t0 [] child source target below ids pages (Some inner) leaf source_layer target_layer old now some r over = absurd (let never : true ≡ false = some in true_false never)
 child_open t0 (f ∷ above) child source target below ids pages None leaf source_layer target_layer old now some r over = absurd (leaf_only (length above) some)
 child_open t0 (f ∷ above) child source target below ids pages (Some inner) leaf source_layer target_layer old now some r over =
     child_opens t0 f above child source target below ids pages inner leaf source_layer target_layer old now r over

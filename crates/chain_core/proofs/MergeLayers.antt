@@ -24,6 +24,7 @@ use Rattle.chain_core.specs.Starting.{AreReadOf}
 use Rattle.chain_core.specs.declared.layers.Underway.{Underway}
 use Rattle.chain_core.proofs.MergeAsked.{ready_still}
 use Rattle.chain_core.proofs.MergeChild.{leaf_only}
+use Rattle.layer_session.proofs.Equal.{true_false}
 
 -- ---- files by their numbers
 
@@ -122,7 +123,7 @@ low_two (l ∷ a) b first second = (first.0, low_two a b first.1 second)
 -- as many as stand there but for the leaf, the child among them unless it is the leaf
 pub front_len : (files : List LinkedFile) (reads : List FileLayer) (l : Option Layer) → AreReadOf 1 (behind_first files) reads → is_some l ≡ nat_lt 0 (length files) → length (reads ++ session_of l) ≡ length files
 front_len [] [] None of some = refl
-front_len [] [] (Some l) of some = absurd (let never : true ≡ false = some in cc)
+front_len [] [] (Some l) of some = absurd (let never : true ≡ false = some in true_false never)
 front_len [] (x ∷ reads) l of some = absurd of
 front_len (f ∷ files) reads None of some = absurd (leaf_only (length files) some)
 front_len (f ∷ files) reads (Some l) of some = let one : length (reads ++ Session l ∷ []) ≡ length reads + 1 = length-append reads (Session l ∷ []) in let many : length reads ≡ length files = read_count 1 files reads of in omega (arith, one, many)

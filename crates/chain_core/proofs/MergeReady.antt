@@ -28,6 +28,7 @@ use Rattle.chain_core.proofs.MergeFound.{AreFound}
 use Rattle.chain_core.proofs.MergePhases.{AtEnd}
 use Rattle.chain_core.proofs.MergeServed.{Front, child_relinks, front_inner, front_leaf, serves_merge}
 use Rattle.chain_core.proofs.MergeTold.{are_found, told_from}
+use Rattle.layer_session.proofs.Equal.{false_true, true_false}
 
 -- the pages of the child, built of it as it was found
 pub record HasRelink (m : MergeFiles) (ids : MergeIds) (relink : List Page) (t : Trace) : Type 0 where
@@ -43,14 +44,14 @@ front_is : (above : List LinkedFile) (child source target : LinkedFile) (below :
     → AreReadOf 1 (behind_first above) reads
     → AtEnd t0 (record { above = above; child = child; source = source; target = target; below = below }) ids pages inner leaf target_layer l now
     → Front t0 now (record { above = above; child = child; source = source; target = target; below = below }) ids pages relink leaf (reads ++ session_of l)
-front_is [] child source target below ids pages relink (Some inner) leaf target_layer l reads t0 now is some both has links are table tables of e = absurd (let never : true ≡ false = some in cc)
-front_is [] child source target below ids pages relink None leaf target_layer (Some l) reads t0 now is some both has links are table tables of e = absurd (let never : true ≡ false = both in cc)
+front_is [] child source target below ids pages relink (Some inner) leaf target_layer l reads t0 now is some both has links are table tables of e = absurd (let never : true ≡ false = some in true_false never)
+front_is [] child source target below ids pages relink None leaf target_layer (Some l) reads t0 now is some both has links are table tables of e = absurd (let never : true ≡ false = both in true_false never)
 front_is [] child source target below ids pages relink None leaf target_layer None (x ∷ reads) t0 now is some both has links are table tables of e = absurd of
 front_is [] child source target below ids pages relink None leaf target_layer None [] t0 now is some both has links are table tables of e =
     front_leaf t0 now child source target below ids pages relink leaf
     (child_relinks t0 now (record { above = []; child = child; source = source; target = target; below = below }) ids relink leaf (data_session ids.leaf) has.found links e.serving.1.0 table are has.gives)
 front_is (f ∷ above) child source target below ids pages relink None leaf target_layer l reads t0 now is some both has links are table tables of e = absurd (leaf_only (length above) some)
-front_is (f ∷ above) child source target below ids pages relink (Some inner) leaf target_layer None reads t0 now is some both has links are table tables of e = absurd (let never : false ≡ true = both in cc)
+front_is (f ∷ above) child source target below ids pages relink (Some inner) leaf target_layer None reads t0 now is some both has links are table tables of e = absurd (let never : false ≡ true = both in false_true never)
 front_is (f ∷ above) child source target below ids pages relink (Some inner) leaf target_layer (Some l) reads t0 now is some both has links are table tables of e =
     front_inner t0 now f above child source target below ids pages relink inner is leaf l reads has.found of
     (λ k from to. e.left k (

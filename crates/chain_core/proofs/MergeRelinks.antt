@@ -14,6 +14,7 @@ use Rattle.layer_session.specs.declared.file_layer.FileLayer.{FileLayer}
 use Rattle.layer_session.specs.declared.file_layer.FileLayer.TheVariants.{Session}
 use Rattle.chain_core.specs.Sessions.{child_layer}
 use Rattle.chain_core.specs.States.{Relinks, child_of, child_parts}
+use Rattle.layer_session.proofs.Equal.{some_same}
 
 not_first : (n : ℕ) → (suc n == 0) ≡ false
 not_first n = ne_eqb (suc n) 0 (λ e. absurd (omega arith))
@@ -29,9 +30,6 @@ layer_behind leaf layers n =
     ∙ ap (λ (k : ℕ). slice_index_or (map (λ l. Some l) layers) k None) (let e : suc n - 1 ≡ n = omega arith in e)
 
 module _ (t : Trace) (pages : List Page) (parts : TableParts) (target : Placed) where
-  some_is : (a b : TableParts) → ◌≡◌ {A = Option TableParts} (Some a) (Some b) → a ≡ b
-  some_is a b is = cc
-
   turned_by : (l : FileLayer) (x : Placed) → HasFile l t x → table_parts l ≡ parts → Relinks parts.bat_len pages x target → FileTurns l pages t
   turned_by l x has is r = record {
     file = x;
@@ -45,13 +43,13 @@ module _ (t : Trace) (pages : List Page) (parts : TableParts) (target : Placed) 
   last_turned : (x : Placed) (xs rest : List Placed) (layers : List FileLayer) → HaveFiles layers t ((x ∷ xs) ++ rest) → slice_index_or (map (λ l. Some (table_parts l)) layers) (length xs) None ≡ Some parts
       → Relinks parts.bat_len pages (child_of x xs) target → IfSome (slice_index_or (map (λ l. Some l) layers) (length xs) None) (λ l. FileTurns l pages t)
   last_turned x [] rest [] have is r = absurd have
-  last_turned x [] rest (l ∷ layers) have is r = turned_by l x have.0 (some_is (table_parts l) parts is) r
+  last_turned x [] rest (l ∷ layers) have is r = turned_by l x have.0 (some_same {x = (table_parts l)} {y = parts} is) r
   last_turned x (y ∷ xs) rest [] have is r = absurd have
   last_turned x (y ∷ xs) rest (l ∷ layers) have is r = last_turned y xs rest layers have.1 is r
 
   by_above : (above rest : List Placed) (leaf : Layer) (layers : List FileLayer) (top : Placed) → child_parts (Some leaf) layers (length above) ≡ Some parts → Serves leaf t top → HaveFiles layers t (above ++ rest)
       → Relinks parts.bat_len pages (child_of top above) target → IfSome (child_layer (Some leaf) layers (length above)) (λ l. FileTurns l pages t)
-  by_above [] rest leaf layers top is serves have r = turned_by (Session leaf) top serves (some_is leaf.tables.parts parts is) r
+  by_above [] rest leaf layers top is serves have r = turned_by (Session leaf) top serves (some_same {x = leaf.tables.parts} {y = parts} is) r
   by_above (x ∷ xs) rest leaf layers top is serves have r =
       subst (λ o. IfSome o (λ l. FileTurns l pages t)) (sym (layer_behind leaf layers (length xs))) (last_turned x xs rest layers have (sym (parts_behind leaf layers (length xs)) ∙ is) r)
 

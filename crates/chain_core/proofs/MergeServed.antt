@@ -48,25 +48,26 @@ use Rattle.merge_plan.proofs.Opened.{lie_within}
 use Rattle.chain_core.proofs.Phases.{Pair, tight}
 use Rattle.chain_core.proofs.Putting.{have_all}
 use Rattle.chain_core.proofs.Stages.{gives_turn}
+use Rattle.layer_session.proofs.Equal.{false_true, true_false}
 
 -- ---- which numbers are written
 
 three_false : (a b c : Bool) → a ≡ false → b ≡ false → c ≡ false → (a || b || c) ≡ false
 three_false false false false x y z = refl
-three_false true b c x y z = absurd (cc)
-three_false false true c x y z = absurd (cc)
-three_false false false true x y z = absurd (cc)
+three_false true b c x y z = absurd (true_false x)
+three_false false true c x y z = absurd (true_false y)
+three_false false false true x y z = absurd (true_false z)
 
 second_true : (a b c : Bool) → b ≡ true → (a || b || c) ≡ true
 second_true true true c h = refl
 second_true false true c h = refl
-second_true a false c h = absurd (cc)
+second_true a false c h = absurd (false_true h)
 
 third_true : (a b c : Bool) → c ≡ true → (a || b || c) ≡ true
 third_true true b true h = refl
 third_true false true true h = refl
 third_true false false true h = refl
-third_true a b false h = absurd (cc)
+third_true a b false h = absurd (false_true h)
 
 pub unwritten : (m : MergeFiles) (k : ℕ) → k ≢ 0 → k ≢ child_place m → k ≢ target_place m → is_written m k ≡ false
 unwritten m k a b c = three_false (k == 0) (k == child_place m) (k == target_place m) (ne_eqb k 0 a) (ne_eqb k (child_place m) b) (ne_eqb k (target_place m) c)
@@ -241,7 +242,7 @@ module _ (t0 now : Trace) (first : LinkedFile) (above : List LinkedFile) (child 
       written = all_append (λ (l : FileLayer). is_written files (number_of l) ≡ (is_session l)) reads (Session layer ∷ []) (none_written (is_written files) 1 above reads unwritten_above of) ((ap (is_written files) number ∙ child_is_written), tt);
       synced = subst (AllByRecursion (WasSynced (is_written files) now)) mid_is
           (all_append (WasSynced (is_written files) now) (placed_from t0 1 above) (begun ∷ []) (synced_on (is_written files) t0 now 1 above beside above_opened)
-          ((λ w. absurd (let never : true ≡ false = sym child_is_written ∙ w in cc)), tt));
+          ((λ w. absurd (let never : true ≡ false = sym child_is_written ∙ w in true_false never)), tt));
       parts = layer.tables.parts;
       goes_by = goes_by_child;
       child = subst (λ (ps : List Placed). is_written files (child_of (top_in t0 files ids) ps).number ≡ true) mid_is (ap (λ (p : Placed). is_written files p.number) child_is ∙ child_is_written);
@@ -317,7 +318,7 @@ module _ (t0 now : Trace) (m : MergeFiles) (ids : MergeIds) (pages relink : List
   synced_below : AllByRecursion (WasSynced (is_written m) now) (above_in ++ source_in t0 m ids pages ∷ target_in t0 m ids ∷ rest_found t0 m)
   synced_below =
       all_append (WasSynced (is_written m) now) above_in (source_in t0 m ids pages ∷ target_in t0 m ids ∷ rest_found t0 m) f.synced
-      ((λ w. synced_source), ((λ w. absurd (let never : true ≡ false = sym (target_written m) ∙ w in cc)), synced_on (is_written m) t0 now (target_place m + 1) m.below beside_rest (rest_opened t0 m are)))
+      ((λ w. synced_source), ((λ w. absurd (let never : true ≡ false = sym (target_written m) ∙ w in true_false never)), synced_on (is_written m) t0 now (target_place m + 1) m.below beside_rest (rest_opened t0 m are)))
 
   whole_in : (s : ℕ) → s < (leaf_of m).parts.geometry.sectors → is_some (seen_in chain s) ≡ true
   whole_in s below =
@@ -354,7 +355,7 @@ module _ (t0 now : Trace) (m : MergeFiles) (ids : MergeIds) (pages relink : List
       held = subst (λ o. AreHeld o layers.below.items now (top_in t0 m ids) (above_in ++ source_in t0 m ids pages ∷ target_in t0 m ids ∷ rest_found t0 m)) (sym leaf_is)
           (serves.1, subst (λ (b : List FileLayer). HaveFiles b now (above_in ++ source_in t0 m ids pages ∷ target_in t0 m ids ∷ rest_found t0 m)) (sym below_is) have_below);
       whole = whole_in;
-      synced = ((λ w. absurd (let never : true ≡ false = w in cc)), synced_below);
+      synced = ((λ w. absurd (let never : true ≡ false = w in true_false never)), synced_below);
       written = subst (λ o. IfSome o (λ l. (is_written m 0 ≡ true) × AreWritten (is_written m) layers.below.items)) (sym leaf_is)
           (leaf_written m, subst (AreWritten (is_written m)) (sym below_is) written_below);
       still = λ other none. refl;

@@ -10,6 +10,7 @@ use Rattle.chain_core.specs.Copying.{no_stripe, past_stripes}
 use Rattle.chain_core.specs.MergeStarting.{behind_first, chain_files}
 use Rattle.chain_core.specs.Sessions.{has_merge}
 use Rattle.chain_core.specs.declared.layers.Layers.{Layers}
+use Rattle.layer_session.proofs.Equal.{some_none}
 
 counted : (m : MergeFiles) → length (chain_files m) ≡ length m.above + (3 + length m.below)
 counted m = let sum = length-append m.above (m.child ∷ m.source ∷ m.target ∷ m.below) in let four : length (m.child ∷ m.source ∷ m.target ∷ m.below) ≡ 3 + length m.below = omega arith in sum ∙ ap (λ k. length m.above + k) four
@@ -36,7 +37,7 @@ stripe_merge stripe layers = by_test (has_merge layers) (past_stripes stripe (st
   where
     by_test : (b : Bool) (later : Option ChainRefusal) → (if b then later else Some refusals.NoMerge) ≡ None → b ≡ true
     by_test true later is = refl
-    by_test false later is = absurd (let never : ◌≡◌ {A = Option ChainRefusal} (Some refusals.NoMerge) None = is in cc)
+    by_test false later is = absurd (let never : ◌≡◌ {A = Option ChainRefusal} (Some refusals.NoMerge) None = is in some_none never)
 
 pub stripe_there : (stripe : ℕ) (layers : Layers) → no_stripe stripe layers ≡ None → stripe < stripe_count layers.geometry.sector layers.geometry.sectors
 stripe_there stripe layers none =
@@ -47,4 +48,4 @@ stripe_there stripe layers none =
 
     by_test : (b : Bool) → nat_lt stripe n ≡ b → (if b then None else Some (refusals.NoStripe stripe n)) ≡ None → stripe < n
     by_test true is none = ltb-true stripe n is
-    by_test false is none = absurd (let never : ◌≡◌ {A = Option ChainRefusal} (Some (refusals.NoStripe stripe n)) None = none in cc)
+    by_test false is none = absurd (let never : ◌≡◌ {A = Option ChainRefusal} (Some (refusals.NoStripe stripe n)) None = none in some_none never)

@@ -31,6 +31,7 @@ use Rattle.merge_plan.proofs.Opened.{lie_within}
 use Rattle.chain_core.proofs.Phases.{Opened}
 use Rattle.chain_core.proofs.Stages.{gives_turn, serve_beside}
 use Rattle.store_model.proofs.Told.{both_and, both_from, both_join}
+use Rattle.layer_session.proofs.Equal.{true_false}
 
 -- ---- what was opened
 
@@ -46,7 +47,7 @@ moments_of m numbers old new o =
 
 others_apart : (changes : ℕ → Bool) (k : ℕ) (numbers : List ℕ) → AllByRecursion (λ n. changes n ≡ true) numbers → changes k ≡ false → AllByRecursion (λ n. k ≢ n) numbers
 others_apart changes k [] changed none = tt
-others_apart changes k (n ∷ numbers) changed none = ((λ e. let never : true ≡ false = sym changed.0 ∙ ap changes (sym e) ∙ none in absurd (cc)), others_apart changes k numbers changed.1 none)
+others_apart changes k (n ∷ numbers) changed none = ((λ e. let never : true ≡ false = sym changed.0 ∙ ap changes (sym e) ∙ none in true_false never), others_apart changes k numbers changed.1 none)
 
 pub all_but : (changes : ℕ → Bool) (opening : Trace → GuestDisk) (leaf : List ℕ) (numbers : List ℕ) → AllByRecursion (λ n. changes n ≡ true) numbers → (old new : Option Trace) → WhereBothTold (λ t now. Opened (opening t) leaf numbers t now) old new
     → LeavesAllBut changes old new

@@ -22,6 +22,7 @@ use Rattle.chain_core.proofs.Beginning.{by_recursion}
 use Rattle.chain_core.proofs.Fresh.{any_left, any_right, serve_fresh}
 use Rattle.chain_core.proofs.MergeFound.{AreFound, IsFound}
 use Rattle.merge_plan.proofs.Planned.{opened_below, passed}
+use Rattle.layer_session.proofs.Equal.{none_some, some_same}
 
 -- ---- one stretch behind another
 
@@ -34,10 +35,10 @@ told_from P R Q f (Some a) (Some b) p r = f a b (p a refl) r
 
 -- of the last moment
 pub told_last : {T : Type 0} (R : T → T → Type 0) (Q : T → Type 0) → ((a b : T) → R a b → Q b) → (x y : Option T) → WhereBothTold R x y → WhereTold y Q
-told_last {T} R Q f None None r t is = let never : ◌≡◌ {A = Option T} None (Some t) = is in cc
+told_last {T} R Q f None None r t is = let never : ◌≡◌ {A = Option T} None (Some t) = is in absurd (none_some never)
 told_last R Q f None (Some b) r t is = absurd r
 told_last R Q f (Some a) None r t is = absurd r
-told_last R Q f (Some a) (Some b) r t is = let same : b ≡ t = cc in subst Q same (f a b r)
+told_last R Q f (Some a) (Some b) r t is = subst Q (some_same is) (f a b r)
 
 pub told_self : {T : Type 0} (Q : T → T → Type 0) → ((a : T) → Q a a) → (x : Option T) → WhereBothTold Q x x
 told_self Q f None = tt

@@ -19,6 +19,7 @@ use Rattle.chain_core.specs.Reading.{HasOnlyRead}
 use Rattle.chain_core.specs.Refusing.{IfRefused, refused}
 use Rattle.chain_core.specs.Sessions.{AreReady, IsLow, IsSound, Session, has_merge, slack}
 use Rattle.chain_core.proofs.Copied.{always, has_merge_same, low_on, sound_behind}
+use Rattle.layer_session.proofs.Equal.{err_same}
 
 -- an entry that was noted last is taken back
 taken_back : (e : Entry) (h : List Entry) → take (length (h ++ e ∷ []) - 1) (h ++ e ∷ []) ≡ h
@@ -50,7 +51,7 @@ refused_first call s x (Ok place) P is early = absurd is
 refused_first call s x (Err e) P is early = by_cause (refused call s) early
   where
     same : {a b : ChainRefusal} → ◌≡◌ {A = Result (Unit {0}) ChainRefusal} (Err a) (Err b) → a ≡ b
-    same h = cc
+    same h = err_same h
 
     by_cause : (o : Option ChainRefusal) → IfSome o (λ r. (◌≡◌ {A = Result (Unit {0}) ChainRefusal} (Err x) (Err r)) × P) → IfSome o (λ r. (◌≡◌ {A = Result ℕ ChainRefusal} (Err e) (Err r)) × P)
     by_cause None h = tt

@@ -31,6 +31,7 @@ use Rattle.chain_core.specs.Sessions.{AreReady, AtMostOne, IsMergeOf}
 use Rattle.chain_core.specs.States.{AreHeld, IsCourse, IsServing, IsUnder, Rest, State, merging, plain, retiring, sector_of}
 use Rattle.chain_core.proofs.Finding.{below_reads}
 use Rattle.chain_core.proofs.Putting.{have_parts}
+use Rattle.layer_session.proofs.Equal.{false_true}
 
 -- ---- a list at a place
 
@@ -162,7 +163,7 @@ source_taken v (merging above source target below m) layers leaf u x trace piece
     true_pieces.taken z m.first [] source.member.layer piece stripes (λ s. under.under_way.source_is s) (stamp ∙ sym (stamps_by_call.none z piece.stripe)) t.within t.taken
 
 pub some_leaf : (o : Option Layer) → is_some o ≡ true → (leaf : Layer) × (o ≡ Some leaf)
-some_leaf None some = cc
+some_leaf None some = absurd (false_true some)
 some_leaf (Some leaf) some = (leaf, refl)
 
 takes : (layers : Layers) (u : Underway) (x : FileLayer) (disk : Disk) (answer : Result (Unit {0}) StoreFault) (piece : Piece) → layers.merge ≡ Some u → IsAt layers.below.items u.source x → AreReady layers disk → piece.stamp ≡ 0

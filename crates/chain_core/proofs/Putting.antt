@@ -47,6 +47,7 @@ use Rattle.layer_session.proofs.FileLayers.{phase_others}
 use Rattle.chain_model.proofs.Showing.{all_right}
 use Rattle.chain_core.specs.States.{Relinks, child_of, child_parts, AreHeld, AreWritten, IsCourse, IsServing, IsUnder, Merging, State, dirty_now, merging, sector_of, seen_in, WasSynced, IsRetiring}
 use Rattle.chain_core.proofs.Steps.{apart, goes_over, names_behind, phase_beside, still_once, still_read}
+use Rattle.layer_session.proofs.Equal.{false_true, some_none, true_false}
 
 -- ---- one file among others
 
@@ -94,7 +95,7 @@ there_through [] x y b s more there = by_first (x s) (y s) more there
     by_first : (o n : Option (List ℕ)) → (is_some o ≡ true → is_some n ≡ true) → is_some (option_or o (through b s)) ≡ true → is_some (option_or n (through b s)) ≡ true
     by_first o (Some k) more there = refl
     by_first None None more there = there
-    by_first (Some k) None more there = absurd (let never : false ≡ true = more refl in cc)
+    by_first (Some k) None more there = absurd (let never : false ≡ true = more refl in false_true never)
 there_through (l ∷ a) x y b s more there = there_first (l s) (through (a ++ x ∷ b) s) (through (a ++ y ∷ b) s) (there_through a x y b s more) there
 
 -- ---- the target
@@ -213,7 +214,7 @@ module _ (v : State) (top : Placed) (above : List Placed) (source target : Place
             (subst (AllByRecursion (WasSynced v.writes v.since)) (ap (λ (c : List Placed). top ∷ c) (sym (parted target))) serving.synced));
         written = subst (λ o. IfSome o (λ leaf. (v.writes top.number ≡ true) × AreWritten v.writes new.below.items)) (sym leaf_now)
             ((subst (λ o. IfSome o (λ leaf. (v.writes top.number ≡ true) × AreWritten v.writes layers.below.items)) is serving.written).0, all_written);
-        still = λ n none. phase_others target.number P trace now phase n (λ same. let never : true ≡ false = sym written ∙ ap v.writes (sym same) ∙ none in cc) ∙ serving.still n none;
+        still = λ n none. phase_others target.number P trace now phase n (λ same. let never : true ≡ false = sym written ∙ ap v.writes (sym same) ∙ none in true_false never) ∙ serving.still n none;
         past = past_goes_on.quiet (sector_of here) v.opening v.history (λ s. false) v.leaf v.began trace now serving.past moments;
       }
         where
@@ -333,7 +334,7 @@ module _ (v : State) (top : Placed) (above : List Placed) (source target : Place
           where
             over_none : (o t : Option (List ℕ)) → o ≡ None → option_or o t ≡ t
             over_none None t h = refl
-            over_none (Some k) t h = absurd (let never : Some k ≡ None = h in cc)
+            over_none (Some k) t h = absurd (let never : Some k ≡ None = h in some_none never)
 
         pub copied : IsPut piece target next trace now → new.merge ≡ Some u' → u'.source ≡ u.source → u'.relink ≡ u.relink → ((t : ℕ) → marks_of u'.marks t ≡ with_mark piece.stripe (marks_of u.marks) t)
             → IsCopied piece here new trace now
@@ -365,7 +366,7 @@ module _ (v : State) (top : Placed) (above : List Placed) (source target : Place
             let over = survives failed.moments in
             record {
               moments = over.moments;
-              still = λ n none. phase_others target.number (ShowsFile wide) trace now failed.moments n (λ same. let never : true ≡ false = sym under_old.written ∙ ap v.writes (sym same) ∙ none in cc) ∙ serving.still n none;
+              still = λ n none. phase_others target.number (ShowsFile wide) trace now failed.moments n (λ same. let never : true ≡ false = sym under_old.written ∙ ap v.writes (sym same) ∙ none in true_false never) ∙ serving.still n none;
               past = past_goes_on.quiet z v.opening v.history (λ s. false) v.leaf v.began trace now serving.past over.moments;
             }
 

@@ -32,6 +32,7 @@ use Rattle.chain_core.specs.Answering.{EachOpensNow}
 use Rattle.chain_core.specs.States.{AreHeld, AreWritten, IsCourse, IsRetiring, IsServing, IsUnder, Merging, Relinks, State, dirty_now, is_session, merging, plain, seen_in, WasSynced}
 use Rattle.chain_core.proofs.Putting.{apart_around, have_all, have_parts, layers_append}
 use Rattle.chain_core.proofs.Steps.{names_behind, phase_beside, still_once, still_read}
+use Rattle.layer_session.proofs.Equal.{true_false}
 
 -- ---- the child's ties
 
@@ -169,7 +170,7 @@ leaf_relinked v top source target below m layers new u leaf next x rest trace no
       whole = λ s inside. whole_without [] top after source target below s refl (λ bytes owned. all s bytes inside owned) (serving.whole s inside);
       synced = (serving.synced.0, serving.synced.1.1);
       written = subst (λ o. IfSome o (λ leaf. (v.writes top.number ≡ true) × AreWritten v.writes new.below.items)) (sym leaf_now) (written.0, subst (AreWritten v.writes) (sym items) written.1.1);
-      still = λ n none. phase_others top.number (λ bytes. ShowsFile top bytes ⊎ ShowsFile after bytes) trace now over.phase n (λ same. let never : true ≡ false = sym written.0 ∙ ap v.writes (sym same) ∙ none in cc) ∙ serving.still n none;
+      still = λ n none. phase_others top.number (λ bytes. ShowsFile top bytes ⊎ ShowsFile after bytes) trace now over.phase n (λ same. let never : true ≡ false = sym written.0 ∙ ap v.writes (sym same) ∙ none in true_false never) ∙ serving.still n none;
       past = past_goes_on.quiet z v.opening v.history (λ s. false) v.leaf v.began trace now serving.past on.moments;
     } in
     (on.moments, done)
@@ -226,7 +227,7 @@ child_relinked v top pre child source target below m layers new u leaf p l next 
           (subst (λ (c : List Placed). is_some (seen_in (top ∷ c) s) ≡ true) e (serving.whole s inside));
       synced = all_without (WasSynced v.writes v.since) (top ∷ pre) child after source (target ∷ below) (λ h. h) synced;
       written = subst (λ o. IfSome o (λ leaf. (v.writes top.number ≡ true) × AreWritten v.writes new.below.items)) (sym leaf_now) (written.0, subst (AreWritten v.writes) (sym items) written_then);
-      still = λ n none. phase_others child.number Goes trace now over.phase n (λ same. let never : true ≡ false = sym child_written ∙ ap v.writes (sym same) ∙ none in cc) ∙ serving.still n none;
+      still = λ n none. phase_others child.number Goes trace now over.phase n (λ same. let never : true ≡ false = sym child_written ∙ ap v.writes (sym same) ∙ none in true_false never) ∙ serving.still n none;
       past = past_goes_on.quiet z v.opening v.history (λ s. false) v.leaf v.began trace now serving.past on.moments;
     } in
     (on.moments, done)

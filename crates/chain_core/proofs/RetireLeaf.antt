@@ -25,7 +25,8 @@ use Rattle.chain_core.proofs.Exchanged.{change_failed, exchanged_low, relinking_
 use Rattle.chain_core.proofs.Places.{some_leaf}
 use Rattle.chain_core.proofs.Replaced.{AreParts}
 use Rattle.chain_core.proofs.RetireStays.{Stays, all_ready, handed_leaf_ready, handed_parts, identifying_leaves, leaf_fails, leaf_ready, leaf_turns, leaf_was_ready, stays_first, stays_leaf, stays_number, stays_target, target_fails, target_ready, target_was, target_was_ready}
-use Rattle.chain_core.proofs.Retires.{AtFifth, AtFourth, AtThird, Breaks, LeafChange, Reaches, StandsIn, TargetChange, broken_fifth, broken_first, broken_fourth, broken_second, broken_sixth, broken_third, broken_told, leaf_change, reached_fifth, reached_first, reached_fourth, reached_second, reached_sixth, reached_third, reached_told, reached_unchanged, some_is, target_change}
+use Rattle.chain_core.proofs.Retires.{AtFifth, AtFourth, AtThird, Breaks, LeafChange, Reaches, StandsIn, TargetChange, broken_fifth, broken_first, broken_fourth, broken_second, broken_sixth, broken_third, broken_told, leaf_change, reached_fifth, reached_first, reached_fourth, reached_second, reached_sixth, reached_third, reached_told, reached_unchanged, target_change}
+use Rattle.layer_session.proofs.Equal.{err_ok, some_same}
 
 module _ (L0 : Layers) (r : Retiring) (d0 : Disk) (none : L0.merge ≡ None) (kept_is : L0.retiring ≡ Some r) (copied : IfSome L0.retiring (λ (k : Retiring). IsAllMarked k.marks)) (ready : AreReady L0 d0) where
   marked : IsAllMarked r.marks
@@ -142,7 +143,7 @@ module _ (L0 : Layers) (r : Retiring) (d0 : Disk) (none : L0.merge ≡ None) (ke
 
           module _ (L3 : Layers) (d3 : Disk) where
             stopped_clear : (fault : StoreFault) (o : Option (List Page)) → r.clear ≡ o → Clears o L2 L3 d2 d3 (Err fault) → Finishes L0 L3 d0 d3 (Err fault)
-            stopped_clear fault None is c = absurd (let never : ◌≡◌ {A = Result (Unit {0}) StoreFault} (Err fault) (Ok tt) = c.0 in cc)
+            stopped_clear fault None is c = absurd (let never : ◌≡◌ {A = Result (Unit {0}) StoreFault} (Err fault) (Ok tt) = c.0 in err_ok never)
             stopped_clear fault (Some pages) is c =
                 let t = target_change (UpdatesBy pages) L2 L3 d2 d3 (Err fault) c in
                 stopped L3 d3 fault (broken_third L0 r L2 L3 d0 d2 d3 reached2 t2.now t2.now_there pages is (Err fault) t s2.lower_by) (ap is_some (t.leaf ∙ t2.now_there) ∙ sym of_retiring.session) (t.geometry ∙ s2.geometry)
@@ -246,7 +247,7 @@ module _ (L0 : Layers) (r : Retiring) (d0 : Disk) (none : L0.merge ≡ None) (ke
                   retiring4 = t4.retiring ∙ retiring3
 
                   same_leaf : t2.now ≡ t4.was
-                  same_leaf = some_is t2.now t4.was (sym t3.leaf ∙ t4.was_there)
+                  same_leaf = some_same {x = t2.now} {y = t4.was} (sym t3.leaf ∙ t4.was_there)
 
                   s4 : Stays L0 L4 d0 d4
                   s4 = stays_leaf L0 L3 d0 d3 t3.stays L4 d4 (UpdatesBy r.retire) (Ok tt) t4 t4.changed.parts

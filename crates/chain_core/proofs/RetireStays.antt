@@ -27,6 +27,7 @@ use Rattle.chain_core.proofs.Replaced.{AreParts, apart_at, both_at, leaf_parts_t
 use Rattle.chain_core.proofs.Retires.{LeafChange, TargetChange, leaf_parts}
 use Rattle.chain_core.proofs.Standing.{ready_on}
 use Rattle.chain_core.proofs.Turning.{all_but_one, alike_same, commit_ties, retires_alike, retiring_alike, top_beside, turn_kept}
+use Rattle.layer_session.proofs.Equal.{none_some, some_none, some_same}
 
 -- ---- what a change of a file leaves
 
@@ -60,9 +61,9 @@ stays_first L0 d0 ready = record { geometry = refl; merge = refl; retiring = ref
 
 number_by : (o p : Option Layer) → option_map (λ (l : Layer). l.tables.parts) o ≡ option_map (λ (l : Layer). l.tables.parts) p → number_of_leaf o ≡ number_of_leaf p
 number_by None None same = refl
-number_by None (Some y) same = absurd (let never : ◌≡◌ {A = Option TableParts} None (Some y.tables.parts) = same in cc)
-number_by (Some x) None same = absurd (let never : ◌≡◌ {A = Option TableParts} (Some x.tables.parts) None = same in cc)
-number_by (Some x) (Some y) same = let is : x.tables.parts ≡ y.tables.parts = cc in ap (λ (p : TableParts). p.file) is
+number_by None (Some y) same = absurd (let never : ◌≡◌ {A = Option TableParts} None (Some y.tables.parts) = same in none_some never)
+number_by (Some x) None same = absurd (let never : ◌≡◌ {A = Option TableParts} (Some x.tables.parts) None = same in some_none never)
+number_by (Some x) (Some y) same = let is : x.tables.parts ≡ y.tables.parts = some_same same in ap (λ (p : TableParts). p.file) is
 
 module _ (L0 L : Layers) (d0 d : Disk) (s : Stays L0 L d0 d) where
   pub stays_number : leaf_number L ≡ leaf_number L0

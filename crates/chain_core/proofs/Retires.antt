@@ -33,6 +33,7 @@ use Rattle.chain_core.proofs.Steps.{renames_alike}
 use Rattle.chain_core.proofs.Succeeding.{CanSucceed, IsLeft, Stands, chain_on, end_left, end_moves, gone_left, gone_moves, named_left, named_moves, start_moves, start_stands, succeeded, target_moves, target_stands, top_moves, top_stands}
 use Rattle.chain_core.proofs.Finishes.{joined}
 use Rattle.store_model.proofs.Told.{both_and, both_join, both_from}
+use Rattle.layer_session.proofs.Equal.{rest_same, some_same}
 
 -- ---- a change of the leaf, and of the first file below it
 
@@ -80,11 +81,8 @@ module _ (change : Layer → Layer → Disk → Disk → Result (Unit {0}) Store
 
 -- ---- what a state and its layers have
 
-pub some_is : {X : Type 0} (a b : X) → ◌≡◌ {A = Option X} (Some a) (Some b) → a ≡ b
-some_is a b is = cc
-
 first_is : (a b : Layer) (xs ys : List FileLayer) → ◌≡◌ {A = List FileLayer} (Session a ∷ xs) (Session b ∷ ys) → (a ≡ b) × (xs ≡ ys)
-first_is a b xs ys is = (cc, cc)
+first_is a b xs ys is = (cc, rest_same is)
 
 -- as the layers are, their leaf and the first of the files below it being in sessions
 abbrev pub StandsIn : State → Placed → Placed → List Placed → Layers → Trace → Type 0
@@ -96,13 +94,13 @@ LeftIn v gone target below layers now = (leaf l : Layer) (rest : List FileLayer)
 stands_in : (v : State) (top target : Placed) (below : List Placed) (layers : Layers) (now : Trace) (a b : Layer) (xs : List FileLayer) → layers.leaf ≡ Some a → layers.below.items ≡ Session b ∷ xs → Stands v top target below a b xs now → StandsIn v top target below layers now
 stands_in v top target below layers now a b xs is was at leaf l rest leaf_is items =
     let first = first_is b l xs rest (sym was ∙ items) in
-    subst (λ (k : Layer). Stands v top target below k l rest now) (some_is a leaf (sym is ∙ leaf_is))
+    subst (λ (k : Layer). Stands v top target below k l rest now) (some_same {x = a} {y = leaf} (sym is ∙ leaf_is))
     (subst (λ (k : Layer). Stands v top target below a k rest now) first.0 (subst (λ (c : List FileLayer). Stands v top target below a b c now) first.1 at))
 
 left_in : (v : State) (gone target : Placed) (below : List Placed) (layers : Layers) (now : Trace) (a b : Layer) (xs : List FileLayer) → layers.leaf ≡ Some a → layers.below.items ≡ Session b ∷ xs → IsLeft v gone target below a b xs now → LeftIn v gone target below layers now
 left_in v gone target below layers now a b xs is was at leaf l rest leaf_is items =
     let first = first_is b l xs rest (sym was ∙ items) in
-    subst (λ (k : Layer). IsLeft v gone target below k l rest now) (some_is a leaf (sym is ∙ leaf_is))
+    subst (λ (k : Layer). IsLeft v gone target below k l rest now) (some_same {x = a} {y = leaf} (sym is ∙ leaf_is))
     (subst (λ (k : Layer). IsLeft v gone target below a k rest now) first.0 (subst (λ (c : List FileLayer). IsLeft v gone target below a b c now) first.1 at))
 
 -- what the layers' leaf goes by
@@ -255,7 +253,7 @@ module _ (L0 : Layers) (r : Retiring) where
       -- what the pages make of it
       clears : (v : State) (target : Placed) (below : List Placed) → IsFinishing v target below → Renames k.was.tables.parts.bat_len pages (settled target) None
       clears v target below known =
-          let is : k.was.tables.parts ≡ known.lower = some_is k.was.tables.parts known.lower (sym (ap target_parts k.was_there) ∙ same_parts ∙ known.lower_goes_by) in
+          let is : k.was.tables.parts ≡ known.lower = some_same {x = k.was.tables.parts} {y = known.lower} (sym (ap target_parts k.was_there) ∙ same_parts ∙ known.lower_goes_by) in
           renames_alike k.was.tables.parts.bat_len pages target (settled target) None refl refl
           (subst (λ (p : TableParts). Renames p.bat_len pages target None) (sym is) (subst (λ o. IsCleared known.lower.bat_len o target) clear_is known.clears))
 
@@ -310,7 +308,7 @@ module _ (L0 : Layers) (r : Retiring) where
     module _ (v : State) (target after : Placed) (below : List Placed) (y z : Trace) (known : IsFinishing v target below) (named : HasNoName target after) (stands : Stands v (settled v.top) after below k.was l rest y) (over : UpdatesOver k.was r.retire y z) where
       renames : Renames k.was.tables.parts.bat_len r.retire (settled v.top) (Some target.member.name)
       renames =
-          let is : k.was.tables.parts ≡ known.parts = some_is k.was.tables.parts known.parts (sym (ap (option_map (λ (l : Layer). l.tables.parts)) k.was_there) ∙ same_parts ∙ known.goes_by) in
+          let is : k.was.tables.parts ≡ known.parts = some_same {x = k.was.tables.parts} {y = known.parts} (sym (ap (option_map (λ (l : Layer). l.tables.parts)) k.was_there) ∙ same_parts ∙ known.goes_by) in
           renames_alike k.was.tables.parts.bat_len r.retire v.top (settled v.top) (Some target.member.name) refl refl
           (subst (λ (p : TableParts). Renames p.bat_len r.retire v.top (Some target.member.name)) (sym is) known.retires)
 

@@ -29,6 +29,7 @@ use Rattle.chain_core.specs.States.{AreHeld, AreWritten, IsCourse, IsLoose, IsRe
 use Rattle.chain_core.specs.declared.layers.Retiring.{Retiring}
 use Rattle.guest_model.specs.History.{History}
 use Rattle.chain_core.proofs.Steps.{apart, names_behind, numbers_apart}
+use Rattle.layer_session.proofs.Equal.{cons_nil, true_false}
 
 -- ---- one file
 
@@ -139,7 +140,7 @@ none_right (p ∷ a) b none = none_right a b (λ k. (none k).1)
 tight_with : (writes : ℕ → Bool) (above : List Placed) (source target : Placed) (below : List Placed) → writes target.number ≡ true → ((s : ℕ) → NoneLoose s (above ++ source ∷ below))
     → AllByRecursion (IsTight writes) (above ++ (source ∷ target ∷ below))
 tight_with writes [] source target below written none =
-    ((λ w s. (none s).0), ((λ w. absurd (let never : true ≡ false = sym written ∙ w in cc)), all_tight writes below (λ s. (none s).1)))
+    ((λ w s. (none s).0), ((λ w. absurd (let never : true ≡ false = sym written ∙ w in true_false never)), all_tight writes below (λ s. (none s).1)))
 tight_with writes (p ∷ above) source target below written none = ((λ w s. (none s).0), tight_with writes above source target below written (λ s. (none s).1))
 
 pub tight_others : (z : ℕ) (writes dirty : ℕ → Bool) (h : History) (layers : Layers) (merge : Option Underway) (kept : Option Retiring) (top : Placed) (rest : Rest) → IsCourse z writes layers merge top rest → IsRetiring z writes h layers kept top rest
@@ -147,7 +148,7 @@ pub tight_others : (z : ℕ) (writes dirty : ℕ → Bool) (h : History) (layers
 tight_others z writes dirty h layers merge kept top (plain others) course leaving loose = all_tight writes others loose.1
 tight_others z writes dirty h layers merge None top (retiring target below first before) course leaving loose = absurd leaving
 tight_others z writes dirty h layers merge (Some r) top (retiring target below first before) course leaving loose =
-    ((λ w. absurd (let never : true ≡ false = sym leaving.written ∙ w in cc)), all_tight writes below loose.others.1)
+    ((λ w. absurd (let never : true ≡ false = sym leaving.written ∙ w in true_false never)), all_tight writes below loose.others.1)
 tight_others z writes dirty h layers None kept top (merging above source target below m) course leaving loose = absurd course
 tight_others z writes dirty h layers (Some u) kept top (merging above source target below m) course leaving loose = tight_with writes above source target below course.written loose.others.1
 
@@ -169,7 +170,7 @@ all_held v trace pages (Read l ∷ layers) (p ∷ files) once images still have 
 
 no_retired : (trace : Trace) (pages : ℕ → List Page) (retired : List Placed) → retired ≡ [] → AllByRecursion (IsIn (held_files trace pages)) (members_of retired)
 no_retired trace pages [] none = tt
-no_retired trace pages (p ∷ retired) none = absurd (let never : ◌≡◌ {A = List Placed} (p ∷ retired) [] = none in cc)
+no_retired trace pages (p ∷ retired) none = absurd (let never : ◌≡◌ {A = List Placed} (p ∷ retired) [] = none in cons_nil never)
 
 both_in : (trace : Trace) (pages : ℕ → List Page) (a b : List Placed) → AllByRecursion (IsIn (held_files trace pages)) (members_of a) → AllByRecursion (IsIn (held_files trace pages)) (members_of b)
     → AllByRecursion (IsIn (held_files trace pages)) (members_of a ++ members_of b)

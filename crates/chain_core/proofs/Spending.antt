@@ -9,6 +9,7 @@ use Rattle.link_rules.specs.declared.linked.LinkedFile.{LinkedFile}
 use Rattle.merge_plan.specs.Merging.{MergeFiles}
 use Rattle.chain_core.specs.MergeStarting.{AreLow, chain_files, high_at, high_of, leaf_of, spent, spent_inside}
 use Rattle.chain_core.proofs.MergeFound.{files_split, lower_files}
+use Rattle.layer_session.proofs.Equal.{some_none}
 
 pub spent_short : (files : List LinkedFile) (name : List ℕ) → length files < 3 → None ≡ spent_inside files name
 spent_short [] name short = refl
@@ -18,14 +19,14 @@ spent_short (a ∷ b ∷ c ∷ files) name short = absurd (omega arith)
 
 pub both_none : (o p : Option ℕ) → option_or o p ≡ None → (o ≡ None) × (p ≡ None)
 both_none None p h = (refl, h)
-both_none (Some n) p h = absurd (let never : ◌≡◌ {A = Option ℕ} (Some n) None = h in cc)
+both_none (Some n) p h = absurd (let never : ◌≡◌ {A = Option ℕ} (Some n) None = h in some_none never)
 
 pub low_of : (file : LinkedFile) → high_of file ≡ None → file.parts.header.number ≤ 2 ^ 64 - 2 ^ 32
 low_of file h = by_test (nat_le file.parts.header.number (2 ^ 64 - 2 ^ 32)) refl h
   where
     by_test : (b : Bool) → nat_le file.parts.header.number (2 ^ 64 - 2 ^ 32) ≡ b → cond b None (Some file.parts.header.number) ≡ None → file.parts.header.number ≤ 2 ^ 64 - 2 ^ 32
     by_test true is none = leb-true file.parts.header.number (2 ^ 64 - 2 ^ 32) is
-    by_test false is none = absurd (let never : ◌≡◌ {A = Option ℕ} (Some file.parts.header.number) None = none in cc)
+    by_test false is none = absurd (let never : ◌≡◌ {A = Option ℕ} (Some file.parts.header.number) None = none in some_none never)
 
 inside_low : (above : List LinkedFile) (child source target : LinkedFile) (below : List LinkedFile) → spent_inside (above ++ child ∷ source ∷ target ∷ below) source.name ≡ None → high_at child source target source.name ≡ None
 inside_low [] child source target below h = (both_none (high_at child source target source.name) _ h).0

@@ -15,24 +15,25 @@ use Rattle.chain_core.specs.Finished.{FinishCause, Finishes, IsAllCopied, IsAllM
 use Rattle.chain_core.specs.Refusing.{or_else}
 use Rattle.chain_core.specs.Sessions.{Session}
 use Rattle.chain_core.specs.declared.layers.Layers.{Layers}
+use Rattle.layer_session.proofs.Equal.{some_none}
 
 module _ (cause later : Option ChainRefusal) (x : ChainRefusal) where
   pub stopped_first : {T : Type 0} (result : Result T ChainRefusal) (P : Type 0) → cause ≡ Some x → IsErrAnd result (λ e. e ≡ x) → P → IfStopped (or_else cause later) result P
   stopped_first {T = T} (Ok a) P is same p = absurd same
-  stopped_first {T = T} (Err e) P is same p = subst (λ (o : Option ChainRefusal). IfStopped {T = T} (or_else o later) (Err e) P) (sym is) ((let one : ◌≡◌ {A = Result T ChainRefusal} (Err e) (Err x) = cc in one), p)
+  stopped_first {T = T} (Err e) P is same p = subst (λ (o : Option ChainRefusal). IfStopped {T = T} (or_else o later) (Err e) P) (sym is) (ap Err same, p)
 
   pub stopped_second : {T : Type 0} (result : Result T ChainRefusal) (P : Type 0) → cause ≡ None → later ≡ Some x → IsErrAnd result (λ e. e ≡ x) → P → IfStopped (or_else cause later) result P
   stopped_second {T = T} (Ok a) P none is same p = absurd same
   stopped_second {T = T} (Err e) P none is same p =
       subst (λ (o : Option ChainRefusal). IfStopped {T = T} (or_else o later) (Err e) P) (sym none)
-      (subst (λ (o : Option ChainRefusal). IfStopped {T = T} o (Err e) P) (sym is) ((let one : ◌≡◌ {A = Result T ChainRefusal} (Err e) (Err x) = cc in one), p))
+      (subst (λ (o : Option ChainRefusal). IfStopped {T = T} o (Err e) P) (sym is) (ap Err same, p))
 
   -- what is refused isn't what isn't
   pub never_first : cause ≡ Some x → or_else cause later ≡ None → ⊥
-  never_first is fit = (let never : ◌≡◌ {A = Option ChainRefusal} (Some x) None = sym (ap (λ o. or_else o later) is) ∙ fit in cc)
+  never_first is fit = (let never : ◌≡◌ {A = Option ChainRefusal} (Some x) None = sym (ap (λ o. or_else o later) is) ∙ fit in absurd (some_none never))
 
   pub never_second : cause ≡ None → later ≡ Some x → or_else cause later ≡ None → ⊥
-  never_second none is fit = (let never : ◌≡◌ {A = Option ChainRefusal} (Some x) None = sym is ∙ sym (ap (λ o. or_else o later) none) ∙ fit in cc)
+  never_second none is fit = (let never : ◌≡◌ {A = Option ChainRefusal} (Some x) None = sym is ∙ sym (ap (λ o. or_else o later) none) ∙ fit in absurd (some_none never))
 
 -- ---- once the file's layer has answered
 

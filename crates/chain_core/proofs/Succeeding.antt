@@ -35,6 +35,7 @@ use Rattle.chain_core.proofs.LeafTargets.{round}
 use Rattle.chain_core.proofs.Putting.{apart_around}
 use Rattle.chain_core.proofs.Rests.{leaf_survives}
 use Rattle.chain_core.proofs.Steps.{goes_over, names_behind, phase_beside, still_once, still_read}
+use Rattle.layer_session.proofs.Equal.{true_false}
 
 -- ---- what a change of a file leaves
 
@@ -42,7 +43,7 @@ use Rattle.chain_core.proofs.Steps.{goes_over, names_behind, phase_beside, still
 moved : (v : State) (n : ℕ) (P : List ℕ → Type 0) (trace now : Trace) → v.writes n ≡ true → LeavesOthers v trace → EachOpensToPrefix (sector_of v) v.opening v.history (λ s. false) v.leaf v.began trace → IsPhase n P trace now → EachOpensNow v trace now → HasEnded v trace now
 moved v n P trace now written still past phase moments = record {
   moments = moments;
-  still = λ k none. phase_others n P trace now phase k (λ same. let never : true ≡ false = sym written ∙ ap v.writes (sym same) ∙ none in cc) ∙ still k none;
+  still = λ k none. phase_others n P trace now phase k (λ same. let never : true ≡ false = sym written ∙ ap v.writes (sym same) ∙ none in true_false never) ∙ still k none;
   past = past_goes_on.quiet (sector_of v) v.opening v.history (λ s. false) v.leaf v.began trace now past moments;
 }
 
@@ -350,7 +351,7 @@ module _ (v : State) (target top : Placed) (below : List Placed) (geometry : Geo
       leaving = subst (λ o. IsRetiring (sector_of then) then.writes v.history new o top (plain below)) (sym none_now) tt;
       held = subst (λ o. AreHeld o new.below.items now top below) (sym leaf_now) (at.target_held, subst (λ (b : List FileLayer). HaveFiles b now below) (sym items) at.rest_held);
       whole = λ s inside. subst (λ (k : SectorLayer). is_some (option_or (k s) (seen_in below s)) ≡ true) (sym (ap (λ k. k.layer) looks)) (can.whole s (subst (λ (g : Geometry). s < g.sectors) top_alike inside));
-      synced = ((λ none. absurd (let never : true ≡ false = sym top_writes ∙ none in cc)), synced_then v.top.number v now at.still below far.1 can.synced);
+      synced = ((λ none. absurd (let never : true ≡ false = sym top_writes ∙ none in true_false never)), synced_then v.top.number v now at.still below far.1 can.synced);
       written = subst (λ o. IfSome o (λ leaf. (then.writes top.number ≡ true) × AreWritten then.writes new.below.items)) (sym leaf_now)
           (top_writes, subst (AreWritten then.writes) (sym items) (written_then v.top.number v.writes now rest below at.rest_held far.1 can.rest_written));
       still = λ other none. refl;

@@ -36,18 +36,19 @@ use Rattle.chain_core.proofs.Putting.{copied, put_failed, put_refused, serves_ta
 use Rattle.chain_core.proofs.Standing.{same_files}
 use Rattle.chain_core.proofs.Replaced.{both_at, index_at, replaced_low, replaced_own, replaced_ready, written_at}
 use Rattle.chain_core.proofs.Turning.{KeepsTies, KeepsUnlessBroken, piece_ties}
+use Rattle.layer_session.proofs.Equal.{false_true, none_some, some_none, some_same, true_false}
 
 -- ---- the session
 
 marked_some : (stripe : ℕ) (u : Underway) (o p : Option Underway) → o ≡ Some u → MarksIn stripe o p → (made : Underway) × ((p ≡ Some made) × IsMarked (with_mark stripe (marks_of u.marks)) u made)
-marked_some stripe u None p is m = cc
+marked_some stripe u None p is m = absurd (none_some is)
 marked_some stripe u (Some w) None is m = absurd m
-marked_some stripe u (Some w) (Some made) is m = (made, (refl, subst (λ (k : Underway). IsMarked (with_mark stripe (marks_of k.marks)) k made) (let same : w ≡ u = cc in same) m))
+marked_some stripe u (Some w) (Some made) is m = (made, (refl, subst (λ (k : Underway). IsMarked (with_mark stripe (marks_of k.marks)) k made) (some_same is) m))
 
 pub still_none : (stripe : ℕ) (o p : Option Retiring) → o ≡ None → MarksToo stripe o p → p ≡ None
 still_none stripe None None none m = refl
 still_none stripe None (Some w) none m = absurd m
-still_none stripe (Some r) p none m = absurd (let never : ◌≡◌ {A = Option Retiring} (Some r) None = none in cc)
+still_none stripe (Some r) p none m = absurd (let never : ◌≡◌ {A = Option Retiring} (Some r) None = none in some_none never)
 
 module _ (old new : Layers) (u : Underway) (piece : KeptPiece) (before after : Disk) (merge_is : old.merge ≡ Some u) (ready : AreReady old before) (geometry : new.geometry ≡ old.geometry) (leaf_is : new.leaf ≡ old.leaf) where
   abbrev merge : IsMergeOf old.geometry old.leaf old.below.items u
@@ -157,10 +158,10 @@ item_at (y ∷ a) x b = item_at a x b
 
 pub marked_ok : (stripe : ℕ) (old new : Layers) (r : Result (Unit {0}) LayerFault) → is_ok r ≡ true → MarksIn stripe old.merge new.merge → MarksToo stripe old.retiring new.retiring → HasMarked stripe old new r
 marked_ok stripe old new (Ok done) is marks too = (marks, too)
-marked_ok stripe old new (Err fault) is marks too = cc
+marked_ok stripe old new (Err fault) is marks too = absurd (false_true is)
 
 pub marked_err : (stripe : ℕ) (old new : Layers) (r : Result (Unit {0}) LayerFault) → is_ok r ≡ false → new.merge ≡ old.merge → new.retiring ≡ old.retiring → HasMarked stripe old new r
-marked_err stripe old new (Ok done) is same kept = cc
+marked_err stripe old new (Ok done) is same kept = absurd (true_false is)
 marked_err stripe old new (Err fault) is same kept = (same, kept)
 
 module _ (old new : Layers) (u : Underway) (piece : KeptPiece) (before after : Disk) (r : Result (Unit {0}) LayerFault) (merge_is : old.merge ≡ Some u) (ready : AreReady old before) (geometry : new.geometry ≡ old.geometry) (leaf_is : new.leaf ≡ old.leaf)

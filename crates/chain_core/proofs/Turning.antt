@@ -30,6 +30,7 @@ use Rattle.guest_model.specs.declared.call.Call.{Call}
 use Rattle.chain_core.specs.Copying.{MarksToo, Touches}
 use Rattle.chain_core.specs.Sessions.{AtMostOne, CanRelink, CanRetire, IsRetiringOf, child_layer, first_layer, header_at, is_session_at}
 use Rattle.log_write.specs.Writing.{HasNextNumber}
+use Rattle.layer_session.proofs.Equal.{cons_nil, first_same, nil_cons, none_some, rest_same, some_none, some_same}
 
 -- ---- one file
 
@@ -53,10 +54,10 @@ pub record TurnStill (before after : Disk) (l next : FileLayer) : Type 0 where
 
 -- what was told before what is told now
 told_before : (R : Trace → Trace → Type 0) (a b : Option Trace) → WhereBothTold R a b → (now : Trace) → b ≡ Some now → (t : Trace) × ((a ≡ Some t) × R t now)
-told_before R None None r now is = absurd (let never : ◌≡◌ {A = Option Trace} None (Some now) = is in cc)
+told_before R None None r now is = absurd (let never : ◌≡◌ {A = Option Trace} None (Some now) = is in none_some never)
 told_before R None (Some y) r now is = absurd r
 told_before R (Some x) None r now is = absurd r
-told_before R (Some x) (Some y) r now is = let same : y ≡ now = cc in (x, (refl, subst (R x) same r))
+told_before R (Some x) (Some y) r now is = (x, (refl, subst (R x) (some_same is) r))
 
 pub turn_kept : (before after : Disk) (l next : Layer) → next.tables.parts ≡ l.tables.parts → WhereBothTold (KeepsTies l next) before.told after.told → TurnStill before after (Session l) (Session next)
 turn_kept before after l next parts keeps = record {
@@ -156,15 +157,15 @@ files_of g disk (l ∷ layers) t told ready =
 pub all_read : (g : Geometry) (before after : Disk) (was now : List FileLayer) → map table_parts now ≡ map table_parts was → after.told ≡ before.told → AreReadyFiles g before was
     → ((t : Trace) (files : List Placed) → before.told ≡ Some t → HaveFiles was t files → HaveFiles now t files) → AllTurnStill before after was now
 all_read g before after [] [] parts same ready have = tt
-all_read g before after [] (y ∷ ys) parts same ready have = absurd (let never : table_parts y ∷ map table_parts ys ≡ [] = parts in cc)
-all_read g before after (x ∷ xs) [] parts same ready have = absurd (let never : [] ≡ table_parts x ∷ map table_parts xs = parts in cc)
+all_read g before after [] (y ∷ ys) parts same ready have = absurd (let never : table_parts y ∷ map table_parts ys ≡ [] = parts in cons_nil never)
+all_read g before after (x ∷ xs) [] parts same ready have = absurd (let never : [] ≡ table_parts x ∷ map table_parts xs = parts in nil_cons never)
 all_read g before after (x ∷ xs) (y ∷ ys) parts same ready have = (
   record {
     turns = λ pages turns now told.
         let is : before.told ≡ Some now = sym same ∙ told in
         let t = turns now is in
         let rest = files_of g before xs now is ready.1 in
-        let one : table_parts y ≡ table_parts x = (let e : table_parts y ∷ map table_parts ys ≡ table_parts x ∷ map table_parts xs = parts in cc) in
+        let one : table_parts y ≡ table_parts x = first_same parts in
         record {
           file = t.file;
           ties = t.ties;
@@ -173,7 +174,7 @@ all_read g before after (x ∷ xs) (y ∷ ys) parts same ready have = (
           into = turns_alike (table_parts x).bat_len (table_parts y).bat_len pages t.file t.file t.ties t.region (ap (λ (p : TableParts). p.bat_len) one) refl refl t.into;
         };
   },
-  all_read g before after xs ys (let e : table_parts y ∷ map table_parts ys ≡ table_parts x ∷ map table_parts xs = parts in cc) same ready.1
+  all_read g before after xs ys (rest_same parts) same ready.1
       (λ t files told had. let first = files_of g before (x ∷ []) t told (ready.0, tt) in by_first t files told had first.0 first.1),
 )
   where
@@ -260,7 +261,7 @@ pub one_alike : (u : Option Underway) (o p : Option Retiring) → Alike o p → 
 one_alike None o p alike one = tt
 one_alike (Some u) None None alike one = refl
 one_alike (Some u) None (Some w) alike one = absurd alike
-one_alike (Some u) (Some r) p alike one = absurd (let never : ◌≡◌ {A = Option Retiring} (Some r) None = one in cc)
+one_alike (Some u) (Some r) p alike one = absurd (let never : ◌≡◌ {A = Option Retiring} (Some r) None = one in some_none never)
 
 pub retiring_alike : (g : Geometry) (o p : Option Layer) (xs ys : List FileLayer) (m n : Option Retiring) → Alike m n → is_some p ≡ is_some o → (0 < length xs → 0 < length ys) → is_session_at ys 0 ≡ is_session_at xs 0 → header_at ys 0 ≡ header_at xs 0
     → IfSome m (IsRetiringOf g o xs) → IfSome n (IsRetiringOf g p ys)

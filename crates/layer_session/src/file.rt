@@ -15,9 +15,12 @@ ghost use Rattle.layer_session.specs.Keeping.{IsReadable, IsReady};
 ghost use Rattle.layer_session.specs.Begins.{BeginsOver, CanServe, HasBegun, IsOf};
 ghost use Rattle.layer_session.specs.Steps.{StandFrom};
 ghost use Rattle.layer_session.specs.Taking.{IsBroken, KeepsEntries};
+ghost use Rattle.layer_session.specs.Closes.{HasClosed};
+ghost use Rattle.layer_session.specs.ReadOnly.{CanRead};
 ghost use Rattle.layer_session.specs.ByLayers.{AddsHeld, HasWritten, MayCommit, ReadsOn, TellsAllSame};
 
 use crate::planning::{Plan, Step};
+use crate::read_layer::ReadLayer;
 use crate::reading::own_missing;
 use block_alloc::Alloc;
 use log_format::Page;
@@ -41,7 +44,6 @@ pub enum LayerFault {
 }
 
 /// A file in a session: of each sector of the disk its bytes, or that the file doesn't have it.
-#[derive(Drop)]
 pub struct Layer {
     pub(crate) tables: Tables,
     pub(crate) log: Log,
@@ -49,6 +51,19 @@ pub struct Layer {
     pub(crate) leave: bool,
     pub(crate) zeros: Vec<u8>,
     pub(crate) plans: Vec<Plan>,
+}
+
+impl Drop for Layer {
+    fn drop(self) {
+        let Layer {
+            tables: _,
+            log: _,
+            space: _,
+            leave: _,
+            zeros: _,
+            plans: _,
+        } = self;
+    }
 }
 
 // Zeros to be written.
@@ -259,6 +274,39 @@ impl Layer {
         ensures err { IfErr result (FailsToChange self.tables.parts.file (S.disk store.old) (S.disk store.new)) }
     {
         self.commit(store)?;
-        self.log.end(store)
+        let Layer {
+            tables: _,
+            log,
+            space: _,
+            leave: _,
+            zeros: _,
+            plans: _,
+        } = self;
+        log.end(store)
+    }
+
+    /// Ends the session as `end` does, and gives the layer by which the file is read from then on. Takes no memory. After a fault
+    /// the file is to be written no more, so that its log stays named.
+    pub fn close<S: Store>(mut self, store: &mut S) -> Result<ReadLayer, StoreFault>
+        requires ready { IsReady self (S.disk store.old) }
+        requires numbers { self.log.number ≤ 2 ^ 64 - 2 ^ 32 }
+        ensures moments { WhereBothTold (KeepsOver self) (S.disk store.old).told (S.disk store.new).told }
+        ensures closed { IfOk result (λ l. WhereBothTold (HasClosed self l) (S.disk store.old).told (S.disk store.new).told) }
+        ensures can { IfOk result (λ l. CanRead l (S.disk store.new)) }
+        ensures parts { IfOk result (λ l. l.tables.parts ≡ self.tables.parts) }
+        ensures counts { OnOk result (S.disk store.new ≡ record (S.disk store.old) { told = (S.disk store.new).told }) }
+        ensures err { IfErr result (FailsToChange self.tables.parts.file (S.disk store.old) (S.disk store.new)) }
+    {
+        self.commit(store)?;
+        let Layer {
+            tables,
+            log,
+            space: _,
+            leave: _,
+            zeros: _,
+            plans: _,
+        } = self;
+        log.end(store)?;
+        Ok(ReadLayer { tables })
     }
 }

@@ -1,7 +1,6 @@
 //! A file in a session, as the layer that it is in a chain.
 #![tactic(auto)]
 
-mod closing;
 mod file;
 mod file_layer;
 mod geometry;

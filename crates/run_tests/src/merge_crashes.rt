@@ -5,8 +5,8 @@ ghost use Rattle.mem_store.specs.HostTold.{hosted_by};
 ghost use Rattle.store_model.specs.Disk.{WhereTold};
 
 use crate::common::{
-    Case, add, ask_text, bytes_of, empty_host, ids_of, is_told, listed, prepare, run_script, says,
-    script_done, stands,
+    Case, add, ask, ask_text, bytes_of, empty_host, ids_of, is_told, listed, prepare, run_script,
+    says, script_done, stands,
 };
 use mem_file::Pick;
 use mem_store::{MemHost, MemIds, MemStore, Returned};
@@ -83,12 +83,21 @@ fn chain<R: Abort + Threads + Wait>(rt: &R, alloc: Global, of: &Merging) -> MemH
 }
 
 /// The bytes of the chain's files.
-#[derive(Drop)]
 struct ChainBytes {
     base: Vec<u8>,
     /// Nothing where there is no such file.
     middle: Vec<u8>,
     leaf: Vec<u8>,
+}
+
+impl Drop for ChainBytes {
+    fn drop(self) {
+        let ChainBytes {
+            base: _,
+            middle: _,
+            leaf: _,
+        } = self;
+    }
 }
 
 // A copy of the file of this name; nothing where there is none.
@@ -144,7 +153,7 @@ pub fn each_is_told<R: Abort + Threads + Wait>(
         let mut host = chain(rt, alloc, of);
         let mut ids = ids_of(rt, alloc, &DRAWN);
         let told = is_told(rt, alloc, case, &mut host, &mut ids);
-        assert!(rt; told, "{}", case.text);
+        ask(rt, told, case.text);
     }
 }
 
@@ -177,7 +186,7 @@ pub fn each_unfit_is_refused<R: Abort + Threads + Wait>(
             *unfit = [*byte; 16];
         }
         let refused = is_refused(rt, alloc, of, &drawn, text);
-        assert!(rt; refused, "{place} {text}");
+        ask(rt, refused, text);
     }
 }
 
@@ -263,7 +272,8 @@ fn end_merge<R: Abort + Threads + Wait>(
         (Status::Done, ENDED)
     };
     let (met, out) = run_script(rt, alloc, of.line, TO_THE_END, host, ids);
-    assert!(rt; met == status && says(&out, text), "not merged to the end");
+    let ended = met == status && says(&out, text);
+    ask(rt, ended, "not merged to the end");
     held_bytes(rt, alloc, host)
 }
 
@@ -281,7 +291,7 @@ fn mended<R: Abort + Threads + Wait>(
     let mut host = host_of(rt, alloc, &files);
     let after = look_at(rt, alloc, of, &mut host, &mut ids);
     let same = after.merged && after.written == before.written;
-    assert!(rt; same, "another disk behind the merge");
+    ask(rt, same, "another disk behind the merge");
     before
 }
 
@@ -298,12 +308,10 @@ fn session<R: Abort + Threads + Wait>(
     let out = script_done(rt, alloc, of.line, of.script, &mut host, &mut ids);
     ask_text(rt, &out, of.finished);
     let mut past = host.past.take().expect(rt, "no store is kept");
-    assert!(rt; of.opened < past.len(), "no store of the session");
+    ask(rt, of.opened < past.len(), "no store of the session");
     let Returned { store, rest } = past.remove(of.opened);
-    assert!(rt;
-        rest.iter().all(|slot| slot.file.is_none()),
-        "a file is no part of the chain"
-    );
+    let alone = rest.iter().all(|slot| slot.file.is_none());
+    ask(rt, alone, "a file is no part of the chain");
     store
 }
 
@@ -315,7 +323,7 @@ fn crashed<R: Abort>(
     moment: u64,
     pick: Pick,
 ) -> ChainBytes {
-    assert!(rt; moment <= store.order.len() as u64, "no such moment");
+    ask(rt, moment <= store.order.len() as u64, "no such moment");
     let left = store.image(moment, pick).expect(rt, "no memory");
     held_bytes(rt, alloc, &left)
 }
@@ -323,19 +331,17 @@ fn crashed<R: Abort>(
 // Asks that what was shown at a moment is still so, that the first write is there once the flush is done, and each once the merge is.
 fn goes_on<R: Abort>(rt: &R, of: &Merging, before: Shown, now: Shown, flushed: bool) {
     let lost = now.written < before.written || (before.merged && !now.merged);
-    assert!(rt; !lost, "lost again");
+    ask(rt, !lost, "lost again");
     let lost = (flushed && now.written < 512) || (now.merged && now.written != of.all());
-    assert!(rt; !lost, "a flushed write is lost");
+    ask(rt, !lost, "a flushed write is lost");
 }
 
 // The files of a new chain, which is whole and can be merged.
 fn new_files<R: Abort + Threads + Wait>(rt: &R, alloc: Global, of: &Merging) -> ChainBytes {
     let host = chain(rt, alloc, of);
     let files = held_bytes(rt, alloc, &host);
-    assert!(rt;
-        mended(rt, alloc, of, &files) == BEGUN,
-        "another chain before the merge"
-    );
+    let begun = mended(rt, alloc, of, &files) == BEGUN;
+    ask(rt, begun, "another chain before the merge");
     files
 }
 
@@ -385,14 +391,12 @@ fn each_crash<R: Abort + Threads + Wait>(
 pub fn each_pick<R: Abort + Threads + Wait>(rt: &R, alloc: Global, of: &Merging, picks: &[Pick]) {
     let files = new_files(rt, alloc, of);
     let store = session(rt, alloc, of, &files);
-    assert!(rt; store.order.len() >= 40, "too few moments");
+    ask(rt, store.order.len() >= 40, "too few moments");
     let flushed = moment_of_copy(rt, alloc, &store, files.base.len());
     for pick in picks {
         let (shown, logged) = each_crash(rt, alloc, of, &store, flushed, *pick);
-        assert!(rt;
-            shown.merged && shown.written == of.all() && logged,
-            "another end"
-        );
+        let ended = shown.merged && shown.written == of.all() && logged;
+        ask(rt, ended, "another end");
     }
 }
 
@@ -417,10 +421,11 @@ fn is_done<R: Abort + Threads + Wait>(
     };
     let flushed = stands(&out.bytes, 0, of.flushed.as_bytes());
     let finished = stands(&out.bytes, 0, of.finished.as_bytes());
-    assert!(rt; !flushed || now.written >= 512, "a flushed write is lost");
-    assert!(rt; !finished || now.merged, "a finished merge is lost");
+    let kept = !flushed || now.written >= 512;
+    ask(rt, kept, "a flushed write is lost");
+    ask(rt, !finished || now.merged, "a finished merge is lost");
     let done = status == Status::Done && says(&out, of.finished);
-    assert!(rt; done || status == Status::Fault, "another status");
+    ask(rt, done || status == Status::Fault, "another status");
     done
 }
 
@@ -435,7 +440,7 @@ pub fn each_failing_call<R: Abort + Threads + Wait>(
     for pair in 0..500u64 {
         let call = pair.saturating_mul(2).saturating_add(first);
         if is_done(rt, alloc, of, &files, call) {
-            assert!(rt; pair > 40, "too few calls");
+            ask(rt, pair > 40, "too few calls");
             return;
         }
     }

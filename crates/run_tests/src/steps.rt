@@ -5,8 +5,8 @@ ghost use Rattle.mem_store.specs.HostTold.{hosted_by};
 ghost use Rattle.store_model.specs.Disk.{WhereTold};
 
 use crate::common::{
-    Case, PLAIN, add_text, bytes_of, each_ends, empty_host, host_with, ids_of, line_of, listed,
-    owned, run_script, says, script_done,
+    Case, PLAIN, add_text, ask, ask_at, bytes_of, each_ends, empty_host, host_with, ids_of,
+    line_of, listed, owned, run_script, says, script_done,
 };
 use crate::stories::{Step, play};
 use mem_file::Pick;
@@ -235,7 +235,7 @@ fn crashed<R: Abort + Threads + Wait>(
         pick,
     });
     let (status, _out) = run_script(rt, alloc, "steps d.vhdx", FLUSHED, &mut host, &mut ids);
-    assert!(rt; status == Status::Done, "not done");
+    ask(rt, status == Status::Done, "not done");
     let left = host.take_crashed()?;
     let bytes = bytes_of(&left, "d.vhdx").expect(rt, "no file");
     let mut again = host_with(rt, alloc, "d.vhdx", bytes);
@@ -249,10 +249,10 @@ fn each_crash<R: Abort + Threads + Wait>(rt: &R, alloc: Global, pick: Pick) -> (
     let mut torn = false;
     for moment in 0..1000 {
         let Some(now) = crashed(rt, alloc, moment, pick) else {
-            assert!(rt; moment > 10, "too few moments");
+            ask(rt, moment > 10, "too few moments");
             return (shown, torn);
         };
-        assert!(rt; now[0] != 0 || now[1] == 0, "the second write alone");
+        ask(rt, now[0] != 0 || now[1] == 0, "the second write alone");
         torn |= now[1] == TORN;
         shown = now;
     }
@@ -263,7 +263,7 @@ fn each_crash<R: Abort + Threads + Wait>(rt: &R, alloc: Global, pick: Pick) -> (
 fn crashes_of_a_session(rt: HostRuntime) {
     for pick in [Pick::Nothing, Pick::Everything, Pick::EverySecond] {
         let left = each_crash(&rt, rt.alloc(), pick);
-        assert!(rt; left == ([0xAA, 0xBB], false), "{pick:?}");
+        ask(&rt, left == ([0xAA, 0xBB], false), "another disk");
     }
 }
 
@@ -272,7 +272,7 @@ fn crashes_of_a_session(rt: HostRuntime) {
 fn torn_writes_of_a_session(rt: HostRuntime) {
     for (front, torn) in [(40, true), (256, true), (6000, false)] {
         let left = each_crash(&rt, rt.alloc(), Pick::Front(front));
-        assert!(rt; left == ([0xAA, 0xBB], torn), "{front}");
+        ask_at(&rt, left == ([0xAA, 0xBB], torn), u64::from(front));
     }
 }
 
@@ -304,7 +304,8 @@ fn ask_unbroken<R: Abort + Threads + Wait>(rt: &R, alloc: Global, host: &MemHost
     let mut again = host_with(rt, alloc, "d.vhdx", bytes);
     let mut ids = ids_of(rt, alloc, &[[7; 16], [8; 16], [9; 16]]);
     let (status, out) = run_script(rt, alloc, "steps d.vhdx", TO_BREAK, &mut again, &mut ids);
-    assert!(rt; status == Status::Done && says(&out, UNBROKEN), "{call}");
+    let done = status == Status::Done && says(&out, UNBROKEN);
+    ask_at(rt, done, call);
 }
 
 #[test]
@@ -313,13 +314,13 @@ fn failing_calls(rt: HostRuntime) {
     for call in 1..1000 {
         let (host, status, out) = failed(&rt, rt.alloc(), call);
         if status == Status::Done {
-            assert!(rt; call > 20);
+            ask(&rt, call > 20, "too few calls");
             break;
         }
-        assert!(rt; status == Status::Fault, "{call}");
+        ask_at(&rt, status == Status::Fault, call);
         // Where a write or a sync of the flush fails it breaks the session, for all calls behind it.
         broken |= says(&out, BROKEN);
         ask_unbroken(&rt, rt.alloc(), &host, call);
     }
-    assert!(rt; broken);
+    ask(&rt, broken, "never broken");
 }

@@ -6,8 +6,8 @@ ghost use Rattle.mem_store.specs.HostTold.{hosted_by};
 ghost use Rattle.store_model.specs.Disk.{WhereTold};
 
 use crate::common::{
-    Stretch, add, add_named, bytes_of, empty_host, ids_of, line_refused, lines_of, prepare, says,
-    script_done, stands,
+    Stretch, add, add_named, ask_at, bytes_of, empty_host, ids_of, line_refused, lines_of, prepare,
+    says, script_done, stands,
 };
 use crate::files::{
     Entry, Patch, Plan, copy, name_log, patched, place_all, put_entries, put_locator,
@@ -81,11 +81,11 @@ pub fn go_on<R: Abort + Threads + Wait>(
     requires { WhereTold (hosted_by host.old).folder AllIdle }
     ensures { WhereTold (hosted_by host.new).folder AllIdle }
 {
-    let mut number = 0usize;
+    let mut number = 0u64;
     for step in story {
         number = number.saturating_add(1);
         let so = play_step(rt, alloc, step, host, ids);
-        assert!(rt; so, "step {number}");
+        ask_at(rt, so, number);
     }
 }
 

@@ -10,6 +10,7 @@ use Rattle.chain_core.proofs.Accepted.{err_is, fit_asks_none, on_err_any, one_no
 use Rattle.vx_base.proofs.Handed.{not_ok}
 use Rattle.chain_core.proofs.Stopped.{never_first, never_second, not_stopped, stopped_first, stopped_second}
 use Rattle.chain_core.proofs.chain.Chain.accept.Goals as goal
+use Rattle.layer_session.proofs.Equal.{false_true, ok_err}
 
 pub returns-in_err-admit : goal.returns-in_err-admit
 returns-in_err-admit g c =
@@ -101,7 +102,7 @@ returns-in_err-note g c =
       err_noted = on_err_any r _ (n.err_count ∙ ap g.R.Recorder.noted recorder);
       err_told = on_err_any r _ (n.err_told ∙ ap g.R.Recorder.told recorder);
       room = λ fit. err_is r _ same.1;
-      free = λ takes is. (let never = n.free takes in cc);
+      free = λ takes is. false_true (n.free takes);
       healthy = λ fit. f.whole;
     }
 
@@ -131,6 +132,6 @@ returns g c =
       err_noted = tt;
       err_told = tt;
       room = λ fit. tt;
-      free = λ takes is. (let never = is in cc);
+      free = λ takes is. ok_err is;
       healthy = λ fit. f.whole;
     }
