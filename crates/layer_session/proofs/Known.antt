@@ -13,6 +13,7 @@ use Rattle.vhdx_format.specs.Layers.{HasSizes, Shape, chunk_ratio_of, entry_of}
 use Rattle.vhdx_format.proofs.LayerLemmas.{same_chunk}
 use Rattle.vhdx_format.proofs.SizeLemmas.{sector_cases}
 use Rattle.log_format.specs.PendingPages.{has_place}
+use Rattle.log_write.specs.Sessions.{LogState}
 use Rattle.table_pages.specs.Held.{Adds, AreChanged, AreTablesIn, HasTables, IsAsHeld, bit_pages, entry_place, held, held_file, shape_of}
 use Rattle.table_pages.specs.Pages.{page_place}
 use Rattle.table_pages.specs.declared.tables.TableParts.{TableParts}
@@ -223,6 +224,10 @@ same_plans l new only = ap (λ (x : Layer). x.plans) only
 
 pub same_log : (l new : Layer) → new ≡ record l { tables = new.tables } → (new.log.number ≡ l.log.number) × (new.log.header ≡ l.log.header)
 same_log l new only = (ap (λ (x : Layer). x.log.number) only, ap (λ (x : Layer). x.log.header) only)
+
+-- of a log that is as it was but for its file's length
+pub log_long : (old new : LogState) (len : ℕ) → new ≡ record old { len = len } → new ≡ record old { len = new.len }
+log_long old new len is = subst (λ n. new ≡ record old { len = n }) (sym (ap (λ (s : LogState). s.len) is)) is
 
 -- of a disk on which a file was changed
 pub counts_changed : (d e : Disk) (told : Option Trace) → e ≡ record d { told = told } → e ≡ record d { told = e.told }

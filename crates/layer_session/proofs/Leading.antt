@@ -257,7 +257,7 @@ leads_committed l n x y moments has ready parts leave counts =
     kept (Some t) (Some u) h = record { serves = λ file s. looser n u (settled file) file.is_loose (h.serves file s) (λ sector e. refl) }
 
 -- what an answer of no fault tells together
-pub prepared_by : {T A B C D E F : Type 0} {l n : Layer} {x y : Disk} (result : Result T LayerFault) → Leads l n x y result → OnOk result A → OnOk result B → OnOk result C → OnOk result D → OnOk result E
-    → (LeadsTo l n x y → A → B → C → D → E → F) → OnOk result F
-prepared_by (Ok v) leads a b c d e f = f leads a b c d e
-prepared_by (Err fault) leads a b c d e f = tt
+pub prepared_by : {T A B C D E : Type 0} {l n : Layer} {x y : Disk} (result : Result T LayerFault) → Leads l n x y result → OnOk result A → OnOk result B → OnOk result C → OnOk result D
+    → (LeadsTo l n x y → A → B → C → D → E) → OnOk result E
+prepared_by (Ok v) leads a b c d f = f leads a b c d
+prepared_by (Err fault) leads a b c d f = tt

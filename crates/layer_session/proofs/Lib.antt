@@ -17,6 +17,7 @@ pub mod AsHeld
 pub mod Standing
 pub mod Planned
 pub mod BlockRuns
+mod CallSizes
 pub mod Counting
 pub mod Looked
 pub mod Entries

@@ -3,7 +3,7 @@ use Rattle.std.proofs.Common.{◌≡◌, ◌≢◌, ℕ, ◌+◌, ◌-◌, ◌*�
 use Rattle.std.proofs.lemmas.Bool.{and_parts, eqb-true, or_parts}
 use Rattle.std.specs.Prelude.{Err, IfErr, Ok, Result}
 use Rattle.vx_base.specs.Fields.{bytes_at}
-use Rattle.vhdx_format.specs.SectorBitmaps.{bit_of}
+use Rattle.vhdx_format.specs.SectorBitmaps.{bit_of, bit_value}
 use Rattle.store_model.specs.Cause.{RoseAt}
 use Rattle.store_model.specs.Disk.{Disk, WhereBothTold}
 use Rattle.store_model.specs.Plans.{FailsToChange}
@@ -18,18 +18,18 @@ use Rattle.layer_session.specs.declared.file.Layer.{Layer}
 use Rattle.layer_session.specs.declared.file.LayerFault.{LayerFault}
 use Rattle.layer_session.specs.declared.file.LayerFault.TheVariants.{FileFull, Read, Write}
 use Rattle.layer_session.specs.Calls.{Fails, HasKept, HasPut, HoldsRest, KeepsOver, OnBroken, PutsInto, is_among, placed_with, with_bytes}
-use Rattle.layer_session.specs.Keeping.{IsReadable, Serves}
-use Rattle.layer_session.specs.Masked.{HasPutNamed, HoldsUnnamed, IsBrokenNamed, IsDoneNamed, PutsNamed, is_masked, loose_or, with_masked}
+use Rattle.layer_session.specs.Keeping.{IsReadable, IsReady, Serves}
+use Rattle.layer_session.specs.Masked.{HasPutNamed, HoldsUnnamed, IsBrokenNamed, IsDoneNamed, PutsNamed, all_or_none, is_masked, loose_or, with_masked}
 use Rattle.layer_session.specs.Steps.{Begins}
 use Rattle.layer_session.specs.Taking.{IsBroken, IsDone}
 use Rattle.layer_session.proofs.Alike.{not_true}
 use Rattle.layer_session.proofs.Beside.{among}
 use Rattle.layer_session.proofs.Ending.{phase_weaken, phases_join}
-use Rattle.layer_session.proofs.Joining.{among_split, or_none, same_file, shows_looser, fails_from, or_assoc}
+use Rattle.layer_session.proofs.Joining.{among_split, or_none, put_none, same_file, shows_looser, fails_from, or_assoc}
 use Rattle.layer_session.proofs.Parting.{none_among}
 use Rattle.layer_session.proofs.Payload.{within}
 use Rattle.layer_session.proofs.Told.{both_and, both_map, both_self, both_then}
-use Rattle.layer_session.proofs.Zeroing.{bytes_join, bytes_off}
+use Rattle.layer_session.proofs.Zeroing.{bytes_join, bytes_nobody, bytes_off, nobody as nobody_among}
 
 -- ---- which sectors a mask names
 
@@ -63,6 +63,11 @@ masked_none first len at mask clear s = by_name (is_among first len s) (λ h. le
     by_name true f = f refl
     by_name false f = refl
 
+-- where all bits are alike
+pub masked_alike : (first len at : ℕ) (mask : List ℕ) (set : Bool) → ((i : ℕ) → at ≤ i → i < at + len → bit_of mask i ≡ bit_value set) → (s : ℕ) → is_masked first len at mask s ≡ is_among first (all_or_none set len) s
+masked_alike first len at mask true same s = masked_all first len at mask same s
+masked_alike first len at mask false same s = masked_none first len at mask same s ∙ sym (nobody_among first 0 s refl)
+
 -- none of no sectors
 pub masked_nobody : (first count at : ℕ) (mask : List ℕ) → count ≡ 0 → (s : ℕ) → is_masked first count at mask s ≡ false
 masked_nobody first count at mask none s = masked_none first count at mask (λ i from to. absurd (omega (arith, from, to, none))) s
@@ -80,6 +85,10 @@ masked_as z first count at mask bytes layer s = by_name (is_among first count s)
 masked_among : (first count at : ℕ) (mask : List ℕ) (s : ℕ) → is_masked first count at mask s ≡ true → is_among first count s ≡ true
 masked_among first count at mask s h = (and_parts (is_among first count s) (bit_of mask (at + (s - first)) == 1) h).0
 
+-- layers that have the same sectors
+as_layer : (a b : chain.Layer) → ((s : ℕ) → a s ≡ b s) → a ≡ b
+as_layer a b h = λ i s. h s i
+
 -- a sector isn't among the first ones and the rest
 apart : (first len count s : ℕ) → is_among first len s ≡ true → is_among (first + len) (count - len) s ≡ false
 apart first len count s h = not_true _ (λ k. let v = within first len s h in let w = within (first + len) (count - len) s k in let to = v.1 in let from = w.0 in omega (arith, to, from))
@@ -89,7 +98,7 @@ module _ (z first len count at : ℕ) (fits : len ≤ count) (mask bytes front b
   joined = bytes_join z first len count fits bytes front back whole front_is back_is layer s
 
   -- the first so many are put, and of the rest those that are named
-  pub masked_join : ((i : ℕ) → at ≤ i → i < at + len → bit_of mask i ≡ 1) → with_masked z (first + len) (count - len) (at + len) mask back (with_bytes z first len front layer) s ≡ with_masked z first count at mask bytes layer s
+  masked_join : ((i : ℕ) → at ≤ i → i < at + len → bit_of mask i ≡ 1) → with_masked z (first + len) (count - len) (at + len) mask back (with_bytes z first len front layer) s ≡ with_masked z first count at mask bytes layer s
   masked_join set =
       masked_as z (first + len) (count - len) (at + len) mask back (with_bytes z first len front layer) s
       ∙ by_tests (is_masked (first + len) (count - len) (at + len) mask s) (is_among first len s) refl
@@ -103,7 +112,7 @@ module _ (z first len count at : ℕ) (fits : len ≤ count) (mask bytes front b
       by_tests false false e = bytes_off z first len front layer s e
 
   -- of the first so many none is named
-  pub masked_skip : ((i : ℕ) → at ≤ i → i < at + len → bit_of mask i ≡ 0) → with_masked z (first + len) (count - len) (at + len) mask back layer s ≡ with_masked z first count at mask bytes layer s
+  masked_skip : ((i : ℕ) → at ≤ i → i < at + len → bit_of mask i ≡ 0) → with_masked z (first + len) (count - len) (at + len) mask back layer s ≡ with_masked z first count at mask bytes layer s
   masked_skip clear =
       masked_as z (first + len) (count - len) (at + len) mask back layer s
       ∙ by_test (is_masked (first + len) (count - len) (at + len) mask s) (masked_among (first + len) (count - len) (at + len) mask s)
@@ -119,6 +128,12 @@ module _ (z first len count at : ℕ) (fits : len ≤ count) (mask bytes front b
       by_test true f = any (f refl) ∙ joined
       by_test false f = refl
 
+  -- of the first so many all are put or none, as they are named
+  pub masked_next : (set : Bool) → ((i : ℕ) → at ≤ i → i < at + len → bit_of mask i ≡ bit_value set)
+      → with_masked z (first + len) (count - len) (at + len) mask back (with_bytes z first (all_or_none set len) front layer) s ≡ with_masked z first count at mask bytes layer s
+  masked_next true same = masked_join same
+  masked_next false same = ap (λ (kept : chain.Layer). with_masked z (first + len) (count - len) (at + len) mask back kept s) (as_layer (with_bytes z first 0 front layer) layer (λ r. bytes_off z first 0 front layer r (nobody_among first 0 r refl))) ∙ masked_skip same
+
 -- no sector is named
 pub masked_kept : (z first count at : ℕ) (mask bytes : List ℕ) (layer : chain.Layer) (s : ℕ) → count ≡ 0 → with_masked z first count at mask bytes layer s ≡ layer s
 masked_kept z first count at mask bytes layer s none = let e = masked_nobody first count at mask none s in masked_as z first count at mask bytes layer s ∙ (let k : (if is_masked first count at mask s then with_bytes z first count bytes layer s else layer s) ≡ layer s = rw e refl in k)
@@ -133,10 +148,6 @@ range_put l new first count f a b h = both_map (HasPut l new first count f) (Has
 
 pub range_rest : (l new : Layer) (first count : ℕ) (a b : Option Trace) → WhereBothTold (HoldsRest l new first count) a b → WhereBothTold (HoldsUnnamed l new (is_among first count)) a b
 range_rest l new first count a b h = both_map (HoldsRest l new first count) (HoldsUnnamed l new (is_among first count)) a b h (λ t u x y k. record { holds = k.holds })
-
--- equal tests
-pub as_one : (n m : ℕ → Bool) → ((s : ℕ) → n s ≡ m s) → n ≡ m
-as_one n m h = λ i s. h s i
 
 -- ---- moments
 
@@ -210,12 +221,15 @@ nothing_named l n h none same x = both_self (HasPutNamed l l n h) x (λ t told. 
 
 -- ---- the steps of a call
 
--- a range was put, and then the named ones of the rest
-module _ (l mid : Layer) (first len count at : ℕ) (fits : len ≤ count) (mask bytes front back : List ℕ) (set : (i : ℕ) → at ≤ i → i < at + len → bit_of mask i ≡ 1)
+-- all of a range were put or none, as they are named, and then the named ones of the rest
+module _ (l mid : Layer) (first len count at : ℕ) (fits : len ≤ count) (mask bytes front back : List ℕ) (set : Bool) (same : (i : ℕ) → at ≤ i → i < at + len → bit_of mask i ≡ bit_value set)
     (whole : length bytes ≡ l.tables.parts.sector * count) (front_is : front ≡ take (l.tables.parts.sector * len) bytes) (back_is : back ≡ drop (l.tables.parts.sector * len) bytes)
-    (old behind : Disk) (one : IsDone l mid first len (with_bytes l.tables.parts.sector first len front) old behind) where
+    (old behind : Disk) (one : IsDone l mid first (all_or_none set len) (with_bytes l.tables.parts.sector first (all_or_none set len) front) old behind) where
   abbrev z : ℕ
   z = l.tables.parts.sector
+
+  abbrev n : ℕ
+  n = all_or_none set len
 
   abbrev rest : ℕ → Bool
   rest = is_masked (first + len) (count - len) (at + len) mask
@@ -223,22 +237,22 @@ module _ (l mid : Layer) (first len count at : ℕ) (fits : len ≤ count) (mask
   abbrev all : ℕ → Bool
   all = is_masked first count at mask
 
-  both : (s : ℕ) → all s ≡ (is_among first len s || rest s)
-  both s = masked_split first len count at mask s fits ∙ ap (λ x. x || rest s) (masked_all first len at mask set s)
+  both : (s : ℕ) → all s ≡ (is_among first n s || rest s)
+  both s = masked_split first len count at mask s fits ∙ ap (λ x. x || rest s) (masked_alike first len at mask set same s)
 
-  agree : (layer : chain.Layer) (s : ℕ) → is_among first len s ≡ false → with_bytes z first len front layer s ≡ layer s
-  agree layer s off = bytes_off z first len front layer s off
+  agree : (layer : chain.Layer) (s : ℕ) → is_among first n s ≡ false → with_bytes z first n front layer s ≡ layer s
+  agree layer s off = bytes_off z first n front layer s off
 
-  put_one : WhereBothTold (HasPutNamed l mid (is_among first len) (with_bytes z first len front)) old.told behind.told
-  put_one = range_put l mid first len (with_bytes z first len front) old.told behind.told one.put
+  put_one : WhereBothTold (HasPutNamed l mid (is_among first n) (with_bytes z first n front)) old.told behind.told
+  put_one = range_put l mid first n (with_bytes z first n front) old.told behind.told one.put
 
-  pub spots_moments : (new : Disk) → WhereBothTold (PutsInto l first len) old.told behind.told → WhereBothTold (PutsNamed mid rest) behind.told new.told → WhereBothTold (PutsNamed l all) old.told new.told
-  spots_moments new puts more = named_then l mid (is_among first len) rest all both (with_bytes z first len front) agree old.told behind.told new.told put_one (range_puts l first len old.told behind.told puts) more
+  pub spots_moments : (new : Disk) → WhereBothTold (PutsInto l first n) old.told behind.told → WhereBothTold (PutsNamed mid rest) behind.told new.told → WhereBothTold (PutsNamed l all) old.told new.told
+  spots_moments new puts more = named_then l mid (is_among first n) rest all both (with_bytes z first n front) agree old.told behind.told new.told put_one (range_puts l first n old.told behind.told puts) more
 
   pub spots_done : (new : Layer) (end : Disk) → IsDoneNamed mid new rest (with_masked mid.tables.parts.sector (first + len) (count - len) (at + len) mask back) behind end → IsDoneNamed l new all (with_masked z first count at mask bytes) old end
   spots_done new end two = record {
-    put = put_then l mid (is_among first len) rest all both (with_bytes z first len front) agree old.told behind.told end.told put_one new (with_masked mid.tables.parts.sector (first + len) (count - len) (at + len) mask back) (with_masked z first count at mask bytes)
-        (λ layer s. ap (λ k. with_masked k (first + len) (count - len) (at + len) mask back (with_bytes z first len front layer) s) (ap (λ (p : TableParts). p.sector) one.parts) ∙ masked_join z first len count at fits mask bytes front back whole front_is back_is layer s set) two.put;
+    put = put_then l mid (is_among first n) rest all both (with_bytes z first n front) agree old.told behind.told end.told put_one new (with_masked mid.tables.parts.sector (first + len) (count - len) (at + len) mask back) (with_masked z first count at mask bytes)
+        (λ layer s. ap (λ k. with_masked k (first + len) (count - len) (at + len) mask back (with_bytes z first n front layer) s) (ap (λ (p : TableParts). p.sector) one.parts) ∙ masked_next z first len count at fits mask bytes front back whole front_is back_is layer s set same) two.put;
     ready = two.ready;
     counts = two.counts ∙ ap (λ (d : Disk). (let x : Disk = record d { told = end.told } in x)) one.counts;
     parts = two.parts ∙ one.parts;
@@ -252,21 +266,21 @@ module _ (l mid : Layer) (first len count at : ℕ) (fits : len ≤ count) (mask
     written = br.written;
     fails = fails_from l.tables.parts.file old behind end fault br.cause br.written one.counts (subst (λ (q : TableParts). Fails q.file behind end fault) one.parts br.fails);
     readable = br.readable;
-    holds = rest_then l mid (is_among first len) rest all both (with_bytes z first len front) agree old.told behind.told end.told put_one left br.holds;
+    holds = rest_then l mid (is_among first n) rest all both (with_bytes z first n front) agree old.told behind.told end.told put_one left br.holds;
     parts = br.parts ∙ one.parts;
     number = br.number ∙ one.number;
     header = br.header ∙ one.header;
   }
 
--- a range fails, of those that are named
-pub range_broken : (l left : Layer) (first len count at : ℕ) (mask : List ℕ) → len ≤ count → ((i : ℕ) → at ≤ i → i < at + len → bit_of mask i ≡ 1) → (old new : Disk) (fault : LayerFault) → IsBroken l left first len old new fault
+-- a range fails, all or none of which are named
+pub range_broken : (l left : Layer) (first len count at : ℕ) (mask : List ℕ) (set : Bool) → len ≤ count → ((i : ℕ) → at ≤ i → i < at + len → bit_of mask i ≡ bit_value set) → (old new : Disk) (fault : LayerFault) → IsBroken l left first (all_or_none set len) old new fault
     → IsBrokenNamed l left (is_masked first count at mask) old new fault
-range_broken l left first len count at mask fits set old new fault b = record {
+range_broken l left first len count at mask set fits same old new fault b = record {
   cause = b.cause;
   written = b.written;
   fails = b.fails;
   readable = b.readable;
-  holds = both_map (HoldsRest l left first len) (HoldsUnnamed l left (is_masked first count at mask)) old.told new.told b.holds (λ t u x y k. record {
+  holds = both_map (HoldsRest l left first (all_or_none set len)) (HoldsUnnamed l left (is_masked first count at mask)) old.told new.told b.holds (λ t u x y k. record {
     holds = λ file serves. let h = k.holds file serves in (h.0, (h.1.0, h.1.1, λ s off. h.1.2 s (outside s off)));
   });
   parts = b.parts;
@@ -274,22 +288,24 @@ range_broken l left first len count at mask fits set old new fault b = record {
   header = b.header;
 }
   where
-    outside : (s : ℕ) → is_masked first count at mask s ≡ false → is_among first len s ≡ false
-    outside s off = (or_parts (is_among first len s) (is_masked (first + len) (count - len) (at + len) mask s) (ap (λ x. x || is_masked (first + len) (count - len) (at + len) mask s) (sym (masked_all first len at mask set s)) ∙ sym (masked_split first len count at mask s fits) ∙ off)).0
+    outside : (s : ℕ) → is_masked first count at mask s ≡ false → is_among first (all_or_none set len) s ≡ false
+    outside s off = (or_parts (is_among first (all_or_none set len) s) (is_masked (first + len) (count - len) (at + len) mask s) (ap (λ x. x || is_masked (first + len) (count - len) (at + len) mask s) (sym (masked_alike first len at mask set same s)) ∙ sym (masked_split first len count at mask s fits) ∙ off)).0
 
-pub range_named : (l : Layer) (first len count at : ℕ) (mask : List ℕ) → len ≤ count → ((i : ℕ) → at ≤ i → i < at + len → bit_of mask i ≡ 1) → (x y : Option Trace) → WhereBothTold (PutsInto l first len) x y → WhereBothTold (PutsNamed l (is_masked first count at mask)) x y
-range_named l first len count at mask fits set x y puts =
-    named_more l (is_masked first count at mask) (is_among first len)
-    (λ s off. (or_parts (is_among first len s) (is_masked (first + len) (count - len) (at + len) mask s) (ap (λ b. b || is_masked (first + len) (count - len) (at + len) mask s) (sym (masked_all first len at mask set s)) ∙ sym (masked_split first len count at mask s fits) ∙ off)).0)
-    x y (range_puts l first len x y puts)
+pub range_named : (l : Layer) (first len count at : ℕ) (mask : List ℕ) (set : Bool) → len ≤ count → ((i : ℕ) → at ≤ i → i < at + len → bit_of mask i ≡ bit_value set) → (x y : Option Trace) → WhereBothTold (PutsInto l first (all_or_none set len)) x y → WhereBothTold (PutsNamed l (is_masked first count at mask)) x y
+range_named l first len count at mask set fits same x y puts =
+    named_more l (is_masked first count at mask) (is_among first (all_or_none set len))
+    (λ s off. (or_parts (is_among first (all_or_none set len) s) (is_masked (first + len) (count - len) (at + len) mask s) (ap (λ b. b || is_masked (first + len) (count - len) (at + len) mask s) (sym (masked_alike first len at mask set same s)) ∙ sym (masked_split first len count at mask s fits) ∙ off)).0)
+    x y (range_puts l first (all_or_none set len) x y puts)
 
--- the first ones aren't named
-pub skip_test : (first len count at : ℕ) (mask : List ℕ) → len ≤ count → ((i : ℕ) → at ≤ i → i < at + len → bit_of mask i ≡ 0) → is_masked (first + len) (count - len) (at + len) mask ≡ is_masked first count at mask
-skip_test first len count at mask fits clear = as_one _ _ (λ s. sym (masked_split first len count at mask s fits ∙ ap (λ x. x || is_masked (first + len) (count - len) (at + len) mask s) (masked_none first len at mask clear s)))
+-- none of a range are named
+pub none_done : (l : Layer) (first count : ℕ) (set : Bool) (bytes : List ℕ) (disk : Disk) → set ≡ false → IsReady l disk → IsDone l l first (all_or_none set count) (with_bytes l.tables.parts.sector first (all_or_none set count) bytes) disk disk
+none_done l first count set bytes disk off ready =
+    let none : all_or_none set count ≡ 0 = ap (λ b. all_or_none b count) off in
+    record { put = put_none l first (all_or_none set count) (with_bytes l.tables.parts.sector first (all_or_none set count) bytes) none (bytes_nobody l.tables.parts.sector first (all_or_none set count) none bytes) disk.told; ready = ready; counts = refl; parts = refl; number = refl; header = refl }
 
-pub skip_layer : (z first len count at : ℕ) (mask bytes back : List ℕ) → len ≤ count → length bytes ≡ z * count → back ≡ drop (z * len) bytes → ((i : ℕ) → at ≤ i → i < at + len → bit_of mask i ≡ 0)
-    → with_masked z (first + len) (count - len) (at + len) mask back ≡ with_masked z first count at mask bytes
-skip_layer z first len count at mask bytes back fits whole back_is clear = λ i layer s. masked_skip z first len count at fits mask bytes (take (z * len) bytes) back whole refl back_is layer s clear i
+-- or all of them
+pub all_named : (set : Bool) (count : ℕ) → set ≡ true → count ≡ all_or_none set count
+all_named set count on = sym (ap (λ b. all_or_none b count) on)
 
 -- ---- the call
 

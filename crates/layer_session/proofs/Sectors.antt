@@ -51,3 +51,7 @@ in_block s sector block sized of_block = by_sector (sector_cases sector sized)
 -- the first of some sectors on a disk is on it
 pub first_below : (first count sectors : ℕ) → 0 < count → first + count ≤ sectors → first < sectors
 first_below first count sectors some on_disk = omega (arith, some, on_disk)
+
+-- and a part of them lies on it too
+pub part_on : (first len count sectors : ℕ) → len ≤ count → first + count ≤ sectors → first + len ≤ sectors
+part_on first len count sectors fits on_disk = omega (arith, fits, on_disk)

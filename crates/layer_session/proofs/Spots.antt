@@ -124,6 +124,10 @@ pages_of t first count a n spot next bitmap marks room low high h = record {
       (subst (λ k. AreChanged (spot.bitmap / 2 ^ 20 * megabyte) (first % 2 ^ 23 / 32768) (bit_pages (first % 2 ^ 23) k) t.pending) (let e : count ≡ first + count - first = omega arith in e) (h.bits (sym marks ∙ m))));
 }
 
+-- so are those of the first of them
+pub pages_less : (t : Tables) (first count n : ℕ) (spot : Spot) → n ≤ count → first % 2 ^ 23 + count ≤ 2 ^ 23 → HasMarkPages t first count spot → HasMarkPages t first n spot
+pages_less t first count n spot fits room h = pages_of t first count first n spot spot refl refl room (omega arith) (omega (arith, fits)) h
+
 -- and pages that are changed stay so
 pub pages_stay : (old new : Tables) (first count : ℕ) (spot : Spot) → ((at : ℕ) → has_place at old.pending ≡ true → has_place at new.pending ≡ true) → HasMarkPages old first count spot → HasMarkPages new first count spot
 pages_stay old new first count spot keeps h = record { bits = λ m k a b. keeps _ (h.bits m k a b) }
@@ -262,6 +266,10 @@ entries_spots l marks old new ready same = both_map (KeepsEntries l l) (KeepsSpo
         };
       };
 })
+
+-- where nothing changes
+pub spots_self : (l : Layer) (marks : Bool) (a : Option Trace) → WhereBothTold (KeepsSpots l l marks) a a
+spots_self l marks a = both_self (KeepsSpots l l marks) a (λ t told. record { spots = λ first n spot m any high is. is })
 
 -- one step behind another
 pub spots_then : (l mid new : Layer) (marks : Bool) (a b c : Option Trace) → mid.tables.parts ≡ l.tables.parts → WhereBothTold (KeepsSpots l mid marks) a b → WhereBothTold (KeepsSpots mid new marks) b c → WhereBothTold (KeepsSpots l new marks) a c

@@ -11,13 +11,14 @@ use Rattle.table_pages.specs.declared.tables.TableParts.{TableParts}
 use Rattle.layer_session.specs.declared.file.Layer.{Layer}
 use Rattle.layer_session.specs.declared.masked.Spot.{Spot}
 use Rattle.layer_session.specs.declared.planning.Plan.{Plan}
-use Rattle.layer_session.specs.declared.planning.Step.TheVariants.{Make, MakePart, Mark, Write}
+use Rattle.layer_session.specs.declared.planning.Step.TheVariants.{Drop, Leave, Make, MakePart, Mark, Write}
 use Rattle.layer_session.specs.Calls.{HasKept}
 use Rattle.layer_session.specs.Keeping.{IsReady, IsRunAt}
 use Rattle.layer_session.specs.Masked.{HasEmpty, IsSpot, StandsInPart}
 use Rattle.layer_session.specs.Planning.{are_marked, is_marking, step_by}
 use Rattle.layer_session.specs.Steps.{IsToDo, StandFrom, held_by}
-use Rattle.layer_session.specs.Taking.{HasMade, IsAbsent, IsTrimming, MayBeMade}
+use Rattle.layer_session.specs.Taking.{HasMade, IsAbsent, IsTrimming, MayBeMade, takes_of}
+use Rattle.layer_session.proofs.Known.{takes_none}
 use Rattle.layer_session.proofs.Readying.{StepSays, make_made, make_may, part_absent, step_says, write_made}
 use Rattle.layer_session.proofs.Running.{never_trimmed, stands_in}
 use Rattle.layer_session.proofs.Told.{both_end, both_map, both_self}
@@ -77,6 +78,12 @@ module _ (l : Layer) (old : Disk) (ready : IsReady l old) (plan : Plan) (first c
 
   pub empty_spot : (new : Layer) (behind : Disk) (place : ℕ) → WhereBothTold (HasEmpty l new first place plan.bitmap) old.told behind.told → WhereTold behind.told (λ t. IsSpot p (held_by new t) first count (record { place = place; bitmap = plan.bitmap; marks = true }))
   empty_spot new behind place made = part_spot new behind place plan.bitmap (both_end (HasEmpty l new first place plan.bitmap) (λ t. StandsInPart p (held_by new t) first place plan.bitmap) old.told behind.told made (λ t u h. h.stands))
+
+-- a step that makes nothing takes no place
+pub takes_nothing : (plan : Plan) → (plan.step ≡ Write) ⊎ IsTrimming plan.step → 0 ≡ takes_of plan
+takes_nothing plan (inl e) = takes_none plan Write e refl
+takes_nothing plan (inr (inl e)) = takes_none plan Drop e refl
+takes_nothing plan (inr (inr e)) = takes_none plan Leave e refl
 
 pub made_kept : (l new : Layer) (first state place : ℕ) (a b : Option Trace) → WhereBothTold (HasMade l new first state place) a b → WhereBothTold (HasKept l new) a b
 made_kept l new first state place a b made = both_map (HasMade l new first state place) (HasKept l new) a b made (λ t u x y h. record { serves = h.serves })

@@ -334,7 +334,7 @@ module _ (l : Layer) (z len : ℕ) (z_is : z ≡ l.tables.parts.sector) (size : 
 
 -- no sector, and the rest of some bytes
 
-nobody : (first count s : ℕ) → count ≡ 0 → is_among first count s ≡ false
+pub nobody : (first count s : ℕ) → count ≡ 0 → is_among first count s ≡ false
 nobody first count s none = not_true _ (λ n. let v = within first count s n in let a = v.0 in let b = v.1 in omega (arith, a, b, none))
 
 pub zeros_nobody : (z first count : ℕ) → count ≡ 0 → (layer : chain.Layer) (s : ℕ) → with_zeros z first count layer s ≡ layer s
@@ -343,8 +343,11 @@ zeros_nobody z first count none layer s = zeros_off z first count layer s (nobod
 pub bytes_nobody : (z first count : ℕ) → count ≡ 0 → (bytes : List ℕ) (layer : chain.Layer) (s : ℕ) → with_bytes z first count bytes layer s ≡ layer s
 bytes_nobody z first count none bytes layer s = bytes_off z first count bytes layer s (nobody first count s none)
 
+parts_of : (z len count : ℕ) → len ≤ count → z * count ≡ z * len + z * (count - len)
+parts_of z len count fits = mul_comm z count ∙ ap (λ k. k * z) (let e : count ≡ len + (count - len) = omega (arith, fits) in e) ∙ add-mul len (count - len) z ∙ (let a = mul_comm len z in let b = mul_comm (count - len) z in omega (arith, a, b))
+
+pub front_whole : (z len count : ℕ) → len ≤ count → (bytes front : List ℕ) → length bytes ≡ z * count → front ≡ take (z * len) bytes → length front ≡ z * len
+front_whole z len count fits bytes front whole is = ap length is ∙ length-take-le (z * len) bytes (let split = parts_of z len count fits in omega (arith, whole, split))
+
 pub back_whole : (z len count : ℕ) → len ≤ count → (bytes back : List ℕ) → length bytes ≡ z * count → back ≡ drop (z * len) bytes → length back ≡ z * (count - len)
-back_whole z len count fits bytes back whole is =
-    let split : z * count ≡ z * len + z * (count - len) =
-    mul_comm z count ∙ ap (λ k. k * z) (let e : count ≡ len + (count - len) = omega (arith, fits) in e) ∙ add-mul len (count - len) z ∙ (let a = mul_comm len z in let b = mul_comm (count - len) z in omega (arith, a, b)) in
-    ap length is ∙ length-drop (z * len) bytes ∙ omega (arith, whole, split)
+back_whole z len count fits bytes back whole is = ap length is ∙ length-drop (z * len) bytes ∙ (let split = parts_of z len count fits in omega (arith, whole, split))

@@ -1,4 +1,5 @@
 pub mod Blocks
+pub mod SectorRanges
 pub mod TablesRead
 pub mod Planning
 pub mod Keeping
@@ -17,5 +18,6 @@ pub mod Identifying
 pub mod Masked
 pub mod Laws
 pub mod ByTables
+pub mod ChunkBitmaps
 pub mod ByLayers
 pub mod ByFiles

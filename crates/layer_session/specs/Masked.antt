@@ -62,6 +62,10 @@ pub record StandsInPart (p : Shape) (file : List ℕ) (first place bitmap : ℕ)
   pub there : bitmap % 8 ≡ 6
   pub bitmap_is : bitmap ≡ table_entry p file (bitmap_entry_of p first)
 
+-- so many sectors, or none of them
+abbrev pub all_or_none : Bool → ℕ → ℕ
+all_or_none is_all count = if is_all then count else 0
+
 -- Sectors of one block, which has a place, stand at this spot; or they are to be marked first.
 pub record IsSpot (p : Shape) (file : List ℕ) (first count : ℕ) (spot : Spot) : Type 0 where
   pub whole : spot.marks ≡ false → IsRunAt p file first count spot.place

@@ -1,6 +1,6 @@
 //! Sectors of one block are put that a mask names.
 
-ghost use Rattle.std.specs.Prelude.{◌≡◌, ◌≢◌, ◌+◌, ◌-◌, ◌*◌, ◌/◌, ◌%◌, ◌^◌, ◌<◌, ◌≤◌, ℕ, true, false, length, IfOk, IfErr, OnOk, Ok};
+ghost use Rattle.std.specs.Prelude.{◌≡◌, ◌≢◌, ◌+◌, ◌-◌, ◌*◌, ◌/◌, ◌^◌, ◌<◌, ◌≤◌, ℕ, true, false, length, IfOk, IfErr, OnOk, Ok};
 ghost use Rattle.vhdx_format.specs.Fields.{megabyte};
 ghost use Rattle.vhdx_format.specs.SectorBitmaps.{bit_of};
 ghost use Rattle.store_model.specs.Disk.{WhereTold, WhereBothTold};
@@ -8,7 +8,8 @@ ghost use Rattle.log_format.specs.PendingPages.{has_place};
 ghost use Rattle.table_pages.specs.Held.{shape_of};
 ghost use Rattle.layer_session.specs.Calls.{Fails, HasKept, KeepsOver, OnBroken, OnRefused, OnRoom, PutsInto};
 ghost use Rattle.layer_session.specs.Keeping.{IsReady};
-ghost use Rattle.layer_session.specs.Masked.{HasEmpty, HasMarkPages, IsBrokenNamed, KeepsSpots, PutsNamed, is_masked};
+ghost use Rattle.layer_session.specs.Masked.{HasEmpty, HasMarkPages, IsBrokenNamed, KeepsSpots, PutsNamed, all_or_none, is_masked};
+ghost use Rattle.layer_session.specs.SectorRanges.{LieInBlock};
 ghost use Rattle.layer_session.specs.Steps.{HasPages, HasRoomFor, IsToDo, has_room, held_by, is_full};
 ghost use Rattle.layer_session.specs.Taking.{HasPagesOfPart, IsAbsent, IsBroken, LeavesRest, takes_of};
 ghost use Rattle.layer_session.specs.ByLayers.{HasPutMasked, HasWritten, HasWrittenMasked, OnFull, ReadsOnUnnamed, StandAtSpot};
@@ -27,6 +28,17 @@ pub struct Spot {
     pub place: u64,
     pub bitmap: u64,
     pub marks: bool,
+}
+
+// The spot of sectors at this place, by the plan for their block.
+fn spot_of(plan: Plan, place: u64, marks: bool) -> Spot
+    ensures { result ≡ record { place = place; bitmap = plan.bitmap; marks = marks } }
+{
+    Spot {
+        place,
+        bitmap: plan.bitmap,
+        marks,
+    }
 }
 
 // Whether the mask names some of so many sectors.
@@ -79,8 +91,7 @@ impl Layer {
     ) -> Result<Spot, LayerFault>
         requires ready { IsReady self.old (S.disk store.old) }
         requires some { 0 < count }
-        requires on_disk { first + count ≤ self.old.tables.parts.sectors }
-        requires run { first * self.old.tables.parts.sector % self.old.tables.parts.block + count * self.old.tables.parts.sector ≤ self.old.tables.parts.block }
+        requires block { LieInBlock self.old.tables.parts first count }
         requires pages { HasPages self.old.tables first count plan }
         requires room { HasRoomFor (self.old.tables.parts.block / megabyte) (takes_of plan) 0 self.old.space }
         requires todo { WhereTold (S.disk store.old).told (λ trace. IsToDo (shape_of self.old.tables.parts) (held_by self.old trace) false first count plan) }
@@ -89,42 +100,23 @@ impl Layer {
         ensures spot { IfOk result (λ spot. StandAtSpot self.old self.new (S.disk store.new) first count spot) }
         ensures pages { IfOk result (HasMarkPages self.new.tables first count) }
         ensures ready { OnOk result (IsReady self.new (S.disk store.new)) }
-        ensures parts { OnOk result (self.new.tables.parts ≡ self.old.tables.parts) }
-        ensures number { OnOk result (self.new.log.number ≡ self.old.log.number) }
-        ensures header { OnOk result (self.new.log.header ≡ self.old.log.header) }
+        ensures leaves { OnOk result (LeavesRest self.old self.new (takes_of plan)) }
         ensures counts { OnOk result (S.disk store.new ≡ record (S.disk store.old) { told = (S.disk store.new).told }) }
         ensures broken { IfErr result (IsBroken self.old self.new 0 0 (S.disk store.old) (S.disk store.new)) }
     {
         let parts = self.tables.parts;
         let place = place_in(plan.word >> 20, offset_in_block(&parts, first));
-        let bitmap = plan.bitmap;
         match plan.step {
-            Step::Mark => Ok(Spot {
-                place,
-                bitmap,
-                marks: true,
-            }),
+            Step::Mark => Ok(spot_of(plan, place, true)),
             Step::Make => {
                 let place = self.make_block(store, first, FULLY_PRESENT)?;
-                Ok(Spot {
-                    place,
-                    bitmap,
-                    marks: false,
-                })
+                Ok(spot_of(plan, place, false))
             }
             Step::MakePart => {
-                let place = self.make_empty(store, bitmap, first)?;
-                Ok(Spot {
-                    place,
-                    bitmap,
-                    marks: true,
-                })
+                let place = self.make_empty(store, plan.bitmap, first)?;
+                Ok(spot_of(plan, place, true))
             }
-            Step::Write | Step::Drop | Step::Leave => Ok(Spot {
-                place,
-                bitmap,
-                marks: false,
-            }),
+            Step::Write | Step::Drop | Step::Leave => Ok(spot_of(plan, place, false)),
         }
     }
 
@@ -140,8 +132,7 @@ impl Layer {
         requires ready { IsReady self.old (S.disk store.old) }
         requires some { 0 < count }
         requires whole { length bytes.now ≡ self.old.tables.parts.sector * count }
-        requires on_disk { first + count ≤ self.old.tables.parts.sectors }
-        requires run { first * self.old.tables.parts.sector % self.old.tables.parts.block + count * self.old.tables.parts.sector ≤ self.old.tables.parts.block }
+        requires block { LieInBlock self.old.tables.parts first count }
         requires spot { StandAtSpot self.old self.old (S.disk store.old) first count spot }
         requires pages { HasMarkPages self.old.tables first count spot }
         ensures moments { WhereBothTold (PutsInto self.old first count) (S.disk store.old).told (S.disk store.new).told }
@@ -157,6 +148,34 @@ impl Layer {
         self.write(store, first, spot.place, bytes)
     }
 
+    // Writes sectors at their spot, marked first if they are to be, if they are named; else none of them.
+    fn put_all_or_none<S: Store>(
+        &mut self,
+        store: &mut S,
+        spot: Spot,
+        first: u64,
+        count: u64,
+        bytes: &[u8],
+        is_named: bool,
+    ) -> Result<(), LayerFault>
+        requires ready { IsReady self.old (S.disk store.old) }
+        requires some { 0 < count }
+        requires whole { length bytes.now ≡ self.old.tables.parts.sector * count }
+        requires block { LieInBlock self.old.tables.parts first count }
+        requires spot { StandAtSpot self.old self.old (S.disk store.old) first count spot }
+        requires pages { HasMarkPages self.old.tables first count spot }
+        ensures moments { WhereBothTold (PutsInto self.old first (all_or_none is_named count)) (S.disk store.old).told (S.disk store.new).told }
+        ensures done { OnOk result (HasWritten self.old self.new first (all_or_none is_named count) bytes.now (S.disk store.old) (S.disk store.new)) }
+        ensures spots { OnOk result (WhereBothTold (KeepsSpots self.old self.new spot.marks) (S.disk store.old).told (S.disk store.new).told) }
+        ensures places { (at : ℕ) → has_place at self.old.tables.pending ≡ true → has_place at self.new.tables.pending ≡ true }
+        ensures broken { IfErr result (IsBroken self.old self.new first (all_or_none is_named count) (S.disk store.old) (S.disk store.new)) }
+    {
+        if !is_named {
+            return Ok(());
+        }
+        self.put_spot(store, spot, first, count, bytes)
+    }
+
     // Writes those of the sectors at a spot that the mask names, by its bits from `at` on.
     fn put_spots<S: Store>(
         &mut self,
@@ -170,8 +189,7 @@ impl Layer {
     ) -> Result<(), LayerFault>
         requires ready { IsReady self.old (S.disk store.old) }
         requires whole { length bytes.now ≡ self.old.tables.parts.sector * count }
-        requires on_disk { first + count ≤ self.old.tables.parts.sectors }
-        requires run { first * self.old.tables.parts.sector % self.old.tables.parts.block + count * self.old.tables.parts.sector ≤ self.old.tables.parts.block }
+        requires block { LieInBlock self.old.tables.parts first count }
         requires mask { at + count ≤ 8 * length mask.now }
         requires ends { at + count < 2 ^ 64 }
         requires spot { 0 < count → StandAtSpot self.old self.old (S.disk store.old) first count spot }
@@ -187,35 +205,15 @@ impl Layer {
         let len = run.count as u64;
         let long = u64::from(self.tables.parts.sector) * len;
         let (these, rest) = bytes.split_at(long as usize);
-        let next = Spot {
-            place: spot.place.saturating_add(long),
-            ..spot
-        };
-        if !run.set {
-            return self.put_spots(
-                store,
-                next,
-                first + len,
-                count - len,
-                rest,
-                mask,
-                at + run.count,
-            );
-        }
-        self.put_spot(store, spot, first, len, these)?;
-        self.put_spots(
-            store,
-            next,
-            first + len,
-            count - len,
-            rest,
-            mask,
-            at + run.count,
-        )
+        self.put_all_or_none(store, spot, first, len, these, run.set)?;
+        let place = spot.place.saturating_add(long);
+        let next = Spot { place, ..spot };
+        let behind = at + run.count;
+        self.put_spots(store, next, first + len, count - len, rest, mask, behind)
     }
 
     /// Writes those of so many sectors from `first` on that the mask names, by its bits from the first one on; they lie in one
-    /// block. The file has them then, and no other sector changes.
+    /// block. The file has them then, and no other sector changes. Where the mask names none, nothing is done.
     pub fn put_masked<S: Store>(
         &mut self,
         store: &mut S,
@@ -226,8 +224,7 @@ impl Layer {
     ) -> Result<(), LayerFault>
         requires ready { IsReady self.old (S.disk store.old) }
         requires whole { length bytes.now ≡ self.old.tables.parts.sector * count }
-        requires on_disk { first + count ≤ self.old.tables.parts.sectors }
-        requires run { first * self.old.tables.parts.sector % self.old.tables.parts.block + count * self.old.tables.parts.sector ≤ self.old.tables.parts.block }
+        requires block { LieInBlock self.old.tables.parts first count }
         requires mask { count ≤ 8 * length mask.now }
         requires numbers { self.old.log.number + 1 ≤ 2 ^ 64 - 2 ^ 32 }
         // At each moment, whatever it answers, in every image without a torn match.
@@ -244,7 +241,6 @@ impl Layer {
         ensures header { self.new.log.header ≡ self.old.log.header }
         ensures counts { OnOk result (S.disk store.new ≡ record (S.disk store.old) { told = (S.disk store.new).told }) }
         ensures err { IfErr result (Fails self.old.tables.parts.file (S.disk store.old) (S.disk store.new)) }
-        // Where the mask names none, nothing is done.
         ensures nothing { ((s : ℕ) → is_masked first count 0 mask.now s ≡ false) → (result ≡ Ok tt) × ((self.new ≡ self.old) × (store.new ≡ store.old)) }
         // Refused for want of room exactly where there is none.
         ensures full { OnFull result (λ next. is_full false first count next self.old (S.disk store.old)) }

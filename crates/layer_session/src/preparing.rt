@@ -3,7 +3,6 @@
 
 ghost use Rattle.std.specs.Prelude.{◌≡◌, ◌⊎◌, ◌+◌, ◌-◌, ◌*◌, ◌/◌, ◌%◌, ◌^◌, ◌<◌, ◌≤◌, ℕ, Bool, true, false, None, length, slice_get, IfOk, IfErr, IfSome, OnOk, Err, if◌then◌else◌};
 ghost use Rattle.vhdx_format.specs.Fields.{megabyte};
-ghost use Rattle.vhdx_format.specs.Layers.{bitmap_entry_of, state_at};
 ghost use Rattle.store_model.specs.Disk.{ReadFailed, WhereBothTold, WhereTold};
 ghost use Rattle.log_format.specs.PendingPages.{has_place};
 ghost use Rattle.block_alloc.specs.Spaces as spaces;
@@ -11,13 +10,15 @@ ghost use Rattle.table_pages.specs.Held.{HasTables, bit_pages, held, shape_of};
 ghost use Rattle.layer_session.specs.Blocks as blocks;
 ghost use Rattle.layer_session.specs.Bringing as spec;
 ghost use Rattle.layer_session.specs.Bringing.{AreBitsOf, AreNamed, Brings, GoesOn, HasBrought, HasEntry, HasMade, InChunk, IsBitsOf, Leads, SetsEntry};
+ghost use Rattle.layer_session.specs.ChunkBitmaps.{HasBitmap, LacksBitmap, LieInChunk};
+ghost use Rattle.layer_session.specs.SectorRanges.{FitInCall};
 ghost use Rattle.layer_session.specs.Calls.{Fails, KeepsOver, OnBroken, OnRefused, OnRoom};
 ghost use Rattle.layer_session.specs.Keeping.{IsReady};
 ghost use Rattle.layer_session.specs.Planning.{AreCounted, EachRun, is_marking};
 ghost use Rattle.layer_session.specs.Prepared.{IsPrepared};
 ghost use Rattle.layer_session.specs.Steps.{Begins, has_room, held_by, is_full};
 ghost use Rattle.layer_session.specs.TablesRead.{AreReadable};
-ghost use Rattle.layer_session.specs.ByTables.{AreBitsAtHand, HaveBits, IsBitmapEntryAtHand, IsLookedBy, NameFar, NameIn, NameNear, WhereHeld, most_brought, most_made};
+ghost use Rattle.layer_session.specs.ByTables.{AreBitsAtHand, HaveBits, IsBitmapEntryAtHand, IsLookedBy, NameFar, NameIn, NameNear, most_brought, most_made};
 ghost use Rattle.layer_session.specs.ByLayers.{HasPlanned, KeepsRoom, OnFull, PlansNameFar, PlansNameNear, ReadsOn, ServesOn, TellsAllSame, TellsSameBut, WantsPlanned};
 
 use crate::file::{Layer, LayerFault};
@@ -201,9 +202,7 @@ fn bring_entries<S: Store>(
 ) -> Result<(), StoreFault>
     requires readable { AreReadable tables.old (S.disk store.old) }
     requires some { 0 < count }
-    requires on_disk { first + count ≤ tables.old.parts.sectors }
-    requires size { tables.old.parts.sector * count ≤ 2 ^ 28 }
-    requires few { blocks.blocks_of (shape_of tables.old.parts) first count ≤ length plans.now }
+    requires fit { FitInCall tables.old.parts (length plans.now) first count }
     requires room { length tables.old.pending + 2 ≤ 120 }
     ensures brought { HasBrought tables.old tables.new (S.disk store.old) }
     ensures few { length tables.new.pending ≤ length tables.old.pending + 2 }
@@ -232,10 +231,8 @@ fn bring_chunk<S: Store>(
     missing: bool,
 ) -> Result<(), StoreFault>
     requires readable { AreReadable tables.old (S.disk store.old) }
-    requires on_disk { first + count ≤ tables.old.parts.sectors }
+    requires fit { FitInCall tables.old.parts (length plans.old) first count }
     requires sector { sector < tables.old.parts.sectors }
-    requires size { tables.old.parts.sector * count ≤ 2 ^ 28 }
-    requires few { blocks.blocks_of (shape_of tables.old.parts) first count ≤ length plans.old }
     requires parent { missing ≡ true → tables.old.parts.parent ≡ true }
     requires there { missing ≡ false → NameIn (sector / 2 ^ 23) tables.old.parts tables.old (S.disk store.old) plans.old first count }
     requires room { length tables.old.pending + spec.most_bit_pages (shape_of tables.old.parts) count ≤ 120 }
@@ -254,15 +251,14 @@ fn bring_chunk<S: Store>(
     if missing {
         return tables.bring_entry(store, bitmap_entry_index(&parts, sector));
     }
-    let chunk = sector / CHUNK;
-    let Some(bits) = bits_of(&parts, plans, 0, first, count, chunk) else {
+    let Some(bits) = bits_of(&parts, plans, 0, first, count, sector / CHUNK) else {
         return Ok(());
     };
     let from = bits.first % CHUNK;
     let pages = pages_of_bits(from, bits.end - bits.first);
     let place = (bits.word >> 20) * MEGABYTE;
     tables.bring_pages(store, place, from / PAGE_BITS, pages)?;
-    name_bitmap(&parts, plans, 0, first, count, chunk, bits.word);
+    name_bitmap(&parts, plans, 0, first, count, sector / CHUNK, bits.word);
     Ok(())
 }
 
@@ -301,9 +297,7 @@ fn bring<S: Store>(
 ) -> Result<(), StoreFault>
     requires readable { AreReadable tables.old (S.disk store.old) }
     requires some { 0 < count }
-    requires on_disk { first + count ≤ tables.old.parts.sectors }
-    requires size { tables.old.parts.sector * count ≤ 2 ^ 28 }
-    requires few { blocks.blocks_of (shape_of tables.old.parts) first count ≤ length plans.old }
+    requires fit { FitInCall tables.old.parts (length plans.old) first count }
     requires near { missing.near ≡ true → tables.old.parts.parent ≡ true }
     requires far { missing.far ≡ true → tables.old.parts.parent ≡ true }
     requires near_there { missing.near ≡ false → NameNear tables.old (S.disk store.old) plans.old first count }
@@ -417,20 +411,13 @@ impl Layer {
     ) -> Result<u64, LayerFault>
         requires ready { IsReady self.old (S.disk store.old) }
         requires sector { sector < self.old.tables.parts.sectors }
-        requires parent { self.old.tables.parts.parent ≡ true }
-        requires room { spaces.has_room 1 self.old.space ≡ true }
-        requires from { sector / 2 ^ 23 * 2 ^ 23 ≤ bits.first }
-        requires some { bits.first < bits.end }
-        requires to { bits.end ≤ sector / 2 ^ 23 * 2 ^ 23 + 2 ^ 23 }
-        requires few { length self.old.tables.pending + 1 + bit_pages (bits.first % 2 ^ 23) (bits.end - bits.first) ≤ 120 }
-        requires at_hand { IsBitmapEntryAtHand self.old.tables.parts sector self.old.tables.pending }
-        requires missing { WhereHeld self.old.tables (S.disk store.old) (λ p file. state_at p file (bitmap_entry_of p sector) ≡ 6 → ⊥) }
+        requires bits { LieInChunk (sector / 2 ^ 23) bits }
+        requires lacks { LacksBitmap self.old (S.disk store.old) sector (bit_pages (bits.first % 2 ^ 23) (bits.end - bits.first)) }
         ensures leads { Leads self.old self.new (S.disk store.old) (S.disk store.new) result }
         ensures refused { OnRefused result ⊥ }
         ensures space { OnOk result (self.new.space ≡ spaces.grown 1 self.old.space) }
         ensures plans { self.new.plans ≡ self.old.plans }
-        ensures number { self.new.log.number ≡ self.old.log.number }
-        ensures header { self.new.log.header ≡ self.old.log.header }
+        ensures log { self.new.log ≡ record (self.old.log) { len = self.new.log.len } }
         ensures keeps { (at : ℕ) → has_place at self.old.tables.pending ≡ true → has_place at self.new.tables.pending ≡ true }
         ensures few { length self.new.tables.pending ≤ length self.old.tables.pending + 1 + bit_pages (bits.first % 2 ^ 23) (bits.end - bits.first) }
         ensures at_hand { IfOk result (λ word. AreBitsAtHand word bits self.new.tables.pending) }
@@ -471,23 +458,16 @@ impl Layer {
         requires sector { sector < self.old.tables.parts.sectors }
         requires few { blocks.blocks_of (shape_of self.old.tables.parts) first count ≤ 257 }
         requires entries { EachRun (shape_of self.old.tables.parts) self.old.plans.items (HasEntry self.old.tables) 0 first count }
-        requires parent { missing ≡ true → self.old.tables.parts.parent ≡ true }
-        requires room { missing ≡ true → spaces.has_room 1 self.old.space ≡ true }
-        requires pages { missing ≡ true → length self.old.tables.pending + 1 + spec.most_bit_pages (shape_of self.old.tables.parts) count ≤ 120 }
-        requires entry { missing ≡ true → IsBitmapEntryAtHand self.old.tables.parts sector self.old.tables.pending }
-        requires lacks { missing ≡ true → WhereHeld self.old.tables (S.disk store.old) (λ p file. state_at p file (bitmap_entry_of p sector) ≡ 6 → ⊥) }
-        requires at_hand { missing ≡ false → HaveBits (sector / 2 ^ 23) (shape_of self.old.tables.parts) self.old.tables self.old.plans.items first count }
-        requires there { missing ≡ false → NameIn (sector / 2 ^ 23) self.old.tables.parts self.old.tables (S.disk store.old) self.old.plans.items first count }
+        requires lacks { missing ≡ true → LacksBitmap self.old (S.disk store.old) sector (spec.most_bit_pages (shape_of self.old.tables.parts) count) }
+        requires bitmap { missing ≡ false → HasBitmap self.old.tables.parts self.old (S.disk store.old) (sector / 2 ^ 23) first count }
         ensures leads { Leads self.old self.new (S.disk store.old) (S.disk store.new) result }
         ensures refused { OnRefused result ⊥ }
-        ensures number { self.new.log.number ≡ self.old.log.number }
-        ensures header { self.new.log.header ≡ self.old.log.header }
+        ensures log { self.new.log ≡ record (self.old.log) { len = self.new.log.len } }
         ensures space { OnOk result ((self.new.space ≡ self.old.space) ⊎ ((missing ≡ true) × (self.new.space ≡ spaces.grown 1 self.old.space))) }
         ensures keeps { (at : ℕ) → has_place at self.old.tables.pending ≡ true → has_place at self.new.tables.pending ≡ true }
         ensures pages { length self.new.tables.pending ≤ length self.old.tables.pending + most_made missing (shape_of self.old.tables.parts) count }
         ensures named { OnOk result (AreNamed (shape_of self.old.tables.parts) (sector / 2 ^ 23) self.old.plans.items self.new.plans.items 0 first count) }
-        ensures at_hand { OnOk result (HaveBits (sector / 2 ^ 23) (shape_of self.old.tables.parts) self.new.tables self.new.plans.items first count) }
-        ensures there { OnOk result (NameIn (sector / 2 ^ 23) self.old.tables.parts self.new.tables (S.disk store.new) self.new.plans.items first count) }
+        ensures bitmap { OnOk result (HasBitmap self.old.tables.parts self.new (S.disk store.new) (sector / 2 ^ 23) first count) }
         ensures says { OnOk result (WhereBothTold (TellsSameBut (sector / 2 ^ 23) self.old self.new) (S.disk store.old).told (S.disk store.new).told) }
     {
         if !missing {
@@ -499,15 +479,8 @@ impl Layer {
             return Ok(());
         };
         let word = self.make_bitmap(store, sector, bits)?;
-        name_bitmap(
-            &parts,
-            self.plans.as_mut_slice(),
-            0,
-            first,
-            count,
-            chunk,
-            word,
-        );
+        let plans = self.plans.as_mut_slice();
+        name_bitmap(&parts, plans, 0, first, count, chunk, word);
         Ok(())
     }
 
@@ -521,9 +494,7 @@ impl Layer {
     ) -> Result<(), LayerFault>
         requires ready { IsReady self.old (S.disk store.old) }
         requires some { 0 < count }
-        requires on_disk { first + count ≤ self.old.tables.parts.sectors }
-        requires size { self.old.tables.parts.sector * count ≤ 2 ^ 28 }
-        requires few { blocks.blocks_of (shape_of self.old.tables.parts) first count ≤ 257 }
+        requires fit { FitInCall self.old.tables.parts 257 first count }
         requires near { missing.near ≡ true → self.old.tables.parts.parent ≡ true }
         requires far { missing.far ≡ true → self.old.tables.parts.parent ≡ true }
         requires near_there { missing.near ≡ false → PlansNameNear self.old self.old (S.disk store.old) first count }
@@ -557,9 +528,7 @@ impl Layer {
     ) -> Result<(), LayerFault>
         requires ready { IsReady self.old (S.disk store.old) }
         requires some { 0 < count }
-        requires on_disk { first + count ≤ self.old.tables.parts.sectors }
-        requires size { self.old.tables.parts.sector * count ≤ 2 ^ 28 }
-        requires few { blocks.blocks_of (shape_of self.old.tables.parts) first count ≤ 257 }
+        requires fit { FitInCall self.old.tables.parts 257 first count }
         requires numbers { self.old.log.number ≤ 2 ^ 64 - 2 ^ 32 }
         requires counted { AreCounted (shape_of self.old.tables.parts) self.old.plans.items 0 first count wanted.now }
         requires planned { HasPlanned self.old (S.disk store.old) first count }

@@ -8,6 +8,7 @@ ghost use Rattle.layer_session.specs.Calls as calls;
 ghost use Rattle.layer_session.specs.Calls.{Fails, HasKept, KeepsOver, OnBroken, OnRefused, OnRoom, PutsInto};
 ghost use Rattle.layer_session.specs.Keeping.{IsReady};
 ghost use Rattle.layer_session.specs.Prepared.{IsPrepared};
+ghost use Rattle.layer_session.specs.SectorRanges.{LieInBlock};
 ghost use Rattle.layer_session.specs.Steps.{HasPages, HasRoomFor, IsToDo, StandFrom, Wants, has_room, held_by, is_full};
 ghost use Rattle.layer_session.specs.Taking.{IsBroken, IsReadied, IsTrimming, KeepsEntries, KeepsOthers, LeavesRest, takes_of};
 ghost use Rattle.layer_session.specs.ByTables.{WhereHeld};
@@ -102,8 +103,7 @@ impl Layer {
     ) -> Result<Option<u64>, LayerFault>
         requires ready { IsReady self.old (S.disk store.old) }
         requires some { 0 < count }
-        requires on_disk { first + count ≤ self.old.tables.parts.sectors }
-        requires run { first * self.old.tables.parts.sector % self.old.tables.parts.block + count * self.old.tables.parts.sector ≤ self.old.tables.parts.block }
+        requires block { LieInBlock self.old.tables.parts first count }
         requires pages { HasPages self.old.tables first count plan }
         requires room { HasRoomFor (self.old.tables.parts.block / megabyte) (takes_of plan) 0 self.old.space }
         requires todo { WhereHeld self.old.tables (S.disk store.old) (λ p file. (trims : Bool) × IsToDo p file trims first count plan) }
@@ -129,14 +129,8 @@ impl Layer {
                 self.mark(plan.bitmap, first, count, true);
                 Ok(Some(place))
             }
-            Step::Make => {
-                let place = self.make_block(store, first, FULLY_PRESENT)?;
-                Ok(Some(place))
-            }
-            Step::MakePart => {
-                let place = self.make_part(store, plan.bitmap, first, count)?;
-                Ok(Some(place))
-            }
+            Step::Make => Ok(Some(self.make_block(store, first, FULLY_PRESENT)?)),
+            Step::MakePart => Ok(Some(self.make_part(store, plan.bitmap, first, count)?)),
         }
     }
 
@@ -152,8 +146,7 @@ impl Layer {
         requires ready { IsReady self.old (S.disk store.old) }
         requires some { 0 < count }
         requires whole { length bytes.now ≡ self.old.tables.parts.sector * count }
-        requires on_disk { first + count ≤ self.old.tables.parts.sectors }
-        requires run { first * self.old.tables.parts.sector % self.old.tables.parts.block + count * self.old.tables.parts.sector ≤ self.old.tables.parts.block }
+        requires block { LieInBlock self.old.tables.parts first count }
         requires pages { HasPages self.old.tables first count plan }
         requires room { HasRoomFor (self.old.tables.parts.block / megabyte) (takes_of plan) 0 self.old.space }
         requires todo { WhereTold (S.disk store.old).told (λ trace. IsToDo (shape_of self.old.tables.parts) (held_by self.old trace) false first count plan) }
@@ -233,8 +226,7 @@ impl Layer {
     ) -> Result<(), LayerFault>
         requires ready { IsReady self.old (S.disk store.old) }
         requires some { 0 < count }
-        requires on_disk { first + count ≤ self.old.tables.parts.sectors }
-        requires run { first * self.old.tables.parts.sector % self.old.tables.parts.block + count * self.old.tables.parts.sector ≤ self.old.tables.parts.block }
+        requires block { LieInBlock self.old.tables.parts first count }
         requires pages { HasPages self.old.tables first count plan }
         requires room { HasRoomFor (self.old.tables.parts.block / megabyte) (takes_of plan) 0 self.old.space }
         requires todo { WhereHeld self.old.tables (S.disk store.old) (λ p file. (trims : Bool) × IsToDo p file trims first count plan) }

@@ -5,7 +5,7 @@ use Rattle.store_model.specs.Disk.{Disk}
 use Rattle.store_model.specs.Trace.{Trace}
 use Rattle.table_pages.specs.Held.{held_file, shape_of}
 use Rattle.table_pages.specs.declared.tables.TableParts.{TableParts}
-use Rattle.layer_session.specs.Blocks.{blocks_of}
+use Rattle.layer_session.specs.SectorRanges.{FitInCall}
 use Rattle.layer_session.specs.ByTables.{most_brought}
 use Rattle.layer_session.specs.Bringing.{HasBrought, most_bit_pages}
 use Rattle.layer_session.specs.TablesRead.{AreReadable}
@@ -92,7 +92,7 @@ returns-clause-far_there g c goes e =
     (sym b.parts_are) (sym (b.held t told)) (c.bring_chunk-2.ensures.there e t (ap (λ (d : Disk). d.told) (c.in_ok-bring_chunk.ensures.stays ∙ c.in_ok-bring_entries.ensures.stays) ∙ told)))
 
 pub overflow_add-last : goal.overflow_add-last
-overflow_add-last g c = end_fits c.args.tables.now.parts c.requires.readable.sizes c.args.first c.args.count c.requires.on_disk
+overflow_add-last g c = end_fits c.args.tables.now.parts c.requires.readable.sizes c.args.first c.args.count c.requires.fit.on_disk
 
 pub overflow_sub-last : goal.overflow_sub-last
 overflow_sub-last g c = some_sum c.args.first c.args.count c.requires.some
@@ -103,14 +103,8 @@ bring_entries-requires-clause-readable g c = c.requires.readable
 pub bring_entries-requires-clause-some : goal.bring_entries-requires-clause-some
 bring_entries-requires-clause-some g c = c.requires.some
 
-pub bring_entries-requires-clause-on_disk : goal.bring_entries-requires-clause-on_disk
-bring_entries-requires-clause-on_disk g c = c.requires.on_disk
-
-pub bring_entries-requires-clause-size : goal.bring_entries-requires-clause-size
-bring_entries-requires-clause-size g c = c.requires.size
-
-pub bring_entries-requires-clause-few : goal.bring_entries-requires-clause-few
-bring_entries-requires-clause-few g c = c.requires.few
+pub bring_entries-requires-clause-fit : goal.bring_entries-requires-clause-fit
+bring_entries-requires-clause-fit g c = c.requires.fit
 
 pub bring_entries-requires-clause-room : goal.bring_entries-requires-clause-room
 bring_entries-requires-clause-room g c = room_entries (length c.args.tables.now.pending) (most_bit_pages (shape_of c.args.tables.now.parts) c.args.count) c.requires.room
@@ -139,17 +133,11 @@ returns-in_err-bring_entries-clause-stays g c = not_ok c.from_residual.result _ 
 pub returns-in_err-bring_entries-clause-err : goal.returns-in_err-bring_entries-clause-err
 returns-in_err-bring_entries-clause-err g c = failed_for c.from_residual.result _ c.from_residual.ensures.1 _ c.in_err-bring_entries.ensures.err
 
-pub bring_chunk-requires-clause-on_disk : goal.bring_chunk-requires-clause-on_disk
-bring_chunk-requires-clause-on_disk g c = of_parts (λ p. c.args.first + c.args.count ≤ p.sectors) _ _ c.bring_entries.ensures.brought.parts_are c.requires.on_disk
+pub bring_chunk-requires-clause-fit : goal.bring_chunk-requires-clause-fit
+bring_chunk-requires-clause-fit g c = of_parts (λ p. FitInCall p (length c.args.plans.now) c.args.first c.args.count) _ _ c.bring_entries.ensures.brought.parts_are c.requires.fit
 
 pub bring_chunk-requires-clause-sector : goal.bring_chunk-requires-clause-sector
-bring_chunk-requires-clause-sector g c = of_parts (λ p. c.args.first < p.sectors) _ _ c.bring_entries.ensures.brought.parts_are (first_below c.args.first c.args.count c.args.tables.now.parts.sectors c.requires.some c.requires.on_disk)
-
-pub bring_chunk-requires-clause-size : goal.bring_chunk-requires-clause-size
-bring_chunk-requires-clause-size g c = of_parts (λ p. p.sector * c.args.count ≤ 2 ^ 28) _ _ c.bring_entries.ensures.brought.parts_are c.requires.size
-
-pub bring_chunk-requires-clause-few : goal.bring_chunk-requires-clause-few
-bring_chunk-requires-clause-few g c = of_parts (λ p. blocks_of (shape_of p) c.args.first c.args.count ≤ length c.args.plans.now) _ _ c.bring_entries.ensures.brought.parts_are c.requires.few
+bring_chunk-requires-clause-sector g c = of_parts (λ p. c.args.first < p.sectors) _ _ c.bring_entries.ensures.brought.parts_are (first_below c.args.first c.args.count c.args.tables.now.parts.sectors c.requires.some c.requires.fit.on_disk)
 
 pub bring_chunk-requires-clause-parent : goal.bring_chunk-requires-clause-parent
 bring_chunk-requires-clause-parent g c e = of_parts (λ p. p.parent ≡ true) _ _ c.bring_entries.ensures.brought.parts_are (c.requires.near e)
@@ -210,20 +198,14 @@ returns-then-last-first-clause-far_there g c goes e = absurd (goes c.if-last-fir
 pub returns-then-last-first-clause-stays : goal.returns-then-last-first-clause-stays
 returns-then-last-first-clause-stays g c = c.in_ok-bring_chunk.ensures.stays ∙ c.in_ok-bring_entries.ensures.stays
 
-pub bring_chunk-requires-2-clause-on_disk : goal.bring_chunk-requires-2-clause-on_disk
-bring_chunk-requires-2-clause-on_disk g c = of_parts (λ p. c.args.first + c.args.count ≤ p.sectors) _ _ (c.bring_chunk.ensures.brought.parts_are ∙ c.bring_entries.ensures.brought.parts_are) c.requires.on_disk
+pub bring_chunk-requires-2-clause-fit : goal.bring_chunk-requires-2-clause-fit
+bring_chunk-requires-2-clause-fit g c =
+    of_parts (λ p. FitInCall p (length c.bring_chunk.new.plans) c.args.first c.args.count) _ _ (c.bring_chunk.ensures.brought.parts_are ∙ c.bring_entries.ensures.brought.parts_are)
+    (subst (λ n. FitInCall c.args.tables.now.parts n c.args.first c.args.count) (sym c.bring_chunk.ensures.len) c.requires.fit)
 
 pub bring_chunk-requires-2-clause-sector : goal.bring_chunk-requires-2-clause-sector
 bring_chunk-requires-2-clause-sector g c =
-    of_parts (λ p. c.args.first + c.args.count - 1 < p.sectors) _ _ (c.bring_chunk.ensures.brought.parts_are ∙ c.bring_entries.ensures.brought.parts_are) (last_on c.args.first c.args.count c.args.tables.now.parts.sectors c.requires.some c.requires.on_disk)
-
-pub bring_chunk-requires-2-clause-size : goal.bring_chunk-requires-2-clause-size
-bring_chunk-requires-2-clause-size g c = of_parts (λ p. p.sector * c.args.count ≤ 2 ^ 28) _ _ (c.bring_chunk.ensures.brought.parts_are ∙ c.bring_entries.ensures.brought.parts_are) c.requires.size
-
-pub bring_chunk-requires-2-clause-few : goal.bring_chunk-requires-2-clause-few
-bring_chunk-requires-2-clause-few g c =
-    of_parts (λ p. blocks_of (shape_of p) c.args.first c.args.count ≤ length c.bring_chunk.new.plans) _ _ (c.bring_chunk.ensures.brought.parts_are ∙ c.bring_entries.ensures.brought.parts_are)
-    (subst (λ n. blocks_of (shape_of c.args.tables.now.parts) c.args.first c.args.count ≤ n) (sym c.bring_chunk.ensures.len) c.requires.few)
+    of_parts (λ p. c.args.first + c.args.count - 1 < p.sectors) _ _ (c.bring_chunk.ensures.brought.parts_are ∙ c.bring_entries.ensures.brought.parts_are) (last_on c.args.first c.args.count c.args.tables.now.parts.sectors c.requires.some c.requires.fit.on_disk)
 
 pub bring_chunk-requires-2-clause-parent : goal.bring_chunk-requires-2-clause-parent
 bring_chunk-requires-2-clause-parent g c e = of_parts (λ p. p.parent ≡ true) _ _ (c.bring_chunk.ensures.brought.parts_are ∙ c.bring_entries.ensures.brought.parts_are) (c.requires.far e)

@@ -163,10 +163,10 @@ pub returns-then-missing-clause-entry : goal.returns-then-missing-clause-entry
 returns-then-missing-clause-entry g c e = entry_at_hand c.bring_entry.result c.args.tables.now.parts _ _ c.args.tables.now.pending c.bring_entry.new.self.pending c.bitmap_entry_index.ensures.index c.bring_entry.ensures.adds
 
 pub bits_of-requires-clause-on_disk : goal.bits_of-requires-clause-on_disk
-bits_of-requires-clause-on_disk g c = c.requires.on_disk
+bits_of-requires-clause-on_disk g c = c.requires.fit.on_disk
 
 pub bits_of-requires-clause-few : goal.bits_of-requires-clause-few
-bits_of-requires-clause-few g c = none_more _ _ c.requires.few
+bits_of-requires-clause-few g c = none_more _ _ c.requires.fit.few
 
 pub returns-in_default-clause-brought : goal.returns-in_default-clause-brought
 returns-in_default-clause-brought g c = brought_none c.args.tables.now (g.S.Store.disk c.args.store.now) c.requires.readable.tables
@@ -205,10 +205,10 @@ pub name_bitmap-requires-clause-sizes : goal.name_bitmap-requires-clause-sizes
 name_bitmap-requires-clause-sizes g c = c.requires.readable.sizes
 
 pub name_bitmap-requires-clause-on_disk : goal.name_bitmap-requires-clause-on_disk
-name_bitmap-requires-clause-on_disk g c = c.requires.on_disk
+name_bitmap-requires-clause-on_disk g c = c.requires.fit.on_disk
 
 pub name_bitmap-requires-clause-few : goal.name_bitmap-requires-clause-few
-name_bitmap-requires-clause-few g c = none_more _ _ c.requires.few
+name_bitmap-requires-clause-few g c = none_more _ _ c.requires.fit.few
 
 pub returns-clause-few : goal.returns-clause-few
 returns-clause-few g c =

@@ -22,7 +22,7 @@ returns-clause-at_hand g c =
     let mid : List Page = c.bring_entry.new.self.pending in
     let one = subst (λ n. Adds (page_place (entry_place parts n)) c.args.tables.now.pending mid) c.entry_index.ensures.index c.in_ok-bring_entry.ensures.adds in
     ok_then c.bring_entry-2.result (λ adds.
-    entries_set parts c.bring_entry-2.new.self (c.bring_entry-2.ensures.parts ∙ c.bring_entry.ensures.parts) c.requires.readable.sizes c.args.plans.now c.args.first c.args.count c.requires.size c.set_entries.ensures.there c.args.tables.now.pending mid one
+    entries_set parts c.bring_entry-2.new.self (c.bring_entry-2.ensures.parts ∙ c.bring_entry.ensures.parts) c.requires.readable.sizes c.args.plans.now c.args.first c.args.count c.requires.fit.size c.set_entries.ensures.there c.args.tables.now.pending mid one
     (subst (λ n. Adds (page_place (entry_place parts n)) mid c.bring_entry-2.new.self.pending) c.entry_index-2.ensures.index (subst (λ (x : TableParts). Adds (page_place (entry_place x c.entry_index-2.result)) mid c.bring_entry-2.new.self.pending) c.bring_entry.ensures.parts adds)))
     c.bring_entry-2.ensures.adds
 
@@ -46,10 +46,10 @@ pub set_entries-requires-clause-sizes : goal.set_entries-requires-clause-sizes
 set_entries-requires-clause-sizes g c = c.requires.readable.sizes
 
 pub set_entries-requires-clause-on_disk : goal.set_entries-requires-clause-on_disk
-set_entries-requires-clause-on_disk g c = c.requires.on_disk
+set_entries-requires-clause-on_disk g c = c.requires.fit.on_disk
 
 pub set_entries-requires-clause-few : goal.set_entries-requires-clause-few
-set_entries-requires-clause-few g c = none_more _ _ c.requires.few
+set_entries-requires-clause-few g c = none_more _ _ c.requires.fit.few
 
 pub returns-then-not-set_entries-clause-brought : goal.returns-then-not-set_entries-clause-brought
 returns-then-not-set_entries-clause-brought g c = brought_none c.args.tables.now (g.S.Store.disk c.args.store.now) c.requires.readable.tables
@@ -61,7 +61,7 @@ pub returns-then-not-set_entries-clause-stays : goal.returns-then-not-set_entrie
 returns-then-not-set_entries-clause-stays g c = refl
 
 pub overflow_add-last : goal.overflow_add-last
-overflow_add-last g c = end_fits c.args.tables.now.parts c.requires.readable.sizes c.args.first c.args.count c.requires.on_disk
+overflow_add-last g c = end_fits c.args.tables.now.parts c.requires.readable.sizes c.args.first c.args.count c.requires.fit.on_disk
 
 pub overflow_sub-last : goal.overflow_sub-last
 overflow_sub-last g c = some_sum c.args.first c.args.count c.requires.some
@@ -73,10 +73,10 @@ pub entry_index-requires-2-clause-parts : goal.entry_index-requires-2-clause-par
 entry_index-requires-2-clause-parts g c = c.requires.readable.sizes
 
 pub entry_index-requires-clause-sector : goal.entry_index-requires-clause-sector
-entry_index-requires-clause-sector g c = first_below c.args.first c.args.count _ c.requires.some c.requires.on_disk
+entry_index-requires-clause-sector g c = first_below c.args.first c.args.count _ c.requires.some c.requires.fit.on_disk
 
 pub entry_index-requires-2-clause-sector : goal.entry_index-requires-2-clause-sector
-entry_index-requires-2-clause-sector g c = last_on c.args.first c.args.count _ c.requires.some c.requires.on_disk
+entry_index-requires-2-clause-sector g c = last_on c.args.first c.args.count _ c.requires.some c.requires.fit.on_disk
 
 pub bring_entry-requires-clause-there : goal.bring_entry-requires-clause-there
 bring_entry-requires-clause-there g c = c.requires.readable.there

@@ -7,6 +7,7 @@ use Rattle.layer_session.specs.Prepared.{IsPrepared}
 use Rattle.layer_session.specs.Taking.{IsDone}
 use Rattle.layer_session.proofs.Frames.{next_prepared, next_small, next_wants, plan_there, run_pages, run_room, run_todo}
 use Rattle.layer_session.proofs.Joining.{keeps_puts, part_outside, put_none, puts_more}
+use Rattle.layer_session.proofs.Sectors.{part_on}
 use Rattle.layer_session.proofs.Told.{if_err, if_err_map, ok_map}
 use Rattle.layer_session.proofs.Zeroing.{back_whole, broken_more, bytes_join, bytes_nobody, bytes_off, join_broken, join_done, join_moments}
 use Rattle.vx_base.proofs.Handed.{err_is}
@@ -24,6 +25,13 @@ pub index-plan-requires : goal.index-plan-requires
 index-plan-requires g t c =
     let there = plan_there c.args.self.now (g.S.Store.disk c.args.store.now) c.requires.ready c.args.k c.args.first c.args.count (omega arith) c.requires.prepared c.requires.on_disk c.run_in_block-len.result c.run_in_block-len.ensures.is (record { step = Leave; word = 0; bitmap = 0 }) in
     omega (arith, there, c.args.self.now.plans.ok.0)
+
+pub put_run-requires-clause-block : goal.put_run-requires-clause-block
+put_run-requires-clause-block g t c =
+    record {
+      on_disk = part_on c.args.first c.run_in_block-len.result c.args.count c.args.self.now.tables.parts.sectors c.run_in_block-len.ensures.most c.requires.on_disk;
+      run = c.run_in_block-len.ensures.inside;
+    }
 
 pub put_run-requires-clause-pages : goal.put_run-requires-clause-pages
 put_run-requires-clause-pages g t c =

@@ -10,6 +10,7 @@ use Rattle.layer_session.specs.Steps.{Wants}
 use Rattle.layer_session.specs.Taking.{IsDone}
 use Rattle.layer_session.proofs.Frames.{next_prepared, next_small, next_wants, plan_there, run_pages, run_room, run_todo}
 use Rattle.layer_session.proofs.Joining.{keeps_puts, part_outside, put_none, puts_more}
+use Rattle.layer_session.proofs.Sectors.{part_on}
 use Rattle.layer_session.proofs.Told.{if_err, if_err_map, ok_map}
 use Rattle.layer_session.proofs.Zeroing.{broken_more, zeros_join, zeros_nobody, zeros_off, join_broken, join_done, join_moments}
 use Rattle.vx_base.proofs.Handed.{err_is}
@@ -27,6 +28,13 @@ pub index-plan-requires : goal.index-plan-requires
 index-plan-requires g t c =
     let there = plan_there c.args.self.now (g.S.Store.disk c.args.store.now) c.requires.ready c.args.k c.args.first c.args.count (omega arith) c.requires.prepared c.requires.on_disk c.run_in_block-len.result c.run_in_block-len.ensures.is (record { step = Leave; word = 0; bitmap = 0 }) in
     omega (arith, there, c.args.self.now.plans.ok.0)
+
+pub zero_block-requires-clause-block : goal.zero_block-requires-clause-block
+zero_block-requires-clause-block g t c =
+    record {
+      on_disk = part_on c.args.first c.run_in_block-len.result c.args.count c.args.self.now.tables.parts.sectors c.run_in_block-len.ensures.most c.requires.on_disk;
+      run = c.run_in_block-len.ensures.inside;
+    }
 
 pub zero_block-requires-clause-pages : goal.zero_block-requires-clause-pages
 zero_block-requires-clause-pages g t c =

@@ -1,6 +1,6 @@
 use Rattle.std.proofs.Common.{◌≡◌, ◌≤◌, ◌∙◌, length, ap, refl, sym, subst, List}
 use Rattle.table_pages.specs.Held.{shape_of}
-use Rattle.layer_session.specs.Blocks.{blocks_of}
+use Rattle.layer_session.specs.SectorRanges.{FitInCall}
 use Rattle.layer_session.specs.Bringing.{most_bit_pages}
 use Rattle.layer_session.proofs.Exits.{ok_not_full}
 use Rattle.layer_session.proofs.Known.{read_not_full, room_brings}
@@ -62,20 +62,14 @@ returns-in-Ok-clause-far_there g c on there =
 pub bring-requires-clause-some : goal.bring-requires-clause-some
 bring-requires-clause-some g c = c.requires.some
 
-pub bring-requires-clause-on_disk : goal.bring-requires-clause-on_disk
-bring-requires-clause-on_disk g c = c.requires.on_disk
-
-pub bring-requires-clause-size : goal.bring-requires-clause-size
-bring-requires-clause-size g c = c.requires.size
+pub bring-requires-clause-fit : goal.bring-requires-clause-fit
+bring-requires-clause-fit g c = subst (λ n. FitInCall c.args.self.now.tables.parts n c.args.first c.args.count) (sym (ap length c.as_mut_slice-plans.ensures.value ∙ c.requires.ready.plans)) c.requires.fit
 
 pub bring-requires-clause-near : goal.bring-requires-clause-near
 bring-requires-clause-near g c = c.requires.near
 
 pub bring-requires-clause-far : goal.bring-requires-clause-far
 bring-requires-clause-far g c = c.requires.far
-
-pub bring-requires-clause-few : goal.bring-requires-clause-few
-bring-requires-clause-few g c = subst (λ n. blocks_of (shape_of c.args.self.now.tables.parts) c.args.first c.args.count ≤ n) (sym (ap length c.as_mut_slice-plans.ensures.value ∙ c.requires.ready.plans)) c.requires.few
 
 pub bring-requires-clause-near_there : goal.bring-requires-clause-near_there
 bring-requires-clause-near_there g c there = subst (λ (plans : List Plan). NameNear c.args.self.now.tables (g.S.Store.disk c.args.store.now) plans c.args.first c.args.count) (sym c.as_mut_slice-plans.ensures.value) (c.requires.near_there there)

@@ -16,7 +16,10 @@ use Rattle.layer_session.specs.Bringing.{Leads}
 use Rattle.vx_base.proofs.Handed.{err_is, not_ok}
 use Rattle.layer_session.proofs.Exits.{le_more, ok_not_full}
 use Rattle.table_pages.specs.Held.{shape_of}
+use Rattle.vhdx_format.specs.Layers.{HasSizes}
 use Rattle.layer_session.specs.Planning.{AreCounted}
+use Rattle.layer_session.specs.SectorRanges.{FitInCall}
+use Rattle.layer_session.proofs.CallSizes.{few_in_call}
 use Rattle.layer_session.proofs.Known.{leads_counts, leads_leave, leads_parts, leads_ready, of_parts, one_less}
 use Rattle.layer_session.proofs.file.Layer.prepare.Goals as goal
 
@@ -138,11 +141,11 @@ returns-then-not-wanted-clause-full g c next e = absurd (ok_not_full _ next e)
 pub put_at_hand-requires-clause-ready : goal.put_at_hand-requires-clause-ready
 put_at_hand-requires-clause-ready g c = c.in_ok-wanted.ensures.leads.ready
 
-pub put_at_hand-requires-clause-on_disk : goal.put_at_hand-requires-clause-on_disk
-put_at_hand-requires-clause-on_disk g c = subst (λ (p : TableParts). c.args.first + c.args.count ≤ p.sectors) (sym c.in_ok-wanted.ensures.leads.parts) c.requires.on_disk
-
-pub put_at_hand-requires-clause-size : goal.put_at_hand-requires-clause-size
-put_at_hand-requires-clause-size g c = subst (λ (p : TableParts). p.sector * c.args.count ≤ 268435456) (sym c.in_ok-wanted.ensures.leads.parts) c.requires.few
+pub put_at_hand-requires-clause-fit : goal.put_at_hand-requires-clause-fit
+put_at_hand-requires-clause-fit g c =
+    let sized : HasSizes (shape_of c.args.self.now.tables.parts) = record { sector = c.requires.ready.readable.sizes.sector; block = c.requires.ready.readable.sizes.block } in
+    of_parts (λ p. FitInCall p 257 c.args.first c.args.count) _ _ c.in_ok-wanted.ensures.leads.parts
+    (record { on_disk = c.requires.on_disk; size = c.requires.few; few = few_in_call (shape_of c.args.self.now.tables.parts) sized c.args.first c.args.count c.requires.few })
 
 pub returns-clause-prepared : goal.returns-clause-prepared
 returns-clause-prepared g c = c.put_at_hand.ensures.prepared

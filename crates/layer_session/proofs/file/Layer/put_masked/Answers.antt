@@ -7,7 +7,10 @@ use Rattle.vhdx_format.specs.Layers.{HasSizes}
 use Rattle.store_model.specs.Disk.{WhereBothTold, WhereTold}
 use Rattle.table_pages.specs.Held.{shape_of}
 use Rattle.table_pages.specs.declared.tables.TableParts.{TableParts}
+use Rattle.log_write.specs.Sessions.{LogState}
 use Rattle.layer_session.specs.Blocks.{run_in_block}
+use Rattle.layer_session.specs.SectorRanges.{LieInBlock}
+use Rattle.layer_session.proofs.Known.{of_parts}
 use Rattle.layer_session.specs.Masked.{HasPutNamed, IsBrokenNamed, IsSpot, is_masked, with_masked}
 use Rattle.layer_session.specs.Steps.{Begins, Wants, held_by}
 use Rattle.layer_session.proofs.Frames.{run_pages, run_room, run_todo}
@@ -62,8 +65,8 @@ ready_spot-requires-clause-pages g c =
     let mid = c.prepare.new.self in
     let ready = c.in_ok-prepare.ensures.ready in
     let some : 0 < c.args.count = let b = one.1.0 in omega (arith, b) in
-    let disk : c.args.first + c.args.count ≤ mid.tables.parts.sectors = subst (λ (p : TableParts). c.args.first + c.args.count ≤ p.sectors) (sym c.prepare.ensures.parts) c.requires.on_disk in
-    let run : c.args.first * mid.tables.parts.sector % mid.tables.parts.block + c.args.count * mid.tables.parts.sector ≤ mid.tables.parts.block = subst (λ (p : TableParts). c.args.first * p.sector % p.block + c.args.count * p.sector ≤ p.block) (sym c.prepare.ensures.parts) c.requires.run in
+    let disk : c.args.first + c.args.count ≤ mid.tables.parts.sectors = subst (λ (p : TableParts). c.args.first + c.args.count ≤ p.sectors) (sym c.prepare.ensures.parts) c.requires.block.on_disk in
+    let run : c.args.first * mid.tables.parts.sector % mid.tables.parts.block + c.args.count * mid.tables.parts.sector ≤ mid.tables.parts.block = subst (λ (p : TableParts). c.args.first * p.sector % p.block + c.args.count * p.sector ≤ p.block) (sym c.prepare.ensures.parts) c.requires.block.run in
     let sized : HasSizes (shape_of mid.tables.parts) = record { sector = ready.readable.sizes.sector; block = ready.readable.sizes.block } in
     let len : c.args.count ≡ run_in_block (shape_of mid.tables.parts) c.args.first c.args.count = all_in_block (shape_of mid.tables.parts) sized c.args.first c.args.count run in
     let h = run_pages mid (g.S.Store.disk c.prepare.new.store) ready 0 c.args.first c.args.count some c.in_ok-prepare.ensures.prepared disk c.args.count len c.index-plan.result.now c.index-plan.ensures in record { entry = h.entry; bits = h.bits; all_bits = h.all_bits }
@@ -75,8 +78,8 @@ ready_spot-requires-clause-room g c =
     let mid = c.prepare.new.self in
     let ready = c.in_ok-prepare.ensures.ready in
     let some : 0 < c.args.count = let b = one.1.0 in omega (arith, b) in
-    let disk : c.args.first + c.args.count ≤ mid.tables.parts.sectors = subst (λ (p : TableParts). c.args.first + c.args.count ≤ p.sectors) (sym c.prepare.ensures.parts) c.requires.on_disk in
-    let run : c.args.first * mid.tables.parts.sector % mid.tables.parts.block + c.args.count * mid.tables.parts.sector ≤ mid.tables.parts.block = subst (λ (p : TableParts). c.args.first * p.sector % p.block + c.args.count * p.sector ≤ p.block) (sym c.prepare.ensures.parts) c.requires.run in
+    let disk : c.args.first + c.args.count ≤ mid.tables.parts.sectors = subst (λ (p : TableParts). c.args.first + c.args.count ≤ p.sectors) (sym c.prepare.ensures.parts) c.requires.block.on_disk in
+    let run : c.args.first * mid.tables.parts.sector % mid.tables.parts.block + c.args.count * mid.tables.parts.sector ≤ mid.tables.parts.block = subst (λ (p : TableParts). c.args.first * p.sector % p.block + c.args.count * p.sector ≤ p.block) (sym c.prepare.ensures.parts) c.requires.block.run in
     let sized : HasSizes (shape_of mid.tables.parts) = record { sector = ready.readable.sizes.sector; block = ready.readable.sizes.block } in
     let len : c.args.count ≡ run_in_block (shape_of mid.tables.parts) c.args.first c.args.count = all_in_block (shape_of mid.tables.parts) sized c.args.first c.args.count run in
     run_room mid (g.S.Store.disk c.prepare.new.store) ready 0 c.args.first c.args.count some c.in_ok-prepare.ensures.prepared disk c.args.count len c.index-plan.result.now c.index-plan.ensures
@@ -88,8 +91,8 @@ ready_spot-requires-clause-todo g c t told =
     let mid = c.prepare.new.self in
     let ready = c.in_ok-prepare.ensures.ready in
     let some : 0 < c.args.count = let b = one.1.0 in omega (arith, b) in
-    let disk : c.args.first + c.args.count ≤ mid.tables.parts.sectors = subst (λ (p : TableParts). c.args.first + c.args.count ≤ p.sectors) (sym c.prepare.ensures.parts) c.requires.on_disk in
-    let run : c.args.first * mid.tables.parts.sector % mid.tables.parts.block + c.args.count * mid.tables.parts.sector ≤ mid.tables.parts.block = subst (λ (p : TableParts). c.args.first * p.sector % p.block + c.args.count * p.sector ≤ p.block) (sym c.prepare.ensures.parts) c.requires.run in
+    let disk : c.args.first + c.args.count ≤ mid.tables.parts.sectors = subst (λ (p : TableParts). c.args.first + c.args.count ≤ p.sectors) (sym c.prepare.ensures.parts) c.requires.block.on_disk in
+    let run : c.args.first * mid.tables.parts.sector % mid.tables.parts.block + c.args.count * mid.tables.parts.sector ≤ mid.tables.parts.block = subst (λ (p : TableParts). c.args.first * p.sector % p.block + c.args.count * p.sector ≤ p.block) (sym c.prepare.ensures.parts) c.requires.block.run in
     let sized : HasSizes (shape_of mid.tables.parts) = record { sector = ready.readable.sizes.sector; block = ready.readable.sizes.block } in
     let len : c.args.count ≡ run_in_block (shape_of mid.tables.parts) c.args.first c.args.count = all_in_block (shape_of mid.tables.parts) sized c.args.first c.args.count run in
     let wants : WhereTold (g.S.Store.disk c.prepare.new.store).told (Wants mid 0 c.args.first c.args.count false) = both_end (Begins c.args.self.now mid c.args.first c.args.count false) (Wants mid 0 c.args.first c.args.count false) (g.S.Store.disk c.args.store.now).told (g.S.Store.disk c.prepare.new.store).told c.in_ok-prepare.ensures.done (λ t u k. k.wants) in
@@ -112,7 +115,7 @@ returns-in_err-spot-clause-nothing g c none =
 
 pub put_spots-requires-clause-spot : goal.put_spots-requires-clause-spot
 put_spots-requires-clause-spot g c some t told =
-    subst (λ (p : TableParts). IsSpot (shape_of p) (held_by c.ready_spot.new.self t) c.args.first c.args.count c.in_ok-spot.spot) (sym c.in_ok-spot.ensures.parts) (c.in_ok-spot.ensures.spot t told)
+    subst (λ (p : TableParts). IsSpot (shape_of p) (held_by c.ready_spot.new.self t) c.args.first c.args.count c.in_ok-spot.spot) (sym c.in_ok-spot.ensures.leaves.parts) (c.in_ok-spot.ensures.spot t told)
 
 pub returns-clause-moments : goal.returns-clause-moments
 returns-clause-moments g c =
@@ -120,7 +123,7 @@ returns-clause-moments g c =
 
 pub returns-clause-put : goal.returns-clause-put
 returns-clause-put g c =
-    let same : c.ready_spot.new.self.tables.parts ≡ c.args.self.now.tables.parts = c.in_ok-spot.ensures.parts ∙ c.prepare.ensures.parts in
+    let same : c.ready_spot.new.self.tables.parts ≡ c.args.self.now.tables.parts = c.in_ok-spot.ensures.leaves.parts ∙ c.prepare.ensures.parts in
     ok_map c.put_spots.result _ _ c.put_spots.ensures.done
     (λ d. all_put c.args.self.now c.prepare.new.self c.args.first c.args.count false (is_masked c.args.first c.args.count 0 c.args.mask.now) (g.S.Store.disk c.args.store.now) (g.S.Store.disk c.prepare.new.store) c.in_ok-prepare.ensures.done c.prepare.ensures.moments c.ready_spot.new.self (g.S.Store.disk c.ready_spot.new.store) c.in_ok-spot.ensures.kept c.ready_spot.ensures.moments c.put_spots.new.self (g.S.Store.disk c.put_spots.new.store) (with_masked c.args.self.now.tables.parts.sector c.args.first c.args.count 0 c.args.mask.now c.args.bytes.now)
     (subst (λ z. WhereBothTold (HasPutNamed c.ready_spot.new.self c.put_spots.new.self (is_masked c.args.first c.args.count 0 c.args.mask.now) (with_masked z c.args.first c.args.count 0 c.args.mask.now c.args.bytes.now)) (g.S.Store.disk c.ready_spot.new.store).told (g.S.Store.disk c.put_spots.new.store).told) (ap (λ (p : TableParts). p.sector) same) d.put))
@@ -161,7 +164,7 @@ pub prepare-requires-clause-ready : goal.prepare-requires-clause-ready
 prepare-requires-clause-ready g c = c.requires.ready
 
 pub prepare-requires-clause-on_disk : goal.prepare-requires-clause-on_disk
-prepare-requires-clause-on_disk g c = c.requires.on_disk
+prepare-requires-clause-on_disk g c = c.requires.block.on_disk
 
 pub prepare-requires-clause-numbers : goal.prepare-requires-clause-numbers
 prepare-requires-clause-numbers g c = c.requires.numbers
@@ -202,11 +205,8 @@ returns-in_err-prepare-clause-room g c s here = room_for c.from_residual.result 
 pub ready_spot-requires-clause-ready : goal.ready_spot-requires-clause-ready
 ready_spot-requires-clause-ready g c = c.in_ok-prepare.ensures.ready
 
-pub ready_spot-requires-clause-on_disk : goal.ready_spot-requires-clause-on_disk
-ready_spot-requires-clause-on_disk g c = subst (λ (p : TableParts). c.args.first + c.args.count ≤ p.sectors) (sym c.prepare.ensures.parts) c.requires.on_disk
-
-pub ready_spot-requires-clause-run : goal.ready_spot-requires-clause-run
-ready_spot-requires-clause-run g c = subst (λ (p : TableParts). c.args.first * p.sector % p.block + c.args.count * p.sector ≤ p.block) (sym c.prepare.ensures.parts) c.requires.run
+pub ready_spot-requires-clause-block : goal.ready_spot-requires-clause-block
+ready_spot-requires-clause-block g c = of_parts (λ p. LieInBlock p c.args.first c.args.count) _ _ c.prepare.ensures.parts c.requires.block
 
 pub returns-in_err-spot-clause-put : goal.returns-in_err-spot-clause-put
 returns-in_err-spot-clause-put g c = not_ok c.from_residual-in_err-spot.result c.in_err-spot.field-0.0 c.from_residual-in_err-spot.ensures.1 _
@@ -257,19 +257,19 @@ pub returns-clause-quiet : goal.returns-clause-quiet
 returns-clause-quiet g c = refused_off c.put_spots.result (IsBrokenNamed c.ready_spot.new.self c.put_spots.new.self (is_masked c.args.first c.args.count 0 c.args.mask.now) (g.S.Store.disk c.ready_spot.new.store) (g.S.Store.disk c.put_spots.new.store)) c.put_spots.ensures.broken (λ e b. (b.cause, b.written)) _
 
 pub returns-clause-parts : goal.returns-clause-parts
-returns-clause-parts g c = either_way c.put_spots.result _ _ (IsBrokenNamed c.ready_spot.new.self c.put_spots.new.self (is_masked c.args.first c.args.count 0 c.args.mask.now) (g.S.Store.disk c.ready_spot.new.store) (g.S.Store.disk c.put_spots.new.store)) c.put_spots.ensures.done c.put_spots.ensures.broken (λ d. d.parts) (λ e b. b.parts) ∙ (c.in_ok-spot.ensures.parts ∙ c.prepare.ensures.parts)
+returns-clause-parts g c = either_way c.put_spots.result _ _ (IsBrokenNamed c.ready_spot.new.self c.put_spots.new.self (is_masked c.args.first c.args.count 0 c.args.mask.now) (g.S.Store.disk c.ready_spot.new.store) (g.S.Store.disk c.put_spots.new.store)) c.put_spots.ensures.done c.put_spots.ensures.broken (λ d. d.parts) (λ e b. b.parts) ∙ (c.in_ok-spot.ensures.leaves.parts ∙ c.prepare.ensures.parts)
 
 pub returns-clause-header : goal.returns-clause-header
-returns-clause-header g c = either_way c.put_spots.result _ _ (IsBrokenNamed c.ready_spot.new.self c.put_spots.new.self (is_masked c.args.first c.args.count 0 c.args.mask.now) (g.S.Store.disk c.ready_spot.new.store) (g.S.Store.disk c.put_spots.new.store)) c.put_spots.ensures.done c.put_spots.ensures.broken (λ d. d.header) (λ e b. b.header) ∙ (c.in_ok-spot.ensures.header ∙ c.prepare.ensures.header)
+returns-clause-header g c = either_way c.put_spots.result _ _ (IsBrokenNamed c.ready_spot.new.self c.put_spots.new.self (is_masked c.args.first c.args.count 0 c.args.mask.now) (g.S.Store.disk c.ready_spot.new.store) (g.S.Store.disk c.put_spots.new.store)) c.put_spots.ensures.done c.put_spots.ensures.broken (λ d. d.header) (λ e b. b.header) ∙ (ap (λ (s : LogState). s.header) c.in_ok-spot.ensures.leaves.log ∙ c.prepare.ensures.header)
 
 pub returns-clause-number : goal.returns-clause-number
-returns-clause-number g c = subst (λ n. n ≤ c.args.self.now.log.number + 1) (sym (either_way c.put_spots.result _ _ (IsBrokenNamed c.ready_spot.new.self c.put_spots.new.self (is_masked c.args.first c.args.count 0 c.args.mask.now) (g.S.Store.disk c.ready_spot.new.store) (g.S.Store.disk c.put_spots.new.store)) c.put_spots.ensures.done c.put_spots.ensures.broken (λ d. d.number) (λ e b. b.number) ∙ c.in_ok-spot.ensures.number)) c.prepare.ensures.number
+returns-clause-number g c = subst (λ n. n ≤ c.args.self.now.log.number + 1) (sym (either_way c.put_spots.result _ _ (IsBrokenNamed c.ready_spot.new.self c.put_spots.new.self (is_masked c.args.first c.args.count 0 c.args.mask.now) (g.S.Store.disk c.ready_spot.new.store) (g.S.Store.disk c.put_spots.new.store)) c.put_spots.ensures.done c.put_spots.ensures.broken (λ d. d.number) (λ e b. b.number) ∙ ap (λ (s : LogState). s.number) c.in_ok-spot.ensures.leaves.log)) c.prepare.ensures.number
 
 pub returns-clause-counts : goal.returns-clause-counts
 returns-clause-counts g c = ok_map c.put_spots.result _ _ c.put_spots.ensures.done (λ d. counts_join (g.S.Store.disk c.args.store.now) (g.S.Store.disk c.ready_spot.new.store) (g.S.Store.disk c.put_spots.new.store) (counts_join (g.S.Store.disk c.args.store.now) (g.S.Store.disk c.prepare.new.store) (g.S.Store.disk c.ready_spot.new.store) c.in_ok-prepare.ensures.counts c.in_ok-spot.ensures.counts) d.counts)
 
 pub returns-clause-err : goal.returns-clause-err
-returns-clause-err g c = if_err_map c.put_spots.result (IsBrokenNamed c.ready_spot.new.self c.put_spots.new.self (is_masked c.args.first c.args.count 0 c.args.mask.now) (g.S.Store.disk c.ready_spot.new.store) (g.S.Store.disk c.put_spots.new.store)) (Fails c.args.self.now.tables.parts.file (g.S.Store.disk c.args.store.now) (g.S.Store.disk c.put_spots.new.store)) c.put_spots.ensures.broken (λ e b. fails_from c.args.self.now.tables.parts.file (g.S.Store.disk c.args.store.now) (g.S.Store.disk c.ready_spot.new.store) (g.S.Store.disk c.put_spots.new.store) e b.cause b.written (counts_join (g.S.Store.disk c.args.store.now) (g.S.Store.disk c.prepare.new.store) (g.S.Store.disk c.ready_spot.new.store) c.in_ok-prepare.ensures.counts c.in_ok-spot.ensures.counts) (subst (λ n. Fails n (g.S.Store.disk c.ready_spot.new.store) (g.S.Store.disk c.put_spots.new.store) e) (ap (λ (p : TableParts). p.file) (c.in_ok-spot.ensures.parts ∙ c.prepare.ensures.parts)) b.fails))
+returns-clause-err g c = if_err_map c.put_spots.result (IsBrokenNamed c.ready_spot.new.self c.put_spots.new.self (is_masked c.args.first c.args.count 0 c.args.mask.now) (g.S.Store.disk c.ready_spot.new.store) (g.S.Store.disk c.put_spots.new.store)) (Fails c.args.self.now.tables.parts.file (g.S.Store.disk c.args.store.now) (g.S.Store.disk c.put_spots.new.store)) c.put_spots.ensures.broken (λ e b. fails_from c.args.self.now.tables.parts.file (g.S.Store.disk c.args.store.now) (g.S.Store.disk c.ready_spot.new.store) (g.S.Store.disk c.put_spots.new.store) e b.cause b.written (counts_join (g.S.Store.disk c.args.store.now) (g.S.Store.disk c.prepare.new.store) (g.S.Store.disk c.ready_spot.new.store) c.in_ok-prepare.ensures.counts c.in_ok-spot.ensures.counts) (subst (λ n. Fails n (g.S.Store.disk c.ready_spot.new.store) (g.S.Store.disk c.put_spots.new.store) e) (ap (λ (p : TableParts). p.file) (c.in_ok-spot.ensures.leaves.parts ∙ c.prepare.ensures.parts)) b.fails))
 
 pub returns-clause-full : goal.returns-clause-full
 returns-clause-full g c next e = absurd (full_off c.put_spots.result (IsBrokenNamed c.ready_spot.new.self c.put_spots.new.self (is_masked c.args.first c.args.count 0 c.args.mask.now) (g.S.Store.disk c.ready_spot.new.store) (g.S.Store.disk c.put_spots.new.store)) c.put_spots.ensures.broken (λ e b. (b.cause, b.written)) next e)
@@ -293,13 +293,10 @@ pub put_spots-requires-clause-pages : goal.put_spots-requires-clause-pages
 put_spots-requires-clause-pages g c = c.in_ok-spot.ensures.pages
 
 pub put_spots-requires-clause-whole : goal.put_spots-requires-clause-whole
-put_spots-requires-clause-whole g c = c.requires.whole ∙ ap (λ (p : TableParts). p.sector * c.args.count) (sym (c.in_ok-spot.ensures.parts ∙ c.prepare.ensures.parts))
+put_spots-requires-clause-whole g c = c.requires.whole ∙ ap (λ (p : TableParts). p.sector * c.args.count) (sym (c.in_ok-spot.ensures.leaves.parts ∙ c.prepare.ensures.parts))
 
-pub put_spots-requires-clause-on_disk : goal.put_spots-requires-clause-on_disk
-put_spots-requires-clause-on_disk g c = subst (λ (p : TableParts). c.args.first + c.args.count ≤ p.sectors) (sym (c.in_ok-spot.ensures.parts ∙ c.prepare.ensures.parts)) c.requires.on_disk
-
-pub put_spots-requires-clause-run : goal.put_spots-requires-clause-run
-put_spots-requires-clause-run g c = subst (λ (p : TableParts). c.args.first * p.sector % p.block + c.args.count * p.sector ≤ p.block) (sym (c.in_ok-spot.ensures.parts ∙ c.prepare.ensures.parts)) c.requires.run
+pub put_spots-requires-clause-block : goal.put_spots-requires-clause-block
+put_spots-requires-clause-block g c = of_parts (λ p. LieInBlock p c.args.first c.args.count) _ _ (c.in_ok-spot.ensures.leaves.parts ∙ c.prepare.ensures.parts) c.requires.block
 
 pub prepare-requires-clause-few : goal.prepare-requires-clause-few
-prepare-requires-clause-few g c = block_few (c.args.first * c.args.self.now.tables.parts.sector % c.args.self.now.tables.parts.block) (c.args.self.now.tables.parts.sector * c.args.count) c.args.self.now.tables.parts.block (let h = c.requires.run in omega (arith, h)) c.requires.ready.readable.sizes.block
+prepare-requires-clause-few g c = block_few (c.args.first * c.args.self.now.tables.parts.sector % c.args.self.now.tables.parts.block) (c.args.self.now.tables.parts.sector * c.args.count) c.args.self.now.tables.parts.block (let h = c.requires.block.run in omega (arith, h)) c.requires.ready.readable.sizes.block

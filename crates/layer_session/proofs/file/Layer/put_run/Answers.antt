@@ -21,7 +21,7 @@ write-requires-clause-whole g c = whole_in c.args.self.now c.make_ready.new.self
 pub write-requires-clause-on_disk : goal.write-requires-clause-on_disk
 write-requires-clause-on_disk g c =
     let n = sectors_of c.args.self.now c.make_ready.new.self c.args.count c.args.bytes.now c.in_ok-place.ensures.leaves.parts c.requires.ready.readable.sizes.sector c.requires.whole in
-    subst (λ (p : TableParts). c.args.first + sectors_in c.make_ready.new.self c.args.bytes.now ≤ p.sectors) (sym c.in_ok-place.ensures.leaves.parts) (omega (arith, n, c.requires.on_disk))
+    subst (λ (p : TableParts). c.args.first + sectors_in c.make_ready.new.self c.args.bytes.now ≤ p.sectors) (sym c.in_ok-place.ensures.leaves.parts) (omega (arith, n, c.requires.block.on_disk))
 
 pub write-requires-clause-stand : goal.write-requires-clause-stand
 write-requires-clause-stand g c =
@@ -71,3 +71,6 @@ make_ready-requires-clause-todo g c t told = (false, c.requires.todo t told)
 pub returns-in-None-clause-moments : goal.returns-in-None-clause-moments
 returns-in-None-clause-moments g c =
     keeps_puts c.args.self.now c.args.first c.args.count (g.S.Store.disk c.args.store.now).told (g.S.Store.disk c.make_ready.new.store).told c.make_ready.ensures.moments
+
+pub make_ready-requires-clause-block : goal.make_ready-requires-clause-block
+make_ready-requires-clause-block g c = c.requires.block

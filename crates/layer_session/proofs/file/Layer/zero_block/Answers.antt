@@ -20,7 +20,7 @@ returns-in_err-place-clause-moments g c =
 
 pub zero_run-requires-clause-on_disk : goal.zero_run-requires-clause-on_disk
 zero_run-requires-clause-on_disk g c =
-    subst (λ (p : TableParts). c.args.first + c.args.count ≤ p.sectors) (sym c.in_ok-place.ensures.leaves.parts) c.requires.on_disk
+    subst (λ (p : TableParts). c.args.first + c.args.count ≤ p.sectors) (sym c.in_ok-place.ensures.leaves.parts) c.requires.block.on_disk
 
 pub zero_run-requires-clause-stand : goal.zero_run-requires-clause-stand
 zero_run-requires-clause-stand g c some =
@@ -63,7 +63,7 @@ returns-in-None-clause-moments g c = keeps_puts c.args.self.now c.args.first c.a
 pub make_block-requires-clause-may : goal.make_block-requires-clause-may
 make_block-requires-clause-may g c =
     let step : c.args.plan.step ≡ Make = search rules in
-    make_may c.args.self.now (g.S.Store.disk c.args.store.now) c.requires.ready c.args.plan c.args.first c.args.count c.requires.some c.requires.on_disk c.requires.run c.requires.todo step
+    make_may c.args.self.now (g.S.Store.disk c.args.store.now) c.requires.ready c.args.plan c.args.first c.args.count c.requires.some c.requires.block.on_disk c.requires.block.run c.requires.todo step
 
 pub returns-in_err-make_block-clause-moments : goal.returns-in_err-make_block-clause-moments
 returns-in_err-make_block-clause-moments g c =
@@ -71,7 +71,7 @@ returns-in_err-make_block-clause-moments g c =
 
 pub returns-in_err-make_block-clause-broken : goal.returns-in_err-make_block-clause-broken
 returns-in_err-make_block-clause-broken g c =
-    if_err c.from_residual.result c.in_err-make_block.field-0.0 _ (err_is c.from_residual.result _ c.from_residual.ensures.1) (make_broken c.args.self.now (g.S.Store.disk c.args.store.now) c.requires.ready c.args.plan c.args.first c.args.count c.requires.some c.requires.on_disk c.requires.run c.requires.todo
+    if_err c.from_residual.result c.in_err-make_block.field-0.0 _ (err_is c.from_residual.result _ c.from_residual.ensures.1) (make_broken c.args.self.now (g.S.Store.disk c.args.store.now) c.requires.ready c.args.plan c.args.first c.args.count c.requires.some c.requires.block.on_disk c.requires.block.run c.requires.todo
     c.make_block.new.self (g.S.Store.disk c.make_block.new.store) c.in_err-make_block.field-0.0 c.in_err-make_block.ensures.broken)
 
 pub returns-then-plan-eq4-clause-moments : goal.returns-then-plan-eq4-clause-moments
@@ -82,10 +82,13 @@ pub returns-then-plan-eq4-clause-done : goal.returns-then-plan-eq4-clause-done
 returns-then-plan-eq4-clause-done g c =
     let step : c.args.plan.step ≡ Make = search rules in
     record {
-      put = make_zeros c.args.self.now (g.S.Store.disk c.args.store.now) c.requires.ready c.args.plan c.args.first c.args.count c.requires.some c.requires.on_disk c.requires.run c.requires.todo step c.make_block.new.self (g.S.Store.disk c.make_block.new.store) c.in_ok-make_block.field-0 c.in_ok-make_block.ensures.made;
+      put = make_zeros c.args.self.now (g.S.Store.disk c.args.store.now) c.requires.ready c.args.plan c.args.first c.args.count c.requires.some c.requires.block.on_disk c.requires.block.run c.requires.todo step c.make_block.new.self (g.S.Store.disk c.make_block.new.store) c.in_ok-make_block.field-0 c.in_ok-make_block.ensures.made;
       ready = c.in_ok-make_block.ensures.ready;
       counts = c.in_ok-make_block.ensures.counts;
       parts = c.in_ok-make_block.ensures.leaves.parts;
       number = ap (λ (x : LogState). x.number) c.in_ok-make_block.ensures.leaves.log;
       header = ap (λ (x : LogState). x.header) c.in_ok-make_block.ensures.leaves.log;
     }
+
+pub make_ready-requires-clause-block : goal.make_ready-requires-clause-block
+make_ready-requires-clause-block g c = c.requires.block
