@@ -4,7 +4,7 @@ use Rattle.std.specs.Prelude.{Option, Some, None, IfSome, min, slice_get}
 use Rattle.std.proofs.Math.Nat.{add-mul, mul-div_cancel}
 use Rattle.std.proofs.lemmas.Nat.{div-add-mod', mod_below, mod-mul-add}
 use Rattle.std.proofs.lemmas.Option.{slice_get-get_or}
-use Rattle.std.proofs.Math.ListN.{set}
+use Rattle.std.proofs.Math.ListN.{length-set, set}
 use Rattle.layer_session.proofs.Counting.{set_here}
 use Rattle.vhdx_format.specs.Layers.{HasSizes, Shape}
 use Rattle.layer_session.specs.Blocks.{blocks_of, run_in_block}
@@ -159,6 +159,10 @@ few_here p h k first count n some few = let r = runs p h first count some in let
 pub few_rest : (p : Shape) → HasSizes p → (k first count len n : ℕ) → 0 < count → len ≡ run_in_block p first count → k + blocks_of p first count ≤ n → k + 1 + blocks_of p (first + len) (count - len) ≤ n
 few_rest p h k first count len n some is few =
     subst (λ m. k + 1 + blocks_of p (first + m) (count - m) ≤ n) (sym is) (let r = runs p h first count some in let e = r.few in omega (arith, e, few))
+
+-- or where one of them was set
+pub few_set : (plans : List Plan) (k : ℕ) (plan : Plan) (n : ℕ) → n ≤ length plans → n ≤ length (set plans k plan)
+few_set plans k plan n few = subst (λ m. n ≤ m) (sym (length-set plans k plan)) few
 
 set_above : (xs : List Plan) (k i : ℕ) (v : Plan) → k < i → slice_get (set xs k v) i ≡ slice_get xs i
 set_above [] k i v l = refl

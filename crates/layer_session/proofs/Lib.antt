@@ -57,6 +57,7 @@ mod Readying
 mod Joining
 mod WriteEnds
 mod Running
+mod Portions
 mod Zeroing
 mod Frames
 mod Calling

@@ -5,7 +5,9 @@ use Rattle.table_pages.specs.Held.{shape_of}
 use Rattle.layer_session.specs.Planning.{none}
 use Rattle.layer_session.specs.Bringing.{none as named_none}
 use Rattle.layer_session.proofs.Counting.{set_beside}
-use Rattle.layer_session.proofs.BitRuns.{few_here, named_then, none_yet, plan_here, word_then}
+use Rattle.std.proofs.Math.ListN.{length-set}
+use Rattle.layer_session.proofs.BitRuns.{few_here, few_rest, few_set, named_then, none_yet, plan_here, word_then}
+use Rattle.layer_session.proofs.Portions.{below_next, rest_on, some_count}
 use Rattle.layer_session.proofs.preparing.+name_bitmap.Goals as goal
 
 pub returns-then-count-eq0-clause-named : goal.returns-then-count-eq0-clause-named
@@ -18,9 +20,9 @@ pub returns-clause-named : goal.returns-clause-named
 returns-clause-named t c =
     let h : HasSizes (shape_of c.args.parts.now) = record { sector = c.requires.sizes.sector; block = c.requires.sizes.block } in
     named_then (shape_of c.args.parts.now) c.args.chunk c.args.plans.now c.name_bitmap.new.plans c.args.k c.args.first c.args.count c.run_in_block-len.result c.args.word (get_or c.args.plans.now c.args.k none_yet) c.named.result
-    (omega arith) c.run_in_block-len.ensures.is
-    (plan_here (shape_of c.args.parts.now) h c.args.plans.now c.args.k c.args.first c.args.count none_yet (omega arith) c.requires.few) (few_here (shape_of c.args.parts.now) h c.args.k c.args.first c.args.count _ (omega arith) c.requires.few)
-    (c.name_bitmap.ensures.before c.args.k (omega arith)) c.named.ensures.is (by_chunk (cases_eq (c.args.first / 2 ^ 23) c.args.chunk)) c.name_bitmap.ensures.named
+    (some_count c.args.count c.if-count-eq0.false) c.run_in_block-len.ensures.is
+    (plan_here (shape_of c.args.parts.now) h c.args.plans.now c.args.k c.args.first c.args.count none_yet (some_count c.args.count c.if-count-eq0.false) c.requires.few) (few_here (shape_of c.args.parts.now) h c.args.k c.args.first c.args.count _ (some_count c.args.count c.if-count-eq0.false) c.requires.few)
+    (c.name_bitmap.ensures.before c.args.k (below_next c.args.k)) c.named.ensures.is (by_chunk (cases_eq (c.args.first / 2 ^ 23) c.args.chunk)) c.name_bitmap.ensures.named
   where
     by_chunk : (c.args.first / 2 ^ 23 ≡ c.args.chunk) ⊎ (c.args.first / 2 ^ 23 ≢ c.args.chunk) → (c.args.first / 2 ^ 23 ≡ c.args.chunk) ⊎ (c.named.result.bitmap ≡ (get_or c.args.plans.now c.args.k none_yet).bitmap)
     by_chunk (inl e) = inl e
@@ -30,9 +32,18 @@ pub returns-clause-word : goal.returns-clause-word
 returns-clause-word t c =
     let h : HasSizes (shape_of c.args.parts.now) = record { sector = c.requires.sizes.sector; block = c.requires.sizes.block } in
     word_then (shape_of c.args.parts.now) c.args.chunk c.args.plans.now c.name_bitmap.new.plans c.args.k c.args.first c.args.count c.run_in_block-len.result c.args.word (get_or c.args.plans.now c.args.k none_yet) c.named.result
-    (omega arith) c.run_in_block-len.ensures.is
-    (plan_here (shape_of c.args.parts.now) h c.args.plans.now c.args.k c.args.first c.args.count none_yet (omega arith) c.requires.few) (few_here (shape_of c.args.parts.now) h c.args.k c.args.first c.args.count _ (omega arith) c.requires.few)
-    (c.name_bitmap.ensures.before c.args.k (omega arith)) c.named.ensures.is (λ e. c.named.ensures.named (eq-eqb _ _ e)) c.name_bitmap.ensures.word
+    (some_count c.args.count c.if-count-eq0.false) c.run_in_block-len.ensures.is
+    (plan_here (shape_of c.args.parts.now) h c.args.plans.now c.args.k c.args.first c.args.count none_yet (some_count c.args.count c.if-count-eq0.false) c.requires.few) (few_here (shape_of c.args.parts.now) h c.args.k c.args.first c.args.count _ (some_count c.args.count c.if-count-eq0.false) c.requires.few)
+    (c.name_bitmap.ensures.before c.args.k (below_next c.args.k)) c.named.ensures.is (λ e. c.named.ensures.named (eq-eqb _ _ e)) c.name_bitmap.ensures.word
 
 pub returns-clause-before : goal.returns-clause-before
 returns-clause-before t c i l = c.name_bitmap.ensures.before i (omega (arith, l)) ∙ set_beside c.args.plans.now c.args.k i c.named.result l
+
+pub name_bitmap-requires : goal.name_bitmap-requires
+name_bitmap-requires t c = 
+    let h : HasSizes (shape_of c.args.parts.now) = record { sector = c.requires.sizes.sector; block = c.requires.sizes.block } in
+    let few = few_rest (shape_of c.args.parts.now) h c.args.k c.args.first c.args.count c.run_in_block-len.result _ (some_count c.args.count c.if-count-eq0.false) c.run_in_block-len.ensures.is c.requires.few in
+    (omega arith, (c.requires.sizes, (rest_on c.args.first c.run_in_block-len.result c.args.count c.args.parts.now.sectors c.run_in_block-len.ensures.most c.requires.on_disk, few_set c.args.plans.now c.args.k c.named.result _ few)))
+
+pub returns-clause-len : goal.returns-clause-len
+returns-clause-len t c = c.name_bitmap.ensures.len ∙ length-set c.args.plans.now c.args.k c.named.result

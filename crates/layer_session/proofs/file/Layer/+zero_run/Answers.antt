@@ -1,10 +1,13 @@
-use Rattle.std.proofs.Common.{◌≡◌, ◌+◌, ◌-◌, ◌*◌, arith, sym, subst, ap, ◌∙◌, take, refl}
+use Rattle.std.proofs.Common.{◌≡◌, ◌+◌, ◌-◌, ◌*◌, ◌/◌, ◌≤◌, arith, sym, subst, ap, ◌∙◌, take, refl}
 use Rattle.layer_session.proofs.Leading.{keeps_now}
 use Rattle.store_model.specs.Disk.{WhereBothTold, WhereTold}
 use Rattle.layer_session.specs.Calls.{PutsInto, sectors_in, with_zeros}
 use Rattle.layer_session.specs.Steps.{StandFrom}
 use Rattle.layer_session.specs.Taking.{IsBroken, IsDone}
-use Rattle.layer_session.proofs.Joining.{keeps_puts, part_outside, put_none, puts_more}
+use Rattle.layer_session.proofs.Joining.{keeps_puts, put_none, puts_more}
+use Rattle.layer_session.proofs.Portions.{front_outside, least_first, least_second, place_behind, rest_on, rest_some, some_count}
+use Rattle.layer_session.proofs.Sectors.{part_on}
+use Rattle.vhdx_format.specs.Fields.{megabyte}
 use Rattle.layer_session.proofs.Zeroing.{broken_more, done_zeros, entries_join, first_stands, join_broken, join_done, join_moments, piece_at, piece_clear, piece_count, piece_long, piece_some, piece_whole, place_small, rest_stands, zeros_join, zeros_nobody, zeros_off}
 use Rattle.layer_session.proofs.Told.{if_err, if_err_map, ok_map}
 use Rattle.vx_base.proofs.Handed.{err_is}
@@ -16,40 +19,40 @@ returns-then-count-eq0-clause-moments g t c =
 
 pub slice_bounds-write-end : goal.slice_bounds-write-end
 slice_bounds-write-end g t c =
-    sym (piece_long c.args.self.now c.from-sector.result c.min-len.result c.from-sector.ensures c.requires.ready.readable.sizes.sector (omega (arith, c.min-len.ensures)) c.deref.result.now (c.deref.ensures.value ∙ c.requires.ready.clear))
+    sym (piece_long c.args.self.now c.from-sector.result c.min-len.result c.from-sector.ensures c.requires.ready.readable.sizes.sector (least_second c.min-len.result c.args.count (megabyte / c.from-sector.result) c.min-len.ensures) c.deref.result.now (c.deref.ensures.value ∙ c.requires.ready.clear))
 
 pub write-requires-clause-whole : goal.write-requires-clause-whole
 write-requires-clause-whole g t c =
-    let n : sectors_in c.args.self.now (take (c.from-sector.result * c.min-len.result) c.deref.result.now) ≡ c.min-len.result = piece_count c.args.self.now c.from-sector.result c.min-len.result c.from-sector.ensures c.requires.ready.readable.sizes.sector (omega (arith, c.min-len.ensures)) c.deref.result.now (c.deref.ensures.value ∙ c.requires.ready.clear) in
-    piece_whole c.args.self.now c.from-sector.result c.min-len.result c.from-sector.ensures c.requires.ready.readable.sizes.sector (omega (arith, c.min-len.ensures)) c.deref.result.now (c.deref.ensures.value ∙ c.requires.ready.clear) ∙ ap (λ k. c.args.self.now.tables.parts.sector * k) (sym n)
+    let n : sectors_in c.args.self.now (take (c.from-sector.result * c.min-len.result) c.deref.result.now) ≡ c.min-len.result = piece_count c.args.self.now c.from-sector.result c.min-len.result c.from-sector.ensures c.requires.ready.readable.sizes.sector (least_second c.min-len.result c.args.count (megabyte / c.from-sector.result) c.min-len.ensures) c.deref.result.now (c.deref.ensures.value ∙ c.requires.ready.clear) in
+    piece_whole c.args.self.now c.from-sector.result c.min-len.result c.from-sector.ensures c.requires.ready.readable.sizes.sector (least_second c.min-len.result c.args.count (megabyte / c.from-sector.result) c.min-len.ensures) c.deref.result.now (c.deref.ensures.value ∙ c.requires.ready.clear) ∙ ap (λ k. c.args.self.now.tables.parts.sector * k) (sym n)
 
 pub write-requires-clause-stand : goal.write-requires-clause-stand
 write-requires-clause-stand g t c =
-    let n : sectors_in c.args.self.now (take (c.from-sector.result * c.min-len.result) c.deref.result.now) ≡ c.min-len.result = piece_count c.args.self.now c.from-sector.result c.min-len.result c.from-sector.ensures c.requires.ready.readable.sizes.sector (omega (arith, c.min-len.ensures)) c.deref.result.now (c.deref.ensures.value ∙ c.requires.ready.clear) in
+    let n : sectors_in c.args.self.now (take (c.from-sector.result * c.min-len.result) c.deref.result.now) ≡ c.min-len.result = piece_count c.args.self.now c.from-sector.result c.min-len.result c.from-sector.ensures c.requires.ready.readable.sizes.sector (least_second c.min-len.result c.args.count (megabyte / c.from-sector.result) c.min-len.ensures) c.deref.result.now (c.deref.ensures.value ∙ c.requires.ready.clear) in
     subst (λ k. WhereTold (g.S.Store.disk c.args.store.now).told (λ t. StandFrom c.args.self.now c.args.first k c.args.place t)) (sym n)
-    (first_stands c.args.self.now (g.S.Store.disk c.args.store.now) (g.S.Store.disk c.args.store.now) c.requires.ready c.args.first c.args.count c.args.place c.requires.on_disk (c.requires.stand (omega arith)) c.min-len.result (piece_some c.args.self.now c.from-sector.result c.min-len.result c.from-sector.ensures c.requires.ready.readable.sizes.sector (omega (arith, c.min-len.ensures)) c.deref.result.now (c.deref.ensures.value ∙ c.requires.ready.clear) c.args.count (omega arith) c.min-len.ensures) (omega (arith, c.min-len.ensures)))
+    (first_stands c.args.self.now (g.S.Store.disk c.args.store.now) (g.S.Store.disk c.args.store.now) c.requires.ready c.args.first c.args.count c.args.place c.requires.on_disk (c.requires.stand (some_count c.args.count c.if-count-eq0.false)) c.min-len.result (piece_some c.args.self.now c.from-sector.result c.min-len.result c.from-sector.ensures c.requires.ready.readable.sizes.sector (least_second c.min-len.result c.args.count (megabyte / c.from-sector.result) c.min-len.ensures) c.deref.result.now (c.deref.ensures.value ∙ c.requires.ready.clear) c.args.count (some_count c.args.count c.if-count-eq0.false) c.min-len.ensures) (least_first c.min-len.result c.args.count (megabyte / c.from-sector.result) c.min-len.ensures))
 
 pub returns-in_err-write-clause-moments : goal.returns-in_err-write-clause-moments
 returns-in_err-write-clause-moments g t c =
-    let n : sectors_in c.args.self.now (take (c.from-sector.result * c.min-len.result) c.deref.result.now) ≡ c.min-len.result = piece_count c.args.self.now c.from-sector.result c.min-len.result c.from-sector.ensures c.requires.ready.readable.sizes.sector (omega (arith, c.min-len.ensures)) c.deref.result.now (c.deref.ensures.value ∙ c.requires.ready.clear) in
-    puts_more c.args.self.now c.args.first c.args.count c.args.first c.min-len.result (part_outside c.args.first c.args.count c.args.first c.min-len.result (omega arith) (omega (arith, c.min-len.ensures))) (g.S.Store.disk c.args.store.now).told (g.S.Store.disk c.write.new.store).told (subst (λ k. WhereBothTold (PutsInto c.args.self.now c.args.first k) (g.S.Store.disk c.args.store.now).told (g.S.Store.disk c.write.new.store).told) n c.write.ensures.moments)
+    let n : sectors_in c.args.self.now (take (c.from-sector.result * c.min-len.result) c.deref.result.now) ≡ c.min-len.result = piece_count c.args.self.now c.from-sector.result c.min-len.result c.from-sector.ensures c.requires.ready.readable.sizes.sector (least_second c.min-len.result c.args.count (megabyte / c.from-sector.result) c.min-len.ensures) c.deref.result.now (c.deref.ensures.value ∙ c.requires.ready.clear) in
+    puts_more c.args.self.now c.args.first c.args.count c.args.first c.min-len.result (front_outside c.args.first c.args.count c.min-len.result (least_first c.min-len.result c.args.count (megabyte / c.from-sector.result) c.min-len.ensures)) (g.S.Store.disk c.args.store.now).told (g.S.Store.disk c.write.new.store).told (subst (λ k. WhereBothTold (PutsInto c.args.self.now c.args.first k) (g.S.Store.disk c.args.store.now).told (g.S.Store.disk c.write.new.store).told) n c.write.ensures.moments)
 
 pub returns-in_err-write-clause-broken : goal.returns-in_err-write-clause-broken
 returns-in_err-write-clause-broken g t c =
-    let n : sectors_in c.args.self.now (take (c.from-sector.result * c.min-len.result) c.deref.result.now) ≡ c.min-len.result = piece_count c.args.self.now c.from-sector.result c.min-len.result c.from-sector.ensures c.requires.ready.readable.sizes.sector (omega (arith, c.min-len.ensures)) c.deref.result.now (c.deref.ensures.value ∙ c.requires.ready.clear) in
+    let n : sectors_in c.args.self.now (take (c.from-sector.result * c.min-len.result) c.deref.result.now) ≡ c.min-len.result = piece_count c.args.self.now c.from-sector.result c.min-len.result c.from-sector.ensures c.requires.ready.readable.sizes.sector (least_second c.min-len.result c.args.count (megabyte / c.from-sector.result) c.min-len.ensures) c.deref.result.now (c.deref.ensures.value ∙ c.requires.ready.clear) in
     if_err c.from_residual.result c.in_err-write.field-0.0 _ (err_is c.from_residual.result _ c.from_residual.ensures.1)
-    (broken_more c.args.self.now c.args.self.now c.args.first c.args.count c.args.first c.min-len.result (part_outside c.args.first c.args.count c.args.first c.min-len.result (omega arith) (omega (arith, c.min-len.ensures))) (g.S.Store.disk c.args.store.now) (g.S.Store.disk c.write.new.store) c.in_err-write.field-0.0 (subst (λ k. IsBroken c.args.self.now c.args.self.now c.args.first k (g.S.Store.disk c.args.store.now) (g.S.Store.disk c.write.new.store) c.in_err-write.field-0.0) n c.in_err-write.ensures.broken))
+    (broken_more c.args.self.now c.args.self.now c.args.first c.args.count c.args.first c.min-len.result (front_outside c.args.first c.args.count c.min-len.result (least_first c.min-len.result c.args.count (megabyte / c.from-sector.result) c.min-len.ensures)) (g.S.Store.disk c.args.store.now) (g.S.Store.disk c.write.new.store) c.in_err-write.field-0.0 (subst (λ k. IsBroken c.args.self.now c.args.self.now c.args.first k (g.S.Store.disk c.args.store.now) (g.S.Store.disk c.write.new.store) c.in_err-write.field-0.0) n c.in_err-write.ensures.broken))
 
 pub zero_run-requires : goal.zero_run-requires
 zero_run-requires g t c κs within =
-    let n : sectors_in c.args.self.now (take (c.from-sector.result * c.min-len.result) c.deref.result.now) ≡ c.min-len.result = piece_count c.args.self.now c.from-sector.result c.min-len.result c.from-sector.ensures c.requires.ready.readable.sizes.sector (omega (arith, c.min-len.ensures)) c.deref.result.now (c.deref.ensures.value ∙ c.requires.ready.clear) in
-    let one : IsDone c.args.self.now c.args.self.now c.args.first c.min-len.result (with_zeros c.args.self.now.tables.parts.sector c.args.first c.min-len.result) (g.S.Store.disk c.args.store.now) (g.S.Store.disk c.write.new.store) = done_zeros c.args.self.now (g.S.Store.disk c.args.store.now) (g.S.Store.disk c.write.new.store) c.args.first c.min-len.result (sectors_in c.args.self.now (take (c.from-sector.result * c.min-len.result) c.deref.result.now)) (take (c.from-sector.result * c.min-len.result) c.deref.result.now) n (piece_whole c.args.self.now c.from-sector.result c.min-len.result c.from-sector.ensures c.requires.ready.readable.sizes.sector (omega (arith, c.min-len.ensures)) c.deref.result.now (c.deref.ensures.value ∙ c.requires.ready.clear)) (piece_clear c.args.self.now c.from-sector.result c.min-len.result c.from-sector.ensures c.requires.ready.readable.sizes.sector (omega (arith, c.min-len.ensures)) c.deref.result.now (c.deref.ensures.value ∙ c.requires.ready.clear)) c.in_ok-write.ensures.done in
+    let n : sectors_in c.args.self.now (take (c.from-sector.result * c.min-len.result) c.deref.result.now) ≡ c.min-len.result = piece_count c.args.self.now c.from-sector.result c.min-len.result c.from-sector.ensures c.requires.ready.readable.sizes.sector (least_second c.min-len.result c.args.count (megabyte / c.from-sector.result) c.min-len.ensures) c.deref.result.now (c.deref.ensures.value ∙ c.requires.ready.clear) in
+    let one : IsDone c.args.self.now c.args.self.now c.args.first c.min-len.result (with_zeros c.args.self.now.tables.parts.sector c.args.first c.min-len.result) (g.S.Store.disk c.args.store.now) (g.S.Store.disk c.write.new.store) = done_zeros c.args.self.now (g.S.Store.disk c.args.store.now) (g.S.Store.disk c.write.new.store) c.args.first c.min-len.result (sectors_in c.args.self.now (take (c.from-sector.result * c.min-len.result) c.deref.result.now)) (take (c.from-sector.result * c.min-len.result) c.deref.result.now) n (piece_whole c.args.self.now c.from-sector.result c.min-len.result c.from-sector.ensures c.requires.ready.readable.sizes.sector (least_second c.min-len.result c.args.count (megabyte / c.from-sector.result) c.min-len.ensures) c.deref.result.now (c.deref.ensures.value ∙ c.requires.ready.clear)) (piece_clear c.args.self.now c.from-sector.result c.min-len.result c.from-sector.ensures c.requires.ready.readable.sizes.sector (least_second c.min-len.result c.args.count (megabyte / c.from-sector.result) c.min-len.ensures) c.deref.result.now (c.deref.ensures.value ∙ c.requires.ready.clear)) c.in_ok-write.ensures.done in
     let next : WhereTold (g.S.Store.disk c.args.store.now).told (λ t. c.saturating_add.result ≡ c.args.place + c.args.self.now.tables.parts.sector * c.min-len.result) =
     λ t told.
-    let small = place_small c.args.self.now (g.S.Store.disk c.args.store.now) (g.S.Store.disk c.args.store.now) c.requires.ready c.args.first c.min-len.result c.args.place (omega (arith, c.requires.on_disk, c.min-len.ensures))
-    (first_stands c.args.self.now (g.S.Store.disk c.args.store.now) (g.S.Store.disk c.args.store.now) c.requires.ready c.args.first c.args.count c.args.place c.requires.on_disk (c.requires.stand (omega arith)) c.min-len.result (piece_some c.args.self.now c.from-sector.result c.min-len.result c.from-sector.ensures c.requires.ready.readable.sizes.sector (omega (arith, c.min-len.ensures)) c.deref.result.now (c.deref.ensures.value ∙ c.requires.ready.clear) c.args.count (omega arith) c.min-len.ensures) (omega (arith, c.min-len.ensures))) (take (c.from-sector.result * c.min-len.result) c.deref.result.now) (piece_whole c.args.self.now c.from-sector.result c.min-len.result c.from-sector.ensures c.requires.ready.readable.sizes.sector (omega (arith, c.min-len.ensures)) c.deref.result.now (c.deref.ensures.value ∙ c.requires.ready.clear)) t told in
-    omega (arith, small, c.saturating_add.ensures, piece_at c.args.self.now c.from-sector.result c.min-len.result c.from-sector.ensures c.requires.ready.readable.sizes.sector (omega (arith, c.min-len.ensures)) c.deref.result.now (c.deref.ensures.value ∙ c.requires.ready.clear)) in (
-      omega (arith, (piece_some c.args.self.now c.from-sector.result c.min-len.result c.from-sector.ensures c.requires.ready.readable.sizes.sector (omega (arith, c.min-len.ensures)) c.deref.result.now (c.deref.ensures.value ∙ c.requires.ready.clear) c.args.count (omega arith) c.min-len.ensures)),
+    let small = place_small c.args.self.now (g.S.Store.disk c.args.store.now) (g.S.Store.disk c.args.store.now) c.requires.ready c.args.first c.min-len.result c.args.place (part_on c.args.first c.min-len.result c.args.count c.args.self.now.tables.parts.sectors (least_first c.min-len.result c.args.count (megabyte / c.from-sector.result) c.min-len.ensures) c.requires.on_disk)
+    (first_stands c.args.self.now (g.S.Store.disk c.args.store.now) (g.S.Store.disk c.args.store.now) c.requires.ready c.args.first c.args.count c.args.place c.requires.on_disk (c.requires.stand (some_count c.args.count c.if-count-eq0.false)) c.min-len.result (piece_some c.args.self.now c.from-sector.result c.min-len.result c.from-sector.ensures c.requires.ready.readable.sizes.sector (least_second c.min-len.result c.args.count (megabyte / c.from-sector.result) c.min-len.ensures) c.deref.result.now (c.deref.ensures.value ∙ c.requires.ready.clear) c.args.count (some_count c.args.count c.if-count-eq0.false) c.min-len.ensures) (least_first c.min-len.result c.args.count (megabyte / c.from-sector.result) c.min-len.ensures)) (take (c.from-sector.result * c.min-len.result) c.deref.result.now) (piece_whole c.args.self.now c.from-sector.result c.min-len.result c.from-sector.ensures c.requires.ready.readable.sizes.sector (least_second c.min-len.result c.args.count (megabyte / c.from-sector.result) c.min-len.ensures) c.deref.result.now (c.deref.ensures.value ∙ c.requires.ready.clear)) t told in
+    place_behind c.saturating_add.result c.args.place (c.from-sector.result * c.min-len.result) (c.args.self.now.tables.parts.sector * c.min-len.result) c.saturating_add.ensures (piece_at c.args.self.now c.from-sector.result c.min-len.result c.from-sector.ensures c.requires.ready.readable.sizes.sector (least_second c.min-len.result c.args.count (megabyte / c.from-sector.result) c.min-len.ensures) c.deref.result.now (c.deref.ensures.value ∙ c.requires.ready.clear)) small in (
+      omega (arith, (piece_some c.args.self.now c.from-sector.result c.min-len.result c.from-sector.ensures c.requires.ready.readable.sizes.sector (least_second c.min-len.result c.args.count (megabyte / c.from-sector.result) c.min-len.ensures) c.deref.result.now (c.deref.ensures.value ∙ c.requires.ready.clear) c.args.count (some_count c.args.count c.if-count-eq0.false) c.min-len.ensures)),
       (
         within.0,
         (
@@ -57,8 +60,8 @@ zero_run-requires g t c κs within =
           (
             one.ready,
             (
-              omega (arith, c.requires.on_disk, c.min-len.ensures),
-              λ more. rest_stands c.args.self.now (g.S.Store.disk c.args.store.now) (g.S.Store.disk c.write.new.store) c.requires.ready c.args.first c.args.count c.args.place c.requires.on_disk (c.requires.stand (omega arith)) c.min-len.result c.saturating_add.result (omega (arith, more)) next c.in_ok-write.ensures.same,
+              rest_on c.args.first c.min-len.result c.args.count c.args.self.now.tables.parts.sectors (least_first c.min-len.result c.args.count (megabyte / c.from-sector.result) c.min-len.ensures) c.requires.on_disk,
+              λ more. rest_stands c.args.self.now (g.S.Store.disk c.args.store.now) (g.S.Store.disk c.write.new.store) c.requires.ready c.args.first c.args.count c.args.place c.requires.on_disk (c.requires.stand (some_count c.args.count c.if-count-eq0.false)) c.min-len.result c.saturating_add.result (rest_some c.min-len.result c.args.count more) next c.in_ok-write.ensures.same,
             ),
           ),
         ),
@@ -67,16 +70,16 @@ zero_run-requires g t c κs within =
 
 pub returns-clause-moments : goal.returns-clause-moments
 returns-clause-moments g t c =
-    let n : sectors_in c.args.self.now (take (c.from-sector.result * c.min-len.result) c.deref.result.now) ≡ c.min-len.result = piece_count c.args.self.now c.from-sector.result c.min-len.result c.from-sector.ensures c.requires.ready.readable.sizes.sector (omega (arith, c.min-len.ensures)) c.deref.result.now (c.deref.ensures.value ∙ c.requires.ready.clear) in
-    let one : IsDone c.args.self.now c.args.self.now c.args.first c.min-len.result (with_zeros c.args.self.now.tables.parts.sector c.args.first c.min-len.result) (g.S.Store.disk c.args.store.now) (g.S.Store.disk c.write.new.store) = done_zeros c.args.self.now (g.S.Store.disk c.args.store.now) (g.S.Store.disk c.write.new.store) c.args.first c.min-len.result (sectors_in c.args.self.now (take (c.from-sector.result * c.min-len.result) c.deref.result.now)) (take (c.from-sector.result * c.min-len.result) c.deref.result.now) n (piece_whole c.args.self.now c.from-sector.result c.min-len.result c.from-sector.ensures c.requires.ready.readable.sizes.sector (omega (arith, c.min-len.ensures)) c.deref.result.now (c.deref.ensures.value ∙ c.requires.ready.clear)) (piece_clear c.args.self.now c.from-sector.result c.min-len.result c.from-sector.ensures c.requires.ready.readable.sizes.sector (omega (arith, c.min-len.ensures)) c.deref.result.now (c.deref.ensures.value ∙ c.requires.ready.clear)) c.in_ok-write.ensures.done in
-    join_moments c.args.self.now c.args.self.now c.args.first c.min-len.result c.args.count (omega (arith, c.min-len.ensures)) (with_zeros c.args.self.now.tables.parts.sector c.args.first c.min-len.result) (zeros_off c.args.self.now.tables.parts.sector c.args.first c.min-len.result) (g.S.Store.disk c.args.store.now) (g.S.Store.disk c.write.new.store) one (g.S.Store.disk c.zero_run.new.store) (subst (λ k. WhereBothTold (PutsInto c.args.self.now c.args.first k) (g.S.Store.disk c.args.store.now).told (g.S.Store.disk c.write.new.store).told) n c.write.ensures.moments) c.zero_run.ensures.moments
+    let n : sectors_in c.args.self.now (take (c.from-sector.result * c.min-len.result) c.deref.result.now) ≡ c.min-len.result = piece_count c.args.self.now c.from-sector.result c.min-len.result c.from-sector.ensures c.requires.ready.readable.sizes.sector (least_second c.min-len.result c.args.count (megabyte / c.from-sector.result) c.min-len.ensures) c.deref.result.now (c.deref.ensures.value ∙ c.requires.ready.clear) in
+    let one : IsDone c.args.self.now c.args.self.now c.args.first c.min-len.result (with_zeros c.args.self.now.tables.parts.sector c.args.first c.min-len.result) (g.S.Store.disk c.args.store.now) (g.S.Store.disk c.write.new.store) = done_zeros c.args.self.now (g.S.Store.disk c.args.store.now) (g.S.Store.disk c.write.new.store) c.args.first c.min-len.result (sectors_in c.args.self.now (take (c.from-sector.result * c.min-len.result) c.deref.result.now)) (take (c.from-sector.result * c.min-len.result) c.deref.result.now) n (piece_whole c.args.self.now c.from-sector.result c.min-len.result c.from-sector.ensures c.requires.ready.readable.sizes.sector (least_second c.min-len.result c.args.count (megabyte / c.from-sector.result) c.min-len.ensures) c.deref.result.now (c.deref.ensures.value ∙ c.requires.ready.clear)) (piece_clear c.args.self.now c.from-sector.result c.min-len.result c.from-sector.ensures c.requires.ready.readable.sizes.sector (least_second c.min-len.result c.args.count (megabyte / c.from-sector.result) c.min-len.ensures) c.deref.result.now (c.deref.ensures.value ∙ c.requires.ready.clear)) c.in_ok-write.ensures.done in
+    join_moments c.args.self.now c.args.self.now c.args.first c.min-len.result c.args.count (least_first c.min-len.result c.args.count (megabyte / c.from-sector.result) c.min-len.ensures) (with_zeros c.args.self.now.tables.parts.sector c.args.first c.min-len.result) (zeros_off c.args.self.now.tables.parts.sector c.args.first c.min-len.result) (g.S.Store.disk c.args.store.now) (g.S.Store.disk c.write.new.store) one (g.S.Store.disk c.zero_run.new.store) (subst (λ k. WhereBothTold (PutsInto c.args.self.now c.args.first k) (g.S.Store.disk c.args.store.now).told (g.S.Store.disk c.write.new.store).told) n c.write.ensures.moments) c.zero_run.ensures.moments
 
 pub returns-clause-done : goal.returns-clause-done
 returns-clause-done g t c =
-    let n : sectors_in c.args.self.now (take (c.from-sector.result * c.min-len.result) c.deref.result.now) ≡ c.min-len.result = piece_count c.args.self.now c.from-sector.result c.min-len.result c.from-sector.ensures c.requires.ready.readable.sizes.sector (omega (arith, c.min-len.ensures)) c.deref.result.now (c.deref.ensures.value ∙ c.requires.ready.clear) in
-    let one : IsDone c.args.self.now c.args.self.now c.args.first c.min-len.result (with_zeros c.args.self.now.tables.parts.sector c.args.first c.min-len.result) (g.S.Store.disk c.args.store.now) (g.S.Store.disk c.write.new.store) = done_zeros c.args.self.now (g.S.Store.disk c.args.store.now) (g.S.Store.disk c.write.new.store) c.args.first c.min-len.result (sectors_in c.args.self.now (take (c.from-sector.result * c.min-len.result) c.deref.result.now)) (take (c.from-sector.result * c.min-len.result) c.deref.result.now) n (piece_whole c.args.self.now c.from-sector.result c.min-len.result c.from-sector.ensures c.requires.ready.readable.sizes.sector (omega (arith, c.min-len.ensures)) c.deref.result.now (c.deref.ensures.value ∙ c.requires.ready.clear)) (piece_clear c.args.self.now c.from-sector.result c.min-len.result c.from-sector.ensures c.requires.ready.readable.sizes.sector (omega (arith, c.min-len.ensures)) c.deref.result.now (c.deref.ensures.value ∙ c.requires.ready.clear)) c.in_ok-write.ensures.done in
-    ok_map c.zero_run.result _ _ c.zero_run.ensures.done (join_done c.args.self.now c.args.self.now c.args.first c.min-len.result c.args.count (omega (arith, c.min-len.ensures)) (with_zeros c.args.self.now.tables.parts.sector c.args.first c.min-len.result) (zeros_off c.args.self.now.tables.parts.sector c.args.first c.min-len.result) (g.S.Store.disk c.args.store.now) (g.S.Store.disk c.write.new.store) one c.args.self.now (g.S.Store.disk c.zero_run.new.store) (with_zeros c.args.self.now.tables.parts.sector (c.args.first + c.min-len.result) (c.args.count - c.min-len.result)) (with_zeros c.args.self.now.tables.parts.sector c.args.first c.args.count)
-    (zeros_join c.args.self.now.tables.parts.sector c.args.first c.min-len.result c.args.count (omega (arith, c.min-len.ensures))))
+    let n : sectors_in c.args.self.now (take (c.from-sector.result * c.min-len.result) c.deref.result.now) ≡ c.min-len.result = piece_count c.args.self.now c.from-sector.result c.min-len.result c.from-sector.ensures c.requires.ready.readable.sizes.sector (least_second c.min-len.result c.args.count (megabyte / c.from-sector.result) c.min-len.ensures) c.deref.result.now (c.deref.ensures.value ∙ c.requires.ready.clear) in
+    let one : IsDone c.args.self.now c.args.self.now c.args.first c.min-len.result (with_zeros c.args.self.now.tables.parts.sector c.args.first c.min-len.result) (g.S.Store.disk c.args.store.now) (g.S.Store.disk c.write.new.store) = done_zeros c.args.self.now (g.S.Store.disk c.args.store.now) (g.S.Store.disk c.write.new.store) c.args.first c.min-len.result (sectors_in c.args.self.now (take (c.from-sector.result * c.min-len.result) c.deref.result.now)) (take (c.from-sector.result * c.min-len.result) c.deref.result.now) n (piece_whole c.args.self.now c.from-sector.result c.min-len.result c.from-sector.ensures c.requires.ready.readable.sizes.sector (least_second c.min-len.result c.args.count (megabyte / c.from-sector.result) c.min-len.ensures) c.deref.result.now (c.deref.ensures.value ∙ c.requires.ready.clear)) (piece_clear c.args.self.now c.from-sector.result c.min-len.result c.from-sector.ensures c.requires.ready.readable.sizes.sector (least_second c.min-len.result c.args.count (megabyte / c.from-sector.result) c.min-len.ensures) c.deref.result.now (c.deref.ensures.value ∙ c.requires.ready.clear)) c.in_ok-write.ensures.done in
+    ok_map c.zero_run.result _ _ c.zero_run.ensures.done (join_done c.args.self.now c.args.self.now c.args.first c.min-len.result c.args.count (least_first c.min-len.result c.args.count (megabyte / c.from-sector.result) c.min-len.ensures) (with_zeros c.args.self.now.tables.parts.sector c.args.first c.min-len.result) (zeros_off c.args.self.now.tables.parts.sector c.args.first c.min-len.result) (g.S.Store.disk c.args.store.now) (g.S.Store.disk c.write.new.store) one c.args.self.now (g.S.Store.disk c.zero_run.new.store) (with_zeros c.args.self.now.tables.parts.sector (c.args.first + c.min-len.result) (c.args.count - c.min-len.result)) (with_zeros c.args.self.now.tables.parts.sector c.args.first c.args.count)
+    (zeros_join c.args.self.now.tables.parts.sector c.args.first c.min-len.result c.args.count (least_first c.min-len.result c.args.count (megabyte / c.from-sector.result) c.min-len.ensures)))
 
 pub returns-clause-same : goal.returns-clause-same
 returns-clause-same g t c =
@@ -84,9 +87,9 @@ returns-clause-same g t c =
 
 pub returns-clause-broken : goal.returns-clause-broken
 returns-clause-broken g t c =
-    let n : sectors_in c.args.self.now (take (c.from-sector.result * c.min-len.result) c.deref.result.now) ≡ c.min-len.result = piece_count c.args.self.now c.from-sector.result c.min-len.result c.from-sector.ensures c.requires.ready.readable.sizes.sector (omega (arith, c.min-len.ensures)) c.deref.result.now (c.deref.ensures.value ∙ c.requires.ready.clear) in
-    let one : IsDone c.args.self.now c.args.self.now c.args.first c.min-len.result (with_zeros c.args.self.now.tables.parts.sector c.args.first c.min-len.result) (g.S.Store.disk c.args.store.now) (g.S.Store.disk c.write.new.store) = done_zeros c.args.self.now (g.S.Store.disk c.args.store.now) (g.S.Store.disk c.write.new.store) c.args.first c.min-len.result (sectors_in c.args.self.now (take (c.from-sector.result * c.min-len.result) c.deref.result.now)) (take (c.from-sector.result * c.min-len.result) c.deref.result.now) n (piece_whole c.args.self.now c.from-sector.result c.min-len.result c.from-sector.ensures c.requires.ready.readable.sizes.sector (omega (arith, c.min-len.ensures)) c.deref.result.now (c.deref.ensures.value ∙ c.requires.ready.clear)) (piece_clear c.args.self.now c.from-sector.result c.min-len.result c.from-sector.ensures c.requires.ready.readable.sizes.sector (omega (arith, c.min-len.ensures)) c.deref.result.now (c.deref.ensures.value ∙ c.requires.ready.clear)) c.in_ok-write.ensures.done in
-    if_err_map c.zero_run.result _ _ c.zero_run.ensures.broken (join_broken c.args.self.now c.args.self.now c.args.first c.min-len.result c.args.count (omega (arith, c.min-len.ensures)) (with_zeros c.args.self.now.tables.parts.sector c.args.first c.min-len.result) (zeros_off c.args.self.now.tables.parts.sector c.args.first c.min-len.result) (g.S.Store.disk c.args.store.now) (g.S.Store.disk c.write.new.store) one c.args.self.now (g.S.Store.disk c.zero_run.new.store))
+    let n : sectors_in c.args.self.now (take (c.from-sector.result * c.min-len.result) c.deref.result.now) ≡ c.min-len.result = piece_count c.args.self.now c.from-sector.result c.min-len.result c.from-sector.ensures c.requires.ready.readable.sizes.sector (least_second c.min-len.result c.args.count (megabyte / c.from-sector.result) c.min-len.ensures) c.deref.result.now (c.deref.ensures.value ∙ c.requires.ready.clear) in
+    let one : IsDone c.args.self.now c.args.self.now c.args.first c.min-len.result (with_zeros c.args.self.now.tables.parts.sector c.args.first c.min-len.result) (g.S.Store.disk c.args.store.now) (g.S.Store.disk c.write.new.store) = done_zeros c.args.self.now (g.S.Store.disk c.args.store.now) (g.S.Store.disk c.write.new.store) c.args.first c.min-len.result (sectors_in c.args.self.now (take (c.from-sector.result * c.min-len.result) c.deref.result.now)) (take (c.from-sector.result * c.min-len.result) c.deref.result.now) n (piece_whole c.args.self.now c.from-sector.result c.min-len.result c.from-sector.ensures c.requires.ready.readable.sizes.sector (least_second c.min-len.result c.args.count (megabyte / c.from-sector.result) c.min-len.ensures) c.deref.result.now (c.deref.ensures.value ∙ c.requires.ready.clear)) (piece_clear c.args.self.now c.from-sector.result c.min-len.result c.from-sector.ensures c.requires.ready.readable.sizes.sector (least_second c.min-len.result c.args.count (megabyte / c.from-sector.result) c.min-len.ensures) c.deref.result.now (c.deref.ensures.value ∙ c.requires.ready.clear)) c.in_ok-write.ensures.done in
+    if_err_map c.zero_run.result _ _ c.zero_run.ensures.broken (join_broken c.args.self.now c.args.self.now c.args.first c.min-len.result c.args.count (least_first c.min-len.result c.args.count (megabyte / c.from-sector.result) c.min-len.ensures) (with_zeros c.args.self.now.tables.parts.sector c.args.first c.min-len.result) (zeros_off c.args.self.now.tables.parts.sector c.args.first c.min-len.result) (g.S.Store.disk c.args.store.now) (g.S.Store.disk c.write.new.store) one c.args.self.now (g.S.Store.disk c.zero_run.new.store))
 
 pub returns-then-count-eq0-clause-done : goal.returns-then-count-eq0-clause-done
 returns-then-count-eq0-clause-done g t c =
@@ -103,5 +106,5 @@ returns-then-count-eq0-clause-done g t c =
 pub write-requires-clause-on_disk : goal.write-requires-clause-on_disk
 write-requires-clause-on_disk g t c =
     let n : sectors_in c.args.self.now (take (c.from-sector.result * c.min-len.result) c.deref.result.now) ≡ c.min-len.result =
-    piece_count c.args.self.now c.from-sector.result c.min-len.result c.from-sector.ensures c.requires.ready.readable.sizes.sector (omega (arith, c.min-len.ensures)) c.deref.result.now (c.deref.ensures.value ∙ c.requires.ready.clear) in
-    omega (arith, n, c.min-len.ensures, c.requires.on_disk)
+    piece_count c.args.self.now c.from-sector.result c.min-len.result c.from-sector.ensures c.requires.ready.readable.sizes.sector (least_second c.min-len.result c.args.count (megabyte / c.from-sector.result) c.min-len.ensures) c.deref.result.now (c.deref.ensures.value ∙ c.requires.ready.clear) in
+    subst (λ k. c.args.first + k ≤ c.args.self.now.tables.parts.sectors) (sym n) (part_on c.args.first c.min-len.result c.args.count c.args.self.now.tables.parts.sectors (least_first c.min-len.result c.args.count (megabyte / c.from-sector.result) c.min-len.ensures) c.requires.on_disk)

@@ -8,6 +8,7 @@ use Rattle.layer_session.specs.Steps.{IsMade, StandFrom}
 use Rattle.layer_session.specs.Taking.{IsBroken, IsDone, IsReadied}
 use Rattle.layer_session.proofs.Joining.{keeps_puts}
 use Rattle.layer_session.proofs.Running.{bytes_all, never_trimmed, none_put, run_broken, run_done, run_moments, run_others, sectors_of, stands_in, whole_in}
+use Rattle.vx_base.proofs.Handed.{failed_for, not_ok, on_ok_any}
 use Rattle.layer_session.proofs.Told.{ok_map, if_err_map}
 use Rattle.layer_session.proofs.file.Layer.put_run.Goals as goal
 
@@ -74,3 +75,39 @@ returns-in-None-clause-moments g c =
 
 pub make_ready-requires-clause-block : goal.make_ready-requires-clause-block
 make_ready-requires-clause-block g c = c.requires.block
+
+pub make_ready-requires-clause-ready : goal.make_ready-requires-clause-ready
+make_ready-requires-clause-ready g c = c.requires.ready
+
+pub make_ready-requires-clause-some : goal.make_ready-requires-clause-some
+make_ready-requires-clause-some g c = c.requires.some
+
+pub make_ready-requires-clause-pages : goal.make_ready-requires-clause-pages
+make_ready-requires-clause-pages g c = c.requires.pages
+
+pub make_ready-requires-clause-room : goal.make_ready-requires-clause-room
+make_ready-requires-clause-room g c = c.requires.room
+
+pub returns-in_err-place-clause-done : goal.returns-in_err-place-clause-done
+returns-in_err-place-clause-done g c = not_ok c.from_residual.result _ c.from_residual.ensures.1 _
+
+pub returns-in_err-place-clause-others : goal.returns-in_err-place-clause-others
+returns-in_err-place-clause-others g c = not_ok c.from_residual.result _ c.from_residual.ensures.1 _
+
+pub returns-in_err-place-clause-leaves : goal.returns-in_err-place-clause-leaves
+returns-in_err-place-clause-leaves g c = not_ok c.from_residual.result _ c.from_residual.ensures.1 _
+
+pub returns-in_err-place-clause-broken : goal.returns-in_err-place-clause-broken
+returns-in_err-place-clause-broken g c = failed_for c.from_residual.result _ c.from_residual.ensures.1 _ c.in_err-place.ensures.broken
+
+pub write-requires-clause-ready : goal.write-requires-clause-ready
+write-requires-clause-ready g c = c.in_ok-place.ensures.ready
+
+pub returns-in-Some-clause-leaves : goal.returns-in-Some-clause-leaves
+returns-in-Some-clause-leaves g c = on_ok_any c.write.result _ c.in_ok-place.ensures.leaves
+
+pub returns-in-None-clause-others : goal.returns-in-None-clause-others
+returns-in-None-clause-others g c = c.in_ok-place.ensures.others
+
+pub returns-in-None-clause-leaves : goal.returns-in-None-clause-leaves
+returns-in-None-clause-leaves g c = c.in_ok-place.ensures.leaves

@@ -1,17 +1,21 @@
-use Rattle.std.proofs.Common.{◌≡◌, ◌≤◌, ◌+◌, rules, sym, subst, ap, ℕ}
+use Rattle.std.proofs.Common.{◌≡◌, ◌≤◌, ◌+◌, ◌/◌, inl, inr, refl, rules, sym, subst, ap, ℕ}
 use Rattle.std.specs.Prelude.{Option}
 use Rattle.store_model.specs.Disk.{WhereBothTold}
 use Rattle.log_write.specs.Sessions.{LogState}
 use Rattle.table_pages.specs.declared.tables.TableParts.{TableParts}
 use Rattle.layer_session.specs.declared.planning.Step.TheVariants.{Make}
 use Rattle.layer_session.specs.Calls.{with_zeros}
-use Rattle.layer_session.specs.Steps.{IsMade}
-use Rattle.layer_session.specs.Taking.{IsReadied}
+use Rattle.layer_session.specs.Steps.{HasRoomFor, IsMade}
+use Rattle.layer_session.specs.Taking.{HasMade, IsReadied, KeepsOthers}
 use Rattle.layer_session.proofs.Joining.{keeps_puts}
 use Rattle.layer_session.proofs.Readying.{make_broken, make_may, make_zeros}
 use Rattle.layer_session.proofs.Running.{run_broken, run_done, run_moments, run_others, stands_in, zeros_all}
-use Rattle.layer_session.proofs.Told.{if_err, if_err_map, ok_map}
-use Rattle.vx_base.proofs.Handed.{err_is}
+use Rattle.layer_session.proofs.Told.{both_map, if_err, if_err_map, ok_map}
+use Rattle.vx_base.proofs.Handed.{err_is, failed_for, not_ok, on_ok_any}
+use Rattle.vhdx_format.specs.Fields.{megabyte}
+use Rattle.layer_session.proofs.Exits.{takes_one}
+use Rattle.layer_session.proofs.Known.{rest_as}
+use Rattle.layer_session.proofs.Sectors.{first_below}
 use Rattle.layer_session.proofs.file.Layer.zero_block.Goals as goal
 
 pub returns-in_err-place-clause-moments : goal.returns-in_err-place-clause-moments
@@ -92,3 +96,72 @@ returns-then-plan-eq4-clause-done g c =
 
 pub make_ready-requires-clause-block : goal.make_ready-requires-clause-block
 make_ready-requires-clause-block g c = c.requires.block
+
+pub make_ready-requires-clause-ready : goal.make_ready-requires-clause-ready
+make_ready-requires-clause-ready g c = c.requires.ready
+
+pub make_ready-requires-clause-some : goal.make_ready-requires-clause-some
+make_ready-requires-clause-some g c = c.requires.some
+
+pub make_ready-requires-clause-pages : goal.make_ready-requires-clause-pages
+make_ready-requires-clause-pages g c = c.requires.pages
+
+pub make_ready-requires-clause-room : goal.make_ready-requires-clause-room
+make_ready-requires-clause-room g c = c.requires.room
+
+pub returns-in_err-place-clause-done : goal.returns-in_err-place-clause-done
+returns-in_err-place-clause-done g c = not_ok c.from_residual-in_err-place.result _ c.from_residual-in_err-place.ensures.1 _
+
+pub returns-in_err-place-clause-others : goal.returns-in_err-place-clause-others
+returns-in_err-place-clause-others g c = not_ok c.from_residual-in_err-place.result _ c.from_residual-in_err-place.ensures.1 _
+
+pub returns-in_err-place-clause-leaves : goal.returns-in_err-place-clause-leaves
+returns-in_err-place-clause-leaves g c = not_ok c.from_residual-in_err-place.result _ c.from_residual-in_err-place.ensures.1 _
+
+pub returns-in_err-place-clause-broken : goal.returns-in_err-place-clause-broken
+returns-in_err-place-clause-broken g c = failed_for c.from_residual-in_err-place.result _ c.from_residual-in_err-place.ensures.1 _ c.in_err-place.ensures.broken
+
+pub zero_run-requires-clause-ready : goal.zero_run-requires-clause-ready
+zero_run-requires-clause-ready g c = c.in_ok-place.ensures.ready
+
+pub returns-in-Some-clause-leaves : goal.returns-in-Some-clause-leaves
+returns-in-Some-clause-leaves g c = on_ok_any c.zero_run.result _ c.in_ok-place.ensures.leaves
+
+pub returns-in-None-clause-others : goal.returns-in-None-clause-others
+returns-in-None-clause-others g c = c.in_ok-place.ensures.others
+
+pub returns-in-None-clause-leaves : goal.returns-in-None-clause-leaves
+returns-in-None-clause-leaves g c = c.in_ok-place.ensures.leaves
+
+pub make_ready-requires-clause-todo : goal.make_ready-requires-clause-todo
+make_ready-requires-clause-todo g c = c.requires.todo
+
+pub make_block-requires-clause-ready : goal.make_block-requires-clause-ready
+make_block-requires-clause-ready g c = c.requires.ready
+
+pub make_block-requires-clause-first : goal.make_block-requires-clause-first
+make_block-requires-clause-first g c = first_below _ _ _ c.requires.some c.requires.block.on_disk
+
+pub make_block-requires-clause-state : goal.make_block-requires-clause-state
+make_block-requires-clause-state g c = inl refl
+
+pub make_block-requires-clause-at_hand : goal.make_block-requires-clause-at_hand
+make_block-requires-clause-at_hand g c = let step : c.args.plan.step ≡ Make = search rules in c.requires.pages.entry (inr (inl step))
+
+pub make_block-requires-clause-room : goal.make_block-requires-clause-room
+make_block-requires-clause-room g c = let step : c.args.plan.step ≡ Make = search rules in subst (λ n. HasRoomFor (c.args.self.now.tables.parts.block / megabyte) n 0 c.args.self.now.space) (takes_one c.args.plan Make step refl) c.requires.room
+
+pub returns-in_err-make_block-clause-done : goal.returns-in_err-make_block-clause-done
+returns-in_err-make_block-clause-done g c = not_ok c.from_residual.result _ c.from_residual.ensures.1 _
+
+pub returns-in_err-make_block-clause-others : goal.returns-in_err-make_block-clause-others
+returns-in_err-make_block-clause-others g c = not_ok c.from_residual.result _ c.from_residual.ensures.1 _
+
+pub returns-in_err-make_block-clause-leaves : goal.returns-in_err-make_block-clause-leaves
+returns-in_err-make_block-clause-leaves g c = not_ok c.from_residual.result _ c.from_residual.ensures.1 _
+
+pub returns-then-plan-eq4-clause-leaves : goal.returns-then-plan-eq4-clause-leaves
+returns-then-plan-eq4-clause-leaves g c = let step : c.args.plan.step ≡ Make = search rules in rest_as c.args.self.now c.make_block.new.self _ _ (sym (takes_one c.args.plan Make step refl)) c.in_ok-make_block.ensures.leaves
+
+pub returns-then-plan-eq4-clause-others : goal.returns-then-plan-eq4-clause-others
+returns-then-plan-eq4-clause-others g c = both_map (HasMade c.args.self.now c.make_block.new.self c.args.first 6 c.in_ok-make_block.field-0) (KeepsOthers c.args.self.now c.make_block.new.self c.args.first) _ _ c.in_ok-make_block.ensures.made (λ t u a b made. made.others)
