@@ -18,7 +18,6 @@ ghost use Rattle.vhdx_app.specs.Worlds.{world};
 ghost use Rattle.vx_base.specs.Names.{IsName};
 
 use crate::chain::{attach, check_lengths, names_of};
-use crate::commands::name_of;
 use crate::merging::merge_refused;
 use crate::refusal::StepsRefusal;
 use crate::refusing::refuse_script;
@@ -29,9 +28,9 @@ use merge_core::Piece;
 use printing::{Status, out_of_memory};
 use script::{Line, ScriptKind, script_from};
 use script_session::{ScriptRun, run_leaf_merge, run_merge, run_script, sector_room};
-use std::alloc::Global;
+use std::alloc::{AllocError, Global};
 use store_model::{Host, Ids, Sink, Source, Store};
-use vx_base::{Name, NoRoom};
+use vx_base::Name;
 
 // Runs a script over the store's files, which are a chain's, in a session without a merge.
 fn run_lent<S: Store, I: Ids>(
@@ -316,16 +315,20 @@ fn mode_of(read_only: bool) -> Mode
 }
 
 // The names of the leaf and of the file that is merged, if one is.
-fn names_in(alloc: Global, leaf: &str, merge: Option<&str>) -> Result<(Name, Option<Name>), NoRoom>
+fn names_in(
+    alloc: Global,
+    leaf: &str,
+    merge: Option<&str>,
+) -> Result<(Name, Option<Name>), AllocError>
     requires leaf { IsName leaf.now }
     requires merge { IfSome (option_map (λ s. s.now) merge) IsName }
     ensures leaf { IfOk result (λ names. names.0 ≡ leaf.now) }
     ensures merge { IfOk result (λ names. names.1 ≡ option_map (λ s. s.now) merge.entry) }
 {
-    let leaf = name_of(alloc, leaf)?;
+    let leaf = Name::from_checked(alloc, leaf)?;
     match merge {
         None => Ok((leaf, None)),
-        Some(merge) => Ok((leaf, Some(name_of(alloc, merge)?))),
+        Some(merge) => Ok((leaf, Some(Name::from_checked(alloc, merge)?))),
     }
 }
 
@@ -353,7 +356,7 @@ pub fn steps<H: Host, I: Ids, S: Source, K: Sink>(
 {
     let (leaf, source) = match names_in(alloc, leaf, merge) {
         Ok(names) => names,
-        Err(NoRoom) => return out_of_memory(out),
+        Err(AllocError) => return out_of_memory(out),
     };
     let script = match script_from(alloc, input, ScriptKind::Steps) {
         Ok(script) => script,
