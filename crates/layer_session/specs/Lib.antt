@@ -17,5 +17,6 @@ pub mod Identifying
 pub mod Masked
 pub mod Laws
 pub mod ByTables
+pub mod Runs
 pub mod ByLayers
 pub mod ByFiles
