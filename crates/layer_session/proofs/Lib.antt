@@ -64,6 +64,7 @@ mod Calling
 mod Clearing
 pub mod Owned
 pub mod Parted
+pub mod RunsRead
 pub mod Readable
 pub mod Tests
 pub mod ReadOnly

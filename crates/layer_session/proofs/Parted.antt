@@ -23,11 +23,9 @@ use Rattle.chain_model.specs.Layers as chain
 use Rattle.layer_session.specs.Calls.{AddsOwned, HasOwned}
 use Rattle.layer_session.specs.Keeping.{IsPartAt}
 use Rattle.layer_session.specs.Reading.{AreStored, layer_by, marked_layer, run_layer}
-use Rattle.layer_session.specs.TablesRead.{AreReadable, HasRead}
-use Rattle.layer_session.proofs.Owned.{from_zero, next_place, owned_alike, owned_set, rest_long, room, rows}
+use Rattle.layer_session.specs.TablesRead.{HasRead}
+use Rattle.layer_session.proofs.Owned.{from_zero, next_place, owned_alike, owned_set, room, rows}
 use Rattle.layer_session.proofs.Places.{in_run}
-use Rattle.layer_session.proofs.Planned.{read_again}
-use Rattle.std.proofs.lemmas.List.{length-append}
 
 module _ (parts : TableParts) (file held : List ℕ) (sizes : HasTables parts) (stored : AreStored (shape_of parts) file held) (first count : ℕ) (on_disk : first + count ≤ parts.sectors)
     (run : first * parts.sector % parts.block + count * parts.sector ≤ parts.block) where
@@ -201,24 +199,3 @@ module _ (old new : Tables) (disk : Disk) (reads : HasRead old new disk) where
   adds_again trace first count at m n a b h =
       subst (λ (t : TableParts). AddsOwned (λ s. layer_sector (shape_of t) (held old.pending (seen (file_of trace t.file))) s) t.sector first count at m n a b) reads.as_held.parts_are
       (subst (λ (x : List Page). AddsOwned (λ s. layer_sector (shape_of new.parts) (held x (seen (file_of trace new.parts.file))) s) new.parts.sector first count at m n a b) reads.as_held.unchanged h)
-
--- what is asked of tables for the sectors behind a run that was read
-pub record ReadsRest (t : Tables) (disk : Disk) (first count : ℕ) (rest : List ℕ) : Type 0 where
-  pub readable : AreReadable t disk
-  pub stored : WhereTold disk.told (λ trace. AreStored (shape_of t.parts) (seen (file_of trace t.parts.file)) (held_file t trace))
-  pub on_disk : first + count ≤ t.parts.sectors
-  pub long : length rest ≡ t.parts.sector * count
-
-pub reads_rest : (old new : Tables) (disk after : Disk) → HasRead old new disk → after ≡ disk → AreReadable old disk → WhereTold disk.told (λ trace. AreStored (shape_of old.parts) (seen (file_of trace old.parts.file)) (held_file old trace))
-    → (first n count : ℕ) (out piece rest : List ℕ) → n ≤ count → first + count ≤ old.parts.sectors → length out ≡ old.parts.sector * count → out ≡ piece ++ rest → length piece ≡ old.parts.sector * n → ReadsRest new after (first + n) (count - n) rest
-reads_rest old new disk after reads stays readable stored first n count out piece rest few on_disk whole parted front =
-    let e : old.parts ≡ new.parts = sym reads.as_held.parts_are in
-    let long : length out ≡ length piece + length rest = ap length parted ∙ length-append piece rest in
-    let back : length rest ≡ old.parts.sector * (count - n) = rest_long old.parts.sector n count (length out) (length rest) few whole (omega (arith, long, front)) in
-    subst (λ (d : Disk). ReadsRest new d (first + n) (count - n) rest) (sym stays)
-    (record {
-      readable = read_again old new disk readable reads;
-      stored = stored_again old new disk reads stored;
-      on_disk = subst (λ (p : TableParts). first + n + (count - n) ≤ p.sectors) e (omega (arith, few, on_disk));
-      long = subst (λ (p : TableParts). length rest ≡ p.sector * (count - n)) e back;
-    })

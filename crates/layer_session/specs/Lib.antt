@@ -19,5 +19,6 @@ pub mod Masked
 pub mod Laws
 pub mod ByTables
 pub mod ChunkBitmaps
+pub mod Runs
 pub mod ByLayers
 pub mod ByFiles

@@ -6,7 +6,8 @@ ghost use Rattle.vhdx_format.specs.Layers.{entry_of, table_entry};
 ghost use Rattle.table_pages.specs.Held.{shape_of};
 ghost use Rattle.layer_session.specs.Planning as spec;
 ghost use Rattle.layer_session.specs.Planning.{AreCounted, IsPlanned};
-ghost use Rattle.layer_session.specs.TablesRead.{AreBitsThere, AreReadable, HasRead};
+ghost use Rattle.layer_session.specs.TablesRead.{AreReadable, HasRead};
+ghost use Rattle.layer_session.specs.Runs.{HaveOneBitmap, LieInOneBlock};
 ghost use Rattle.layer_session.specs.Blocks as blocks;
 ghost use Rattle.layer_session.specs.ByTables.{IsLookedBy, WantsAtMost, WhereHeld};
 
@@ -66,12 +67,9 @@ fn are_few_marked<S: Store>(
     count: u64,
 ) -> Result<bool, StoreFault>
     requires readable { AreReadable tables.old (S.disk store.old) }
-    requires parent { tables.old.parts.parent ≡ true }
     requires some { 0 < count }
     requires few { first % 8 + count ≤ 2048 }
-    requires on_disk { first + count ≤ tables.old.parts.sectors }
-    requires chunk { first % 2 ^ 23 + count ≤ 2 ^ 23 }
-    requires bitmap { AreBitsThere first tables.old (S.disk store.old) }
+    requires bitmap { HaveOneBitmap tables.old (S.disk store.old) first count }
     ensures marked { IfOk result (λ marked. WhereHeld tables.old (S.disk store.old) (λ p file. IsTrue marked ↔ spec.AreMarked p file first count)) }
     ensures reads { HasRead tables.old tables.new (S.disk store.old) }
     ensures stays { OnOk result (S.disk store.new ≡ S.disk store.old) }
@@ -93,10 +91,7 @@ fn are_marked<S: Store>(
     count: u64,
 ) -> Result<bool, StoreFault>
     requires readable { AreReadable tables.old (S.disk store.old) }
-    requires parent { tables.old.parts.parent ≡ true }
-    requires on_disk { first + count ≤ tables.old.parts.sectors }
-    requires chunk { first % 2 ^ 23 + count ≤ 2 ^ 23 }
-    requires bitmap { 0 < count → AreBitsThere first tables.old (S.disk store.old) }
+    requires bitmap { HaveOneBitmap tables.old (S.disk store.old) first count }
     ensures marked { IfOk result (λ marked. WhereHeld tables.old (S.disk store.old) (λ p file. marked ≡ spec.are_marked p file first count)) }
     ensures reads { HasRead tables.old tables.new (S.disk store.old) }
     ensures stays { OnOk result (S.disk store.new ≡ S.disk store.old) }
@@ -112,6 +107,17 @@ fn are_marked<S: Store>(
     are_marked(tables, store, first + len, count - len)
 }
 
+// The plan of a step that marks no sectors: no entry of a sector bitmap block was looked at.
+fn unmarked(step: Step, word: u64) -> Plan
+    ensures { result ≡ record { step = step; word = word; bitmap = 0 } }
+{
+    Plan {
+        step,
+        word,
+        bitmap: 0,
+    }
+}
+
 // What is to be done with sectors that lie in one block.
 fn plan_of<S: Store>(
     tables: &mut Tables,
@@ -121,9 +127,7 @@ fn plan_of<S: Store>(
     trims: bool,
 ) -> Result<Plan, StoreFault>
     requires readable { AreReadable tables.old (S.disk store.old) }
-    requires some { 0 < count }
-    requires on_disk { first + count ≤ tables.old.parts.sectors }
-    requires run { first * tables.old.parts.sector % tables.old.parts.block + count * tables.old.parts.sector ≤ tables.old.parts.block }
+    requires block { LieInOneBlock tables.old.parts first count }
     ensures planned { IfOk result (λ plan. WhereHeld tables.old (S.disk store.old) (λ p file. IsPlanned p file trims first count plan)) }
     ensures reads { HasRead tables.old tables.new (S.disk store.old) }
     ensures stays { OnOk result (S.disk store.new ≡ S.disk store.old) }
@@ -133,11 +137,7 @@ fn plan_of<S: Store>(
     let word = tables.entry(store, entry_index(&parts, first))?;
     if trims && is_whole_block(&parts, first, count) {
         let step = if word == 2 { Step::Leave } else { Step::Drop };
-        return Ok(Plan {
-            step,
-            word,
-            bitmap: 0,
-        });
+        return Ok(unmarked(step, word));
     }
     let state = (word % 8) as u32;
     if parts.parent && state == PARTLY_PRESENT {
@@ -156,11 +156,7 @@ fn plan_of<S: Store>(
     } else {
         Step::Make
     };
-    Ok(Plan {
-        step,
-        word,
-        bitmap: 0,
-    })
+    Ok(unmarked(step, word))
 }
 
 // The same of a partially present block that isn't trimmed whole.
@@ -173,9 +169,7 @@ fn plan_part<S: Store>(
 ) -> Result<Plan, StoreFault>
     requires readable { AreReadable tables.old (S.disk store.old) }
     requires parent { tables.old.parts.parent ≡ true }
-    requires some { 0 < count }
-    requires on_disk { first + count ≤ tables.old.parts.sectors }
-    requires run { first * tables.old.parts.sector % tables.old.parts.block + count * tables.old.parts.sector ≤ tables.old.parts.block }
+    requires block { LieInOneBlock tables.old.parts first count }
     requires state { word % 8 ≡ 7 }
     requires word { WhereHeld tables.old (S.disk store.old) (λ p file. word ≡ table_entry p file (entry_of p first)) }
     ensures planned { IfOk result (λ plan. WhereHeld tables.old (S.disk store.old) (λ p file. IsPlanned p file false first count plan)) }

@@ -7,8 +7,9 @@ ghost use Rattle.store_model.specs.Trace.{file_of};
 ghost use Rattle.vx_base.specs.Fields.{zeros};
 ghost use Rattle.vhdx_format.specs.SectorBitmaps.{bit_of, bit_value};
 ghost use Rattle.layer_session.specs.Keeping.{IsPartAt};
-ghost use Rattle.layer_session.specs.TablesRead.{AreBitsThere, AreReadable, HasRead};
-ghost use Rattle.layer_session.specs.ByTables.{AddsOwnedBy, HasOwnedBy, HasOwnedMarked, HasOwnedRun, HasStored, LieIn, WhereHeld};
+ghost use Rattle.layer_session.specs.TablesRead.{HasRead};
+ghost use Rattle.layer_session.specs.Runs.{HaveOneBitmap, LieInOneBlock, SectorsAreReadable, SectorsFit};
+ghost use Rattle.layer_session.specs.ByTables.{AddsOwnedBy, HasOwnedBy, HasOwnedMarked, HasOwnedRun, LieIn, WhereHeld};
 
 use crate::geometry::{entry_index, offset_in_block, place_in, run_in_block};
 use bat_entry::{BlockSectors, sectors_of};
@@ -32,7 +33,6 @@ fn clear(out: &mut [u8])
 
 // Takes sectors that stand one after the other from byte `place` of the file on, where the file has them; else marks that it
 // doesn't.
-#[tactic(auto, using(crate::proofs::Owned::run_left, crate::proofs::Owned::run_taken))]
 fn take_run<S: Store>(
     store: &mut S,
     parts: &TableParts,
@@ -44,9 +44,7 @@ fn take_run<S: Store>(
     at: usize,
 ) -> Result<(), StoreFault>
     requires there { parts.now.file < (S.disk store.old).files }
-    requires out { length out.old ≡ parts.now.sector * count }
-    requires mask { at + count ≤ 8 * length mask.old }
-    requires ends { at + count < 2 ^ 64 }
+    requires room { SectorsFit count parts.now.sector out.old mask.old at }
     requires inside { has ≡ true → LieIn parts.now (S.disk store.old) place count }
     ensures owned { OnOk result (HasOwnedRun parts.now (S.disk store.old) has place count at mask.old mask.new out.old out.new) }
     ensures stays { OnOk result (S.disk store.new ≡ S.disk store.old) }
@@ -76,9 +74,7 @@ fn own_marked<S: Store>(
     requires there { parts.now.file < (S.disk store.old).files }
     requires bits { skip + count ≤ 8 * length bits.now }
     requires fits { skip + count < 2 ^ 64 }
-    requires out { length out.old ≡ parts.now.sector * count }
-    requires mask { at + count ≤ 8 * length mask.old }
-    requires ends { at + count < 2 ^ 64 }
+    requires room { SectorsFit count parts.now.sector out.old mask.old at }
     requires inside { LieIn parts.now (S.disk store.old) place count }
     requires small { WhereTold (S.disk store.old).told (λ trace. length (seen (file_of trace parts.now.file)) < 2 ^ 64) }
     ensures owned { OnOk result (HasOwnedMarked parts.now (S.disk store.old) bits.now skip place count at mask.old mask.new out.old out.new) }
@@ -116,12 +112,9 @@ pub fn own_missing<S: Store>(
     mask: &mut [u8],
     at: usize,
 ) -> Result<(), StoreFault>
-    requires readable { AreReadable tables.old (S.disk store.old) }
-    requires stored { HasStored tables.old (S.disk store.old) }
+    requires readable { SectorsAreReadable tables.old (S.disk store.old) }
     requires on_disk { first + count ≤ tables.old.parts.sectors }
-    requires out { length out.old ≡ tables.old.parts.sector * count }
-    requires mask { at + count ≤ 8 * length mask.old }
-    requires ends { at + count < 2 ^ 64 }
+    requires room { SectorsFit count tables.old.parts.sector out.old mask.old at }
     ensures added { OnOk result (AddsOwnedBy tables.old (S.disk store.old) first count at mask.old mask.new out.old out.new) }
     ensures reads { HasRead tables.old tables.new (S.disk store.old) }
     ensures stays { OnOk result (S.disk store.new ≡ S.disk store.old) }
@@ -156,12 +149,9 @@ fn add_run<S: Store>(
     mask: &mut [u8],
     at: usize,
 ) -> Result<(), StoreFault>
-    requires readable { AreReadable tables.old (S.disk store.old) }
-    requires stored { HasStored tables.old (S.disk store.old) }
+    requires readable { SectorsAreReadable tables.old (S.disk store.old) }
     requires on_disk { first + count ≤ tables.old.parts.sectors }
-    requires out { length out.old ≡ tables.old.parts.sector * count }
-    requires mask { at + count ≤ 8 * length mask.old }
-    requires ends { at + count < 2 ^ 64 }
+    requires room { SectorsFit count tables.old.parts.sector out.old mask.old at }
     requires all { (i : ℕ) → at ≤ i → i < at + count → bit_of mask.old i ≡ bit_value found }
     ensures added { OnOk result (AddsOwnedBy tables.old (S.disk store.old) first count at mask.old mask.new out.old out.new) }
     ensures reads { HasRead tables.old tables.new (S.disk store.old) }
@@ -185,12 +175,9 @@ fn own_all<S: Store>(
     mask: &mut [u8],
     at: usize,
 ) -> Result<(), StoreFault>
-    requires readable { AreReadable tables.old (S.disk store.old) }
-    requires stored { HasStored tables.old (S.disk store.old) }
+    requires readable { SectorsAreReadable tables.old (S.disk store.old) }
     requires on_disk { first + count ≤ tables.old.parts.sectors }
-    requires out { length out.old ≡ tables.old.parts.sector * count }
-    requires mask { at + count ≤ 8 * length mask.old }
-    requires ends { at + count < 2 ^ 64 }
+    requires room { SectorsFit count tables.old.parts.sector out.old mask.old at }
     ensures owned { OnOk result (HasOwnedBy tables.old (S.disk store.old) first count at mask.old mask.new out.old out.new) }
     ensures reads { HasRead tables.old tables.new (S.disk store.old) }
     ensures stays { OnOk result (S.disk store.new ≡ S.disk store.old) }
@@ -223,14 +210,9 @@ fn own_run<S: Store>(
     mask: &mut [u8],
     at: usize,
 ) -> Result<(), StoreFault>
-    requires readable { AreReadable tables.old (S.disk store.old) }
-    requires stored { HasStored tables.old (S.disk store.old) }
-    requires some { 0 < count }
-    requires on_disk { first + count ≤ tables.old.parts.sectors }
-    requires run { first * tables.old.parts.sector % tables.old.parts.block + count * tables.old.parts.sector ≤ tables.old.parts.block }
-    requires out { length out.old ≡ tables.old.parts.sector * count }
-    requires mask { at + count ≤ 8 * length mask.old }
-    requires ends { at + count < 2 ^ 64 }
+    requires readable { SectorsAreReadable tables.old (S.disk store.old) }
+    requires block { LieInOneBlock tables.old.parts first count }
+    requires room { SectorsFit count tables.old.parts.sector out.old mask.old at }
     ensures owned { OnOk result (HasOwnedBy tables.old (S.disk store.old) first count at mask.old mask.new out.old out.new) }
     ensures reads { HasRead tables.old tables.new (S.disk store.old) }
     ensures stays { OnOk result (S.disk store.new ≡ S.disk store.old) }
@@ -242,16 +224,10 @@ fn own_run<S: Store>(
     match sectors_of(word, parts.parent) {
         BlockSectors::Here => take_run(store, &parts, place, true, count as usize, out, mask, at),
         BlockSectors::Marked => own_part(tables, store, place, first, count, out, mask, at),
-        BlockSectors::Absent => take_run(
-            store,
-            &parts,
-            place,
-            false,
-            count as usize,
-            out,
-            mask,
-            at,
-        ),
+        BlockSectors::Absent => {
+            set_range(mask, at, count as usize, false);
+            Ok(())
+        }
         BlockSectors::Zeros => {
             clear(out);
             set_range(mask, at, count as usize, true);
@@ -271,16 +247,10 @@ fn own_part<S: Store>(
     mask: &mut [u8],
     at: usize,
 ) -> Result<(), StoreFault>
-    requires readable { AreReadable tables.old (S.disk store.old) }
-    requires stored { HasStored tables.old (S.disk store.old) }
-    requires on_disk { first + count ≤ tables.old.parts.sectors }
-    requires out { length out.old ≡ tables.old.parts.sector * count }
-    requires mask { at + count ≤ 8 * length mask.old }
-    requires ends { at + count < 2 ^ 64 }
-    requires parent { tables.old.parts.parent ≡ true }
-    requires chunk { first % 2 ^ 23 + count ≤ 2 ^ 23 }
-    requires bitmap { 0 < count → AreBitsThere first tables.old (S.disk store.old) }
+    requires readable { SectorsAreReadable tables.old (S.disk store.old) }
+    requires bitmap { HaveOneBitmap tables.old (S.disk store.old) first count }
     requires part { 0 < count → WhereHeld tables.old (S.disk store.old) (λ p file. IsPartAt p file first count place) }
+    requires room { SectorsFit count tables.old.parts.sector out.old mask.old at }
     ensures owned { OnOk result (HasOwnedBy tables.old (S.disk store.old) first count at mask.old mask.new out.old out.new) }
     ensures reads { HasRead tables.old tables.new (S.disk store.old) }
     ensures stays { OnOk result (S.disk store.new ≡ S.disk store.old) }
@@ -316,18 +286,12 @@ fn own_few<S: Store>(
     mask: &mut [u8],
     at: usize,
 ) -> Result<(), StoreFault>
-    requires readable { AreReadable tables.old (S.disk store.old) }
-    requires stored { HasStored tables.old (S.disk store.old) }
+    requires readable { SectorsAreReadable tables.old (S.disk store.old) }
     requires some { 0 < count }
     requires few { first % 8 + count ≤ 2048 }
-    requires on_disk { first + count ≤ tables.old.parts.sectors }
-    requires out { length out.old ≡ tables.old.parts.sector * count }
-    requires mask { at + count ≤ 8 * length mask.old }
-    requires ends { at + count < 2 ^ 64 }
-    requires parent { tables.old.parts.parent ≡ true }
-    requires chunk { first % 2 ^ 23 + count ≤ 2 ^ 23 }
-    requires bitmap { AreBitsThere first tables.old (S.disk store.old) }
+    requires bitmap { HaveOneBitmap tables.old (S.disk store.old) first count }
     requires part { WhereHeld tables.old (S.disk store.old) (λ p file. IsPartAt p file first count place) }
+    requires room { SectorsFit count tables.old.parts.sector out.old mask.old at }
     ensures owned { OnOk result (HasOwnedBy tables.old (S.disk store.old) first count at mask.old mask.new out.old out.new) }
     ensures reads { HasRead tables.old tables.new (S.disk store.old) }
     ensures stays { OnOk result (S.disk store.new ≡ S.disk store.old) }

@@ -1,38 +1,13 @@
-use Rattle.std.proofs.Common.{◌≡◌, ◌+◌, ◌≤◌, true, false, ◌-◌, arith, sym, subst}
-use Rattle.layer_session.specs.TablesRead.{AreReadable, HasRead, AreBitsThere}
-use Rattle.layer_session.proofs.Planned.{bits_there_again, marked_then, not_marked, read_again, read_then, same_bitmap}
+use Rattle.std.proofs.Common.{◌≡◌, ◌≤◌, true, false, arith, subst}
+use Rattle.layer_session.specs.TablesRead.{HasRead}
+use Rattle.layer_session.proofs.Choices.{readable_then}
+use Rattle.layer_session.proofs.Planned.{marked_then, not_marked, read_then}
+use Rattle.layer_session.proofs.RunsRead.{bitmap_front, bitmap_rest}
 use Rattle.layer_session.proofs.planning.+are_marked.Goals as goal
 
 pub returns-then-not-branch-clause-marked : goal.returns-then-not-branch-clause-marked
 returns-then-not-branch-clause-marked g t c trace told =
     not_marked _ _ c.args.first c.min-len.result c.args.count (omega arith) (λ all. let is : c.in_ok-are_few_marked.field-0 ≡ true = (c.in_ok-are_few_marked.ensures.marked trace told).1 all in let isnt : c.in_ok-are_few_marked.field-0 ≡ false = c.if-not-branch.true in cc)
-
-pub are_marked-requires : goal.are_marked-requires
-are_marked-requires g t c κs within =
-    let stays = c.in_ok-are_few_marked.ensures.stays in (
-      omega arith,
-      (
-        within.0,
-        (
-          within.1,
-          (
-            subst (AreReadable c.are_few_marked.new.tables) (sym stays) (read_again c.args.tables.now c.are_few_marked.new.tables (g.S.Store.disk c.args.store.now) c.requires.readable c.are_few_marked.ensures.reads),
-            (
-              subst (λ p. p.parent ≡ true) (sym c.are_few_marked.ensures.reads.as_held.parts_are) c.requires.parent,
-              (
-                subst (λ p. c.args.first + c.min-len.result + (c.args.count - c.min-len.result) ≤ p.sectors) (sym c.are_few_marked.ensures.reads.as_held.parts_are) (omega arith),
-                (
-                  omega arith,
-                  λ some. subst (AreBitsThere (c.args.first + c.min-len.result) c.are_few_marked.new.tables) (sym stays)
-                      (bits_there_again c.args.tables.now c.are_few_marked.new.tables (g.S.Store.disk c.args.store.now) (c.args.first + c.min-len.result) c.are_few_marked.ensures.reads
-                      (same_bitmap c.args.tables.now (g.S.Store.disk c.args.store.now) c.args.first (c.args.first + c.min-len.result) (omega arith) (c.requires.bitmap (omega arith)))),
-                ),
-              ),
-            ),
-          ),
-        ),
-      ),
-    )
 
 pub returns-clause-reads : goal.returns-clause-reads
 returns-clause-reads g t c =
@@ -43,3 +18,31 @@ pub returns-clause-marked : goal.returns-clause-marked
 returns-clause-marked g t c =
     marked_then c.args.tables.now c.are_few_marked.new.tables (g.S.Store.disk c.args.store.now) (g.S.Store.disk c.are_few_marked.new.store) c.args.first c.min-len.result c.args.count c.are_marked.result
     c.are_few_marked.ensures.reads c.in_ok-are_few_marked.ensures.stays (omega arith) (λ trace told. (c.in_ok-are_few_marked.ensures.marked trace told).0 c.if-not-branch.false) c.are_marked.ensures.marked
+
+pub are_marked-requires : goal.are_marked-requires
+are_marked-requires g t c κs within =
+    let old = c.args.tables.now in
+    let new = c.are_few_marked.new.tables in
+    let disk = g.S.Store.disk c.args.store.now in
+    let after = g.S.Store.disk c.are_few_marked.new.store in
+    let stays = c.in_ok-are_few_marked.ensures.stays in
+    let few : c.min-len.result ≤ c.args.count = omega arith in (
+      omega arith,
+      (
+        within.0,
+        (
+          within.1,
+          (
+            readable_then old new disk after c.requires.readable c.are_few_marked.ensures.reads stays,
+            bitmap_rest old new disk after c.are_few_marked.ensures.reads stays c.args.first c.min-len.result c.args.count few c.requires.bitmap,
+          ),
+        ),
+      ),
+    )
+
+pub are_few_marked-requires-clause-readable : goal.are_few_marked-requires-clause-readable
+are_few_marked-requires-clause-readable g t c = c.requires.readable
+
+pub are_few_marked-requires-clause-bitmap : goal.are_few_marked-requires-clause-bitmap
+are_few_marked-requires-clause-bitmap g t c =
+    let few : c.min-len.result ≤ c.args.count = omega arith in bitmap_front c.args.tables.now (g.S.Store.disk c.args.store.now) c.args.first c.min-len.result c.args.count few c.requires.bitmap

@@ -127,15 +127,6 @@ run_in_block-len-requires-clause-parts g t c = c.requires.readable.sizes
 pub plan_of-requires-clause-readable : goal.plan_of-requires-clause-readable
 plan_of-requires-clause-readable g t c = c.requires.readable
 
-pub plan_of-requires-clause-some : goal.plan_of-requires-clause-some
-plan_of-requires-clause-some g t c = c.run_in_block-len.ensures.some
-
-pub plan_of-requires-clause-on_disk : goal.plan_of-requires-clause-on_disk
-plan_of-requires-clause-on_disk g t c = few_rows c.args.first c.run_in_block-len.result c.args.count _ c.run_in_block-len.ensures.most c.requires.on_disk
-
-pub plan_of-requires-clause-run : goal.plan_of-requires-clause-run
-plan_of-requires-clause-run g t c = c.run_in_block-len.ensures.inside
-
 pub returns-in_err-plan-clause-looked : goal.returns-in_err-plan-clause-looked
 returns-in_err-plan-clause-looked g t c = not_if_ok c.from_residual.result c.in_err-plan.field-0.0 c.from_residual.ensures.1 _
 
@@ -177,3 +168,10 @@ overflow_sub-count g t c = c.run_in_block-len.ensures.most
 
 pub returns-clause-stays : goal.returns-clause-stays
 returns-clause-stays g t c = c.in_ok-rest.ensures.stays ∙ c.in_ok-plan.ensures.stays
+
+pub plan_of-requires-clause-block : goal.plan_of-requires-clause-block
+plan_of-requires-clause-block g t c = record {
+  some = c.run_in_block-len.ensures.some;
+  on_disk = few_rows c.args.first c.run_in_block-len.result c.args.count _ c.run_in_block-len.ensures.most c.requires.on_disk;
+  run = c.run_in_block-len.ensures.inside;
+}

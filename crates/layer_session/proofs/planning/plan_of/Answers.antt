@@ -1,4 +1,5 @@
-use Rattle.std.proofs.Common.{◌≡◌, ◌≢◌, ◌⊎◌, ◌+◌, ◌*◌, ◌%◌, ◌<◌, ◌≤◌, ◌∙◌, true, false, inl, inr, sym, subst, arith}
+use Rattle.std.proofs.Common.{◌≡◌, ◌⊎◌, Bool, ◌+◌, ◌*◌, ◌%◌, ◌<◌, ◌≤◌, ◌∙◌, true, false, inl, inr, sym, subst, arith}
+use Rattle.layer_session.specs.Runs.{LieInOneBlock}
 use Rattle.layer_session.specs.TablesRead.{HasRead}
 use Rattle.table_pages.specs.Held.{AreTablesIn, HasTables, held_file, shape_of}
 use Rattle.vhdx_format.specs.Layers.{entry_of, table_entry}
@@ -8,15 +9,12 @@ use Rattle.layer_session.proofs.Sectors.{first_below}
 use Rattle.layer_session.proofs.Known.{failed_from, fails_from, held_still, of_parts, state_fits}
 use Rattle.vx_base.proofs.Handed.{failed_for, not_if_ok, not_ok, ok_then}
 use Rattle.layer_session.proofs.planning.plan_of.Goals as goal
-use Rattle.layer_session.proofs.planning.plan_of.Goals.{then-word-eq2, else-word-eq2, else-trims-via-then-trims+else-is_whole_block, else-trims-via-else-trims, else-parts-2-via-then-parts-2+else-state-eq-NOT_PRESENT, else-parts-2-via-else-parts-2}
+use Rattle.layer_session.proofs.planning.plan_of.Goals.{then-state-ge-FULLY_PRESENT, else-state-ge-FULLY_PRESENT, then-word-eq2, else-word-eq2, else-trims-via-then-trims+else-is_whole_block, else-trims-via-else-trims}
 
-pub returns-then-is_whole_block-clause-planned : goal.returns-then-is_whole_block-clause-planned
-returns-then-is_whole_block-clause-planned g c trace told =
-    let whole = sym c.is_whole_block.ensures ∙ c.if-is_whole_block.true in
-    elim c.if-word-eq2.branch [
-      | then-word-eq2 w ↦ rw w.step-is (chosen_leave _ _ _ _ _ _ _ c.entry_index.ensures.index (c.in_ok-word.ensures.entry trace told) c.if-trims.true whole w.if-word-eq2.true)
-      | else-word-eq2 w ↦ rw w.step-is (chosen_drop _ _ _ _ _ _ _ c.entry_index.ensures.index (c.in_ok-word.ensures.entry trace told) c.if-trims.true whole w.if-word-eq2.false)
-    ]
+-- in a file without a parent, or a block that isn't in this state
+alone : (parent : Bool) (Other : Type 0) → ((parent ≡ true) × Other) ⊎ (parent ≡ false) → (parent ≡ false) ⊎ Other
+alone parent Other (inl h) = inr h.1
+alone parent Other (inr h) = inl h
 
 pub plan_part-requires-clause-readable : goal.plan_part-requires-clause-readable
 plan_part-requires-clause-readable g c =
@@ -61,38 +59,11 @@ returns-then-state-eq-NOT_PRESENT-clause-reads g c =
     read_then c.args.tables.now c.entry.new.self c.entry-then-state-eq-NOT_PRESENT.new.self (g.S.Store.disk c.args.store.now) (entry_reads _ _ _ c.entry.ensures.as_held c.entry.ensures.places)
     (subst (HasRead c.entry.new.self c.entry-then-state-eq-NOT_PRESENT.new.self) c.in_ok-word.ensures.stays (entry_reads _ _ _ c.entry-then-state-eq-NOT_PRESENT.ensures.as_held c.entry-then-state-eq-NOT_PRESENT.ensures.places))
 
-pub returns-then-state-ge-FULLY_PRESENT-clause-planned : goal.returns-then-state-ge-FULLY_PRESENT-clause-planned
-returns-then-state-ge-FULLY_PRESENT-clause-planned g c trace told =
-    planned_write c.args.tables.now (g.S.Store.disk c.args.store.now) trace c.args.trims c.args.first c.args.count c.in_ok-word.word c.requires.readable told (omega arith)
-    (subst (λ i. c.in_ok-word.word ≡ table_entry (shape_of c.args.tables.now.parts) (held_file c.args.tables.now trace) i) c.entry_index.ensures.index (c.in_ok-word.ensures.entry trace told))
-    c.if-state-ge-FULLY_PRESENT.true (by_parent c.else-parts.either)
-    (elim c.else-trims.branch [
-      | else-trims-via-then-trims+else-is_whole_block w ↦ both_not c.args.trims _ (inr (sym w.is_whole_block.ensures ∙ w.if-is_whole_block.false))
-      | else-trims-via-else-trims w ↦ both_not c.args.trims _ (inl w.if-trims.false)
-    ])
-  where
-    by_parent : ((c.args.tables.now.parts.parent ≡ true) × (c.in_ok-word.word % 8 ≢ 7)) ⊎ (c.args.tables.now.parts.parent ≡ false) → (c.args.tables.now.parts.parent ≡ false) ⊎ (c.in_ok-word.word % 8 ≢ 7)
-    by_parent (inl h) = inr h.1
-    by_parent (inr h) = inl h
-
-pub returns-else-state-ge-FULLY_PRESENT-clause-planned : goal.returns-else-state-ge-FULLY_PRESENT-clause-planned
-returns-else-state-ge-FULLY_PRESENT-clause-planned g c trace told =
-    chosen_make _ _ c.args.trims _ _ _ _ c.entry_index.ensures.index (c.in_ok-word.ensures.entry trace told)
-    (elim c.else-trims.branch [
-      | else-trims-via-then-trims+else-is_whole_block w ↦ both_not c.args.trims _ (inr (sym w.is_whole_block.ensures ∙ w.if-is_whole_block.false))
-      | else-trims-via-else-trims w ↦ both_not c.args.trims _ (inl w.if-trims.false)
-    ])
-    c.if-state-ge-FULLY_PRESENT.false (by_parent c.else-parts-2.either)
-  where
-    by_parent : ((c.args.tables.now.parts.parent ≡ true) × (c.in_ok-word.word % 8 ≢ 0)) ⊎ (c.args.tables.now.parts.parent ≡ false) → (c.args.tables.now.parts.parent ≡ false) ⊎ (c.in_ok-word.word % 8 ≢ 0)
-    by_parent (inl h) = inr h.1
-    by_parent (inr h) = inl h
-
 pub entry_index-requires-clause-parts : goal.entry_index-requires-clause-parts
 entry_index-requires-clause-parts g c = c.requires.readable.sizes
 
 pub entry_index-requires-clause-sector : goal.entry_index-requires-clause-sector
-entry_index-requires-clause-sector g c = first_below c.args.first c.args.count c.args.tables.now.parts.sectors c.requires.some c.requires.on_disk
+entry_index-requires-clause-sector g c = first_below c.args.first c.args.count c.args.tables.now.parts.sectors c.requires.block.some c.requires.block.on_disk
 
 pub entry-requires-clause-there : goal.entry-requires-clause-there
 entry-requires-clause-there g c = c.requires.readable.there
@@ -122,10 +93,10 @@ pub is_whole_block-requires-clause-parts : goal.is_whole_block-requires-clause-p
 is_whole_block-requires-clause-parts g c = c.requires.readable.sizes
 
 pub is_whole_block-requires-clause-on_disk : goal.is_whole_block-requires-clause-on_disk
-is_whole_block-requires-clause-on_disk g c = c.requires.on_disk
+is_whole_block-requires-clause-on_disk g c = c.requires.block.on_disk
 
 pub is_whole_block-requires-clause-some : goal.is_whole_block-requires-clause-some
-is_whole_block-requires-clause-some g c = c.requires.some
+is_whole_block-requires-clause-some g c = c.requires.block.some
 
 pub returns-then-is_whole_block-clause-reads : goal.returns-then-is_whole_block-clause-reads
 returns-then-is_whole_block-clause-reads g c = entry_reads _ _ _ c.entry.ensures.as_held c.entry.ensures.places
@@ -138,15 +109,6 @@ overflow_cast-state g c = state_fits c.in_ok-word.word
 
 pub plan_part-requires-clause-parent : goal.plan_part-requires-clause-parent
 plan_part-requires-clause-parent g c = of_parts (λ p. p.parent ≡ true) _ _ c.entry.ensures.as_held.parts_are c.if-parts.true
-
-pub plan_part-requires-clause-some : goal.plan_part-requires-clause-some
-plan_part-requires-clause-some g c = c.requires.some
-
-pub plan_part-requires-clause-on_disk : goal.plan_part-requires-clause-on_disk
-plan_part-requires-clause-on_disk g c = of_parts (λ p. c.args.first + c.args.count ≤ p.sectors) _ _ c.entry.ensures.as_held.parts_are c.requires.on_disk
-
-pub plan_part-requires-clause-run : goal.plan_part-requires-clause-run
-plan_part-requires-clause-run g c = of_parts (λ p. c.args.first * p.sector % p.block + c.args.count * p.sector ≤ p.block) _ _ c.entry.ensures.as_held.parts_are c.requires.run
 
 pub plan_part-requires-clause-state : goal.plan_part-requires-clause-state
 plan_part-requires-clause-state g c = c.if-state-eq-PARTLY_PRESENT.true
@@ -169,7 +131,7 @@ pub bitmap_entry_index-requires-clause-parent : goal.bitmap_entry_index-requires
 bitmap_entry_index-requires-clause-parent g c = c.if-parts-2.true
 
 pub bitmap_entry_index-requires-clause-sector : goal.bitmap_entry_index-requires-clause-sector
-bitmap_entry_index-requires-clause-sector g c = first_below c.args.first c.args.count c.args.tables.now.parts.sectors c.requires.some c.requires.on_disk
+bitmap_entry_index-requires-clause-sector g c = first_below c.args.first c.args.count c.args.tables.now.parts.sectors c.requires.block.some c.requires.block.on_disk
 
 pub entry-requires-then-state-eq-NOT_PRESENT-clause-there : goal.entry-requires-then-state-eq-NOT_PRESENT-clause-there
 entry-requires-then-state-eq-NOT_PRESENT-clause-there g c =
@@ -196,14 +158,43 @@ returns-in_err-bitmap-clause-err g c =
 pub returns-then-state-eq-NOT_PRESENT-clause-stays : goal.returns-then-state-eq-NOT_PRESENT-clause-stays
 returns-then-state-eq-NOT_PRESENT-clause-stays g c = c.in_ok-bitmap.ensures.stays ∙ c.in_ok-word.ensures.stays
 
-pub returns-then-state-ge-FULLY_PRESENT-clause-reads : goal.returns-then-state-ge-FULLY_PRESENT-clause-reads
-returns-then-state-ge-FULLY_PRESENT-clause-reads g c = entry_reads _ _ _ c.entry.ensures.as_held c.entry.ensures.places
+pub plan_part-requires-clause-block : goal.plan_part-requires-clause-block
+plan_part-requires-clause-block g c = of_parts (λ p. LieInOneBlock p c.args.first c.args.count) _ _ c.entry.ensures.as_held.parts_are c.requires.block
 
-pub returns-then-state-ge-FULLY_PRESENT-clause-stays : goal.returns-then-state-ge-FULLY_PRESENT-clause-stays
-returns-then-state-ge-FULLY_PRESENT-clause-stays g c = c.in_ok-word.ensures.stays
+pub returns-then-is_whole_block-clause-planned : goal.returns-then-is_whole_block-clause-planned
+returns-then-is_whole_block-clause-planned g c trace told =
+    let whole = sym c.is_whole_block.ensures ∙ c.if-is_whole_block.true in
+    rw c.unmarked.ensures (
+    elim c.if-word-eq2.branch [
+      | then-word-eq2 w ↦ rw w.step-is (chosen_leave _ _ _ _ _ _ _ c.entry_index.ensures.index (c.in_ok-word.ensures.entry trace told) c.if-trims.true whole w.if-word-eq2.true)
+      | else-word-eq2 w ↦ rw w.step-is (chosen_drop _ _ _ _ _ _ _ c.entry_index.ensures.index (c.in_ok-word.ensures.entry trace told) c.if-trims.true whole w.if-word-eq2.false)
+    ])
 
-pub returns-else-state-ge-FULLY_PRESENT-clause-reads : goal.returns-else-state-ge-FULLY_PRESENT-clause-reads
-returns-else-state-ge-FULLY_PRESENT-clause-reads g c = entry_reads _ _ _ c.entry.ensures.as_held c.entry.ensures.places
+pub returns-clause-reads : goal.returns-clause-reads
+returns-clause-reads g c = entry_reads _ _ _ c.entry.ensures.as_held c.entry.ensures.places
 
-pub returns-else-state-ge-FULLY_PRESENT-clause-stays : goal.returns-else-state-ge-FULLY_PRESENT-clause-stays
-returns-else-state-ge-FULLY_PRESENT-clause-stays g c = c.in_ok-word.ensures.stays
+pub returns-clause-stays : goal.returns-clause-stays
+returns-clause-stays g c = c.in_ok-word.ensures.stays
+
+pub returns-clause-planned : goal.returns-clause-planned
+returns-clause-planned g c trace told =
+    rw c.unmarked-2.ensures (
+    elim c.if-state-ge-FULLY_PRESENT.branch [
+      | then-state-ge-FULLY_PRESENT w ↦ rw w.step-is (
+          planned_write c.args.tables.now (g.S.Store.disk c.args.store.now) trace c.args.trims c.args.first c.args.count c.in_ok-word.word c.requires.readable told
+          (first_below c.args.first c.args.count c.args.tables.now.parts.sectors c.requires.block.some c.requires.block.on_disk)
+          (subst (λ i. c.in_ok-word.word ≡ table_entry (shape_of c.args.tables.now.parts) (held_file c.args.tables.now trace) i) c.entry_index.ensures.index (c.in_ok-word.ensures.entry trace told))
+          w.if-state-ge-FULLY_PRESENT.true (alone _ _ c.else-parts.either) (
+          elim c.else-trims.branch [
+            | else-trims-via-then-trims+else-is_whole_block v ↦ both_not c.args.trims _ (inr (sym v.is_whole_block.ensures ∙ v.if-is_whole_block.false))
+            | else-trims-via-else-trims v ↦ both_not c.args.trims _ (inl v.if-trims.false)
+          ])
+      )
+      | else-state-ge-FULLY_PRESENT w ↦ rw w.step-is (
+          chosen_make _ _ c.args.trims _ _ _ _ c.entry_index.ensures.index (c.in_ok-word.ensures.entry trace told) (
+          elim c.else-trims.branch [
+            | else-trims-via-then-trims+else-is_whole_block v ↦ both_not c.args.trims _ (inr (sym v.is_whole_block.ensures ∙ v.if-is_whole_block.false))
+            | else-trims-via-else-trims v ↦ both_not c.args.trims _ (inl v.if-trims.false)
+          ]) w.if-state-ge-FULLY_PRESENT.false (alone _ _ c.else-parts-2.either)
+      )
+    ])

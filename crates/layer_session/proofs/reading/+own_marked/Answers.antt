@@ -3,10 +3,11 @@ use Rattle.store_model.specs.File.{seen}
 use Rattle.store_model.specs.Trace.{file_of}
 use Rattle.layer_session.specs.Calls.{HasOwned}
 use Rattle.layer_session.specs.Reading.{marked_layer}
-use Rattle.layer_session.proofs.Owned.{marked_joined, next_place, rest_inside, rest_long}
+use Rattle.layer_session.proofs.Owned.{marked_joined, next_place, rest_inside}
 use Rattle.store_model.specs.Disk.{Disk}
 use Rattle.vx_base.proofs.Handed.{failed_for, not_ok, ok_then}
-use Rattle.layer_session.proofs.Handing.{fails_then, few_rows, front_in, front_within, none_owned, stays_then}
+use Rattle.layer_session.proofs.Handing.{fails_then, front_in, front_within, none_owned, stays_then}
+use Rattle.layer_session.proofs.RunsRead.{fit_front, fit_rest}
 use Rattle.layer_session.proofs.reading.+own_marked.Goals as goal
 
 pub returns-clause-owned : goal.returns-clause-owned
@@ -20,7 +21,7 @@ returns-clause-owned g n c =
     let next = next_place c.saturating_add.result c.args.place z run.count c.args.count _ c.saturating_add.ensures c.first_run-run.ensures.most (c.requires.inside t told) (c.requires.small t told) in
     subst (λ (x : List ℕ). HasOwned (marked_layer c.args.bits.now c.args.skip file c.args.place z) z 0 c.args.count c.args.at c.args.mask.now c.own_marked.new.mask x (c.take_run.new.out ++ c.own_marked.new.out)) (sym piece.value)
     (marked_joined c.args.bits.now file c.args.place c.saturating_add.result z c.args.skip run.count c.args.count c.args.at run.set c.args.mask.now c.take_run.new.mask c.own_marked.new.mask
-    c.split_at_mut-piece.result.0.now c.take_run.new.out c.split_at_mut-piece.result.1.now c.own_marked.new.out c.first_run-run.ensures.most c.first_run-run.ensures.same next piece.front_len c.requires.mask
+    c.split_at_mut-piece.result.0.now c.take_run.new.out c.split_at_mut-piece.result.1.now c.own_marked.new.out c.first_run-run.ensures.most c.first_run-run.ensures.same next piece.front_len c.requires.room.bits
     (c.in_ok-take_run.ensures.owned t told) (owned t (ap (λ d. d.told) c.in_ok-take_run.ensures.stays ∙ told))))
     c.own_marked.ensures.owned
 
@@ -32,8 +33,7 @@ own_marked-requires g n c κs within =
     let piece = c.split_at_mut-piece.ensures in
     let front = c.split_at_mut-piece.result.0.now in
     let back = c.split_at_mut-piece.result.1.now in
-    let stays = sym c.in_ok-take_run.ensures.stays in
-    let split : z * run.count + length back ≡ length c.args.out.now = (let v = ap length piece.value in let f = piece.front_len in omega (arith, v, f, length-append front back)) in (
+    let stays = sym c.in_ok-take_run.ensures.stays in (
       omega (arith, few, c.first_run-run.ensures.some),
       (
         within.0,
@@ -46,20 +46,14 @@ own_marked-requires g n c κs within =
               (
                 omega (arith, few, c.requires.fits),
                 (
-                  rest_long z run.count c.args.count (length c.args.out.now) (length back) few c.requires.out split,
+                  fit_rest c.args.count run.count z c.args.out.now front back c.args.mask.now c.take_run.new.mask c.args.at few piece.value piece.front_len c.take_run.auto.mask c.requires.room,
                   (
-                    omega arith,
-                    (
-                      omega (arith, few, c.requires.ends),
-                      (
-                        λ t told.
-                            let before = ap (λ (d : Disk). d.told) stays ∙ told in
-                            let within = c.requires.inside t before in
-                            rest_inside c.saturating_add.result c.args.place z run.count c.args.count _
-                            (next_place c.saturating_add.result c.args.place z run.count c.args.count _ c.saturating_add.ensures few within (c.requires.small t before)) few within,
-                        λ t told. c.requires.small t (ap (λ (d : Disk). d.told) stays ∙ told),
-                      ),
-                    ),
+                    λ t told.
+                        let before = ap (λ (d : Disk). d.told) stays ∙ told in
+                        let within = c.requires.inside t before in
+                        rest_inside c.saturating_add.result c.args.place z run.count c.args.count _
+                        (next_place c.saturating_add.result c.args.place z run.count c.args.count _ c.saturating_add.ensures few within (c.requires.small t before)) few within,
+                    λ t told. c.requires.small t (ap (λ (d : Disk). d.told) stays ∙ told),
                   ),
                 ),
               ),
@@ -97,19 +91,17 @@ pub first_run-run-requires-clause-fits : goal.first_run-run-requires-clause-fits
 first_run-run-requires-clause-fits g n c = c.requires.fits
 
 pub split_at_mut-piece-requires : goal.split_at_mut-piece-requires
-split_at_mut-piece-requires g n c = front_in c.args.parts.now.sector c.args.parts.now.sector c.first_run-run.result.count c.args.count (length c.args.out.now) refl c.first_run-run.ensures.most c.requires.out
+split_at_mut-piece-requires g n c = front_in c.args.parts.now.sector c.args.parts.now.sector c.first_run-run.result.count c.args.count (length c.args.out.now) refl c.first_run-run.ensures.most c.requires.room.bytes
 
 pub take_run-requires-clause-there : goal.take_run-requires-clause-there
 take_run-requires-clause-there g n c = c.requires.there
-
-pub take_run-requires-clause-out : goal.take_run-requires-clause-out
-take_run-requires-clause-out g n c = c.split_at_mut-piece.ensures.front_len
-
-pub take_run-requires-clause-mask : goal.take_run-requires-clause-mask
-take_run-requires-clause-mask g n c = few_rows c.args.at (c.first_run-run.result.count) c.args.count _ c.first_run-run.ensures.most c.requires.mask
 
 pub take_run-requires-clause-inside : goal.take_run-requires-clause-inside
 take_run-requires-clause-inside g n c = λ yes t told. front_within c.args.place c.args.parts.now.sector c.first_run-run.result.count c.args.count _ c.first_run-run.ensures.most (c.requires.inside t told)
 
 pub overflow_sub-count : goal.overflow_sub-count
 overflow_sub-count g n c = c.first_run-run.ensures.most
+
+pub take_run-requires-clause-room : goal.take_run-requires-clause-room
+take_run-requires-clause-room g n c =
+    fit_front c.args.count c.first_run-run.result.count c.args.parts.now.sector c.args.out.now c.split_at_mut-piece.result.0.now c.args.mask.now c.args.at c.first_run-run.ensures.most c.split_at_mut-piece.ensures.front_len c.requires.room
