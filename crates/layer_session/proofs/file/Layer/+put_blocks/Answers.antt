@@ -115,5 +115,5 @@ pub split_at-requires : goal.split_at-requires
 split_at-requires g t c = front_in c.from.result c.args.self.now.tables.parts.sector c.run_in_block-len.result c.args.count (length c.args.bytes.now) c.from.ensures c.run_in_block-len.ensures.most c.requires.whole
 
 pub put_run-requires-clause-whole : goal.put_run-requires-clause-whole
-put_run-requires-clause-whole g t c = 
+put_run-requires-clause-whole g t c =
     front_whole c.args.self.now.tables.parts.sector c.run_in_block-len.result c.args.count c.run_in_block-len.ensures.most c.args.bytes.now c.split_at.result.0.now c.requires.whole (c.split_at.ensures.front ∙ ap (λ n. take n c.args.bytes.now) (ap (λ n. n * c.run_in_block-len.result) c.from.ensures))

@@ -1,4 +1,4 @@
-use Rattle.std.proofs.Common.{◌≡◌, ◌+◌, ◌-◌, ◌*◌, ◌%◌, ◌<◌, ◌≤◌, ℕ, Bool, true, false, arith, refl, sym, subst, ap, ◌∙◌, length, take, drop, lt_of_lt_of_le}
+use Rattle.std.proofs.Common.{◌≡◌, ◌+◌, ◌-◌, ◌*◌, ◌%◌, ◌≤◌, arith, refl, sym, subst, ap, ◌∙◌, length, take, drop, lt_of_lt_of_le}
 use Rattle.layer_session.proofs.Leading.{keeps_now}
 use Rattle.vhdx_format.specs.Layers.{HasSizes}
 use Rattle.store_model.specs.Disk.{WhereTold}

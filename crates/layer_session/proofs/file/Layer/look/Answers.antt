@@ -58,7 +58,7 @@ pub look-requires-clause-on_disk : goal.look-requires-clause-on_disk
 look-requires-clause-on_disk g c = c.requires.on_disk
 
 pub look-requires-clause-few : goal.look-requires-clause-few
-look-requires-clause-few g c = 
+look-requires-clause-few g c =
     few_in _ _ (few_in_call (shape_of c.args.self.now.tables.parts) (record { sector = c.requires.ready.readable.sizes.sector; block = c.requires.ready.readable.sizes.block }) c.args.first c.args.count c.requires.few)
     (ap length c.as_mut_slice-plans.ensures.value ∙ c.requires.ready.plans)
 
