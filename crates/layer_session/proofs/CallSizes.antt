@@ -1,5 +1,5 @@
 -- How many blocks the sectors of one call lie in.
-use Rattle.std.proofs.Common.{◌≡◌, ℕ, zero, suc, ◌+◌, ◌-◌, ◌*◌, ◌/◌, ◌%◌, ◌^◌, ◌<◌, ◌≤◌, ◌⊎◌, ap, subst, ◌∙◌, arith, inl, inr, mul_comm, if◌then◌else◌}
+use Rattle.std.proofs.Common.{◌≡◌, ℕ, zero, suc, ◌+◌, ◌-◌, ◌*◌, ◌/◌, ◌^◌, ◌<◌, ◌≤◌, ◌⊎◌, ap, subst, ◌∙◌, arith, inl, inr, mul_comm, if◌then◌else◌}
 use Rattle.std.proofs.Math.Nat.{add-mul, mul-le-mul_right, mul_assoc}
 use Rattle.std.proofs.lemmas.Bool.{cases_lt, ne_eqb}
 use Rattle.std.proofs.lemmas.Nat.{div-add-mod', div_below, mod_below}

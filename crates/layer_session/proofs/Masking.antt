@@ -4,13 +4,10 @@ use Rattle.std.proofs.lemmas.Bool.{and_parts, eqb-true, or_parts}
 use Rattle.std.specs.Prelude.{Err, IfErr, Ok, Result}
 use Rattle.vx_base.specs.Fields.{bytes_at}
 use Rattle.vhdx_format.specs.SectorBitmaps.{bit_of, bit_value}
-use Rattle.store_model.specs.Cause.{RoseAt}
 use Rattle.store_model.specs.Disk.{Disk, WhereBothTold}
-use Rattle.store_model.specs.Plans.{FailsToChange}
 use Rattle.store_model.specs.Trace.{Trace}
-use Rattle.store_model.specs.declared.fault.StoreFault.{StoreFault}
 use Rattle.table_pages.specs.declared.tables.TableParts.{TableParts}
-use Rattle.chain_model.specs.Images.{Placed, Shows}
+use Rattle.chain_model.specs.Images.{Placed}
 use Rattle.chain_model.specs.Layers as chain
 use Rattle.chain_model.specs.PhaseLaws.{loosened}
 use Rattle.chain_model.specs.Sessions.{ShowsFile}

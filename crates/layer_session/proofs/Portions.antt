@@ -1,5 +1,5 @@
 -- A portion of a call, its first sectors, and the rest behind it.
-use Rattle.std.proofs.Common.{◌≡◌, ℕ, zero, suc, ◌+◌, ◌-◌, ◌^◌, ◌<◌, ◌≤◌, arith}
+use Rattle.std.proofs.Common.{◌≡◌, ℕ, zero, suc, ◌+◌, ◌-◌, ◌^◌, ◌<◌, ◌≤◌, Fits, w64, arith}
 use Rattle.std.specs.Prelude.{min}
 use Rattle.layer_session.proofs.Joining.{IsOutside, part_outside}
 
@@ -33,3 +33,14 @@ front_outside first count len fits = part_outside first count first len (omega a
 -- a place behind another in a file is a number
 pub place_behind : (next place long bytes : ℕ) → next ≡ min (place + long) (2 ^ 64 - 1) → long ≡ bytes → place + bytes ≤ 2 ^ 63 → next ≡ place + bytes
 place_behind next place long bytes is same low = omega (arith, is, same, low)
+
+-- as many plans as a layer has
+pub few_plans : (len : ℕ) → len ≡ 257 → len < 2 ^ 16
+few_plans len is = omega (arith, is)
+
+-- numbers that fit
+pub few_fit : (n : ℕ) → n ≤ 2 ^ 46 → Fits w64 n
+few_fit n few = omega (arith, few)
+
+pub part_fits : (at len count : ℕ) → len ≤ count → at + count < 2 ^ 64 → Fits w64 (at + len)
+part_fits at len count fits end = omega (arith, fits, end)

@@ -1,5 +1,6 @@
 -- Runs of sectors, read one after the other: what is asked for the first of them, and then for those behind it.
-use Rattle.std.proofs.Common.{◌≡◌, ℕ, ◌+◌, ◌-◌, ◌*◌, ◌/◌, ◌%◌, ◌^◌, ◌<◌, ◌≤◌, true, List, ◌++◌, length, sym, ap, subst, ◌∙◌, arith}
+use Rattle.std.proofs.Common.{◌≡◌, ◌≢◌, ℕ, ◌+◌, ◌-◌, ◌*◌, ◌/◌, ◌%◌, ◌^◌, ◌<◌, ◌≤◌, true, Fits, w64, List, ◌++◌, length, sym, ap, subst, ◌∙◌, arith}
+use Rattle.std.specs.Int.{div_ceil}
 use Rattle.std.specs.Prelude.{min}
 use Rattle.std.proofs.lemmas.List.{length-append}
 use Rattle.store_model.specs.Disk.{Disk, WhereTold}
@@ -8,24 +9,36 @@ use Rattle.store_model.specs.Trace.{file_of}
 use Rattle.table_pages.specs.declared.tables.TableParts.{TableParts}
 use Rattle.table_pages.specs.declared.tables.Tables.{Tables}
 use Rattle.table_pages.specs.Held.{HasBitmap, IsAsHeld, KeepsWithinTables, bitmap_place, held_file}
+use Rattle.chain_model.specs.Layers as chain
 use Rattle.layer_session.specs.ByTables.{WhereHeld}
+use Rattle.layer_session.specs.Calls.{AddsOwned}
 use Rattle.layer_session.specs.Keeping.{IsPartAt}
 use Rattle.layer_session.specs.Runs.{HaveOneBitmap, SectorsAreReadable, SectorsFit}
 use Rattle.layer_session.specs.TablesRead.{AreBitsThere, AreReadable, HasRead}
 use Rattle.layer_session.proofs.Handing.{few_rows}
-use Rattle.layer_session.proofs.Owned.{rest_long}
+use Rattle.layer_session.proofs.Owned.{adds_none, rest_long}
 use Rattle.layer_session.proofs.Parted.{part_again, part_front, part_rest, stored_again}
 use Rattle.layer_session.proofs.Planned.{bits_reads, bits_there_again, has_bitmap, read_again, same_bitmap}
 
 -- ---- numbers
 
+-- no number of sectors but none
+pub not_none : (n : ℕ) → n ≢ 0 → 0 < n
+not_none n h = omega (arith, h)
+
+pub rest_smaller : (len count n : ℕ) → count ≡ n → 0 < len → len ≤ count → count - len < n
+rest_smaller len count n is some few = omega (arith, is, some, few)
+
+pub end_at : (at len count : ℕ) → len ≤ count → at + count < 2 ^ 64 → Fits w64 (at + len)
+end_at at len count few ends = omega (arith, few, ends)
+
 fewer_end : (at len count : ℕ) → len ≤ count → at + count < 2 ^ 64 → at + len < 2 ^ 64
 fewer_end at len count few ends = omega (arith, few, ends)
 
-rest_rows : (at len count most : ℕ) → len ≤ count → at + count ≤ most → at + len + (count - len) ≤ most
+pub rest_rows : (at len count most : ℕ) → len ≤ count → at + count ≤ most → at + len + (count - len) ≤ most
 rest_rows at len count most few inside = omega (arith, few, inside)
 
-rest_end : (at len count : ℕ) → len ≤ count → at + count < 2 ^ 64 → at + len + (count - len) < 2 ^ 64
+pub rest_end : (at len count : ℕ) → len ≤ count → at + count < 2 ^ 64 → at + len + (count - len) < 2 ^ 64
 rest_end at len count few ends = omega (arith, few, ends)
 
 parted : (total front long back : ℕ) → total ≡ long + back → long ≡ front → front + back ≡ total
@@ -45,6 +58,11 @@ rest_chunk first len count few chunk = omega (arith, few, chunk)
 
 one_chunk : (first len count : ℕ) → len < count → first % 2 ^ 23 + count ≤ 2 ^ 23 → first / 2 ^ 23 ≡ (first + len) / 2 ^ 23
 one_chunk first len count less chunk = omega (arith, less, chunk)
+
+-- ---- none
+
+pub none_added : (l : chain.Layer) (z first count at : ℕ) (m a : List ℕ) → count ≡ 0 → AddsOwned l z first count at m m a a
+none_added l z first count at m a e = subst (λ n. AddsOwned l z first n at m m a a) (sym e) (adds_none l z first at m a)
 
 -- ---- the slices that sectors are read into
 
@@ -111,6 +129,31 @@ bitmap_rest old new disk after reads stays first len count few h =
     })
 
 -- so few that their bits are read at once: from that of a byte's first sector on
+module _ (first count len : ℕ) (is : len ≡ min count (2048 - first % 8)) where
+  pub once_few : len ≤ count
+  once_few = omega (arith, is)
+
+  pub once_some : 0 < count → 0 < len
+  once_some some = omega (arith, is, some)
+
+  pub once_bits : first % 8 + len ≤ 2048
+  once_bits = omega (arith, is)
+
+pub bytes_few : (first count bytes : ℕ) → bytes ≡ div_ceil (first % 8 + count) 8 → first % 8 + count ≤ 2048 → bytes ≤ 256
+bytes_few first count bytes is few = omega (arith, is, few)
+
+pub byte_small : (first : ℕ) → first % 8 ≤ 2048
+byte_small first = omega arith
+
+pub byte_before : (first : ℕ) → first % 8 ≤ first
+byte_before first = omega arith
+
+pub skip_fits : (first count : ℕ) → first % 8 + count ≤ 2048 → Fits w64 (first % 8 + count)
+skip_fits first count few = omega (arith, few)
+
+pub skip_small : (first count : ℕ) → first % 8 + count ≤ 2048 → first % 8 + count < 2 ^ 64
+skip_small first count few = omega (arith, few)
+
 pub byte_begins : (first : ℕ) → (first - first % 8) % 8 ≡ 0
 byte_begins first = omega arith
 

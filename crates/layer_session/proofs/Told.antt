@@ -3,7 +3,7 @@ use Rattle.std.proofs.Common.{◌≡◌, Option, Some, None, refl, subst}
 use Rattle.store_model.specs.Disk.{WhereBothTold, WhereTold, told_after}
 use Rattle.store_model.specs.File.{Op}
 use Rattle.store_model.specs.Trace.{Trace, with_change}
-use Rattle.std.specs.Prelude.{ℕ, Result, Ok, Err, OnOk, OnErr, IfErr}
+use Rattle.std.specs.Prelude.{IsOk, ℕ, Result, Ok, Err, OnOk, OnErr, IfErr}
 
 -- one change
 pub both_changed : (R : Trace → Trace → Type 0) (n : ℕ) (op : Op) (a : Option Trace) → WhereTold a (λ t. R t (with_change n op t)) → WhereBothTold R a (told_after n op a)
@@ -48,6 +48,11 @@ told_on R P Q a b p r f = told_from R P Q a b p r (λ t u e. f t u)
 pub on_err : {T E : Type 0} (r : Result T E) (P : Type 0) → P → OnErr r P
 on_err (Ok x) P p = tt
 on_err (Err e) P p = p
+
+-- of an answer that is sure
+pub sure_ok : {T E P : Type 0} (r : Result T E) → IsOk r → OnOk r P → P
+sure_ok (Ok x) is p = p
+sure_ok (Err e) is p = let never = is in cc
 
 pub ok_map : {T E : Type 0} (r : Result T E) (P Q : Type 0) → OnOk r P → (P → Q) → OnOk r Q
 ok_map (Ok x) P Q p f = f p

@@ -4,15 +4,15 @@ use Rattle.std.specs.Prelude.{Err, Ok, OnErr, OnOk, Result, is_ok, is_some, nat_
 use Rattle.std.specs.Option.{option_or}
 use Rattle.std.proofs.Math.Nat.{add-mul, div-eq_of_lt-le}
 use Rattle.std.proofs.lemmas.Bool.{and_from, cases_lt, le-leb, lt-ltb}
-use Rattle.std.proofs.lemmas.Nat.{div-add-mod', mod_below}
+use Rattle.std.proofs.lemmas.Nat.{div-add-mod', mod_below, pow-add}
 use Rattle.std.proofs.lemmas.List.{drop-append-le, drop-take, length-drop, take-append-le, take-take}
 use Rattle.vhdx_format.proofs.Placed.{bytes_within}
 use Rattle.vx_base.specs.Fields.{bytes_at}
 use Rattle.vhdx_format.specs.SectorBitmaps.{HasRunSet, bit_of, is_within}
 use Rattle.vx_base.specs.declared.parts.Geometry.{Geometry}
-use Rattle.vhdx_format.specs.AllocationTables.{IsSectorSize}
+use Rattle.vhdx_format.specs.AllocationTables.{IsBlockSize, IsSectorSize}
 use Rattle.vhdx_format.specs.Layers.{Shape}
-use Rattle.vhdx_format.proofs.SizeLemmas.{sector_cases}
+use Rattle.vhdx_format.proofs.SizeLemmas.{block_least, block_power, sector_cases}
 use Rattle.store_model.specs.Disk.{Disk, WhereBothTold}
 use Rattle.store_model.specs.Trace.{Trace}
 use Rattle.chain_model.specs.Layers as chain
@@ -25,6 +25,7 @@ use Rattle.layer_session.specs.Masked.{HasPutNamed, HoldsUnnamed, PutsNamed, is_
 use Rattle.layer_session.specs.declared.file.Layer.{Layer}
 use Rattle.layer_session.proofs.Alike.{not_true}
 use Rattle.layer_session.proofs.Beside.{among}
+use Rattle.layer_session.proofs.BlockRuns.{rest_of}
 use Rattle.layer_session.proofs.Payload.{within}
 use Rattle.layer_session.specs.declared.file.LayerFault.{LayerFault}
 use Rattle.layer_session.specs.declared.file.LayerFault.TheVariants.{FileFull, Write, Read as ReadFault}
@@ -203,3 +204,16 @@ ok_filled (Err x) filled e = tt
 pub err_empty : {T E : Type 0} (r : Result T E) (filled : Bool) → filled ≡ is_ok r → OnErr r (filled ≡ false)
 err_empty (Ok x) filled e = tt
 err_empty (Err x) filled e = e
+
+-- a piece's sectors lie in one block, which has some stripes whole
+pub piece_in_block : (z block stripe first count : ℕ) → IsBlockSize block → first * z ≡ stripe * 2 ^ 20 → z * count ≤ 2 ^ 20 → first * z % block + count * z ≤ block
+piece_in_block z block stripe first count sized place few =
+    let b = block_power block sized in
+    let per : ℕ = 2 ^ b.power in
+    let is : block ≡ per * 2 ^ 20 = b.is ∙ pow-add 2 20 b.power ∙ mul_comm (2 ^ 20) per in
+    let any : 0 < per = omega (arith, is, block_least block sized) in
+    let rest : stripe * 2 ^ 20 % block ≡ stripe % per * 2 ^ 20 = rest_of (2 ^ 20) block per (record { block_is = is; some = omega arith; any = any }) stripe in
+    let begins : first * z % block ≡ stripe % per * 2 ^ 20 = ap (λ n. n % block) place ∙ rest in
+    let below : stripe % per < per = mod_below stripe per any in
+    let swap : z * count ≡ count * z = mul_comm z count in
+    omega (arith, begins, below, is, swap, few)

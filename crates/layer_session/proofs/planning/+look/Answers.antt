@@ -15,6 +15,9 @@ use Rattle.table_pages.specs.declared.tables.TableParts.{TableParts}
 use Rattle.vhdx_format.specs.Layers.{HasSizes}
 use Rattle.vx_base.proofs.Handed.{failed_for, not_if_ok, not_ok}
 use Rattle.layer_session.proofs.Handing.{fails_on, few_rows}
+use Rattle.layer_session.proofs.Known.{end_fits}
+use Rattle.layer_session.proofs.RunsRead.{not_none, rest_rows, rest_smaller}
+use Rattle.layer_session.proofs.Sectors.{first_below}
 use Rattle.layer_session.proofs.planning.+look.Goals as goal
 
 pub returns-then-count-eq0-clause-looked : goal.returns-then-count-eq0-clause-looked
@@ -26,7 +29,7 @@ with_plan-requires g t c =
     let h : HasSizes (shape_of parts) = record { sector = c.requires.readable.sizes.sector; block = c.requires.readable.sizes.block } in
     let len = c.run_in_block-len.result in
     let wants = subst (λ (p : TableParts). WantsAtMost (blocks.blocks_of (shape_of p) (c.args.first + len) (c.args.count - len)) c.in_ok-rest.rest) c.plan_of.ensures.reads.as_held.parts_are c.in_ok-rest.ensures.few in
-    let few = few_rest (shape_of parts) h c.args.k c.args.first c.args.count len (length c.args.plans.now) (omega arith) c.run_in_block-len.ensures.is c.requires.few in
+    let few = few_rest (shape_of parts) h c.args.k c.args.first c.args.count len (length c.args.plans.now) (not_none c.args.count c.if-count-eq0.false) c.run_in_block-len.ensures.is c.requires.few in
     record { few = omega (arith, wants.0, wants.1, few, c.requires.room) }
 
 pub look-requires : goal.look-requires
@@ -41,11 +44,11 @@ look-requires g t c κs within =
           (
             subst (AreReadable c.plan_of.new.tables) (sym stays) (read_again c.args.tables.now c.plan_of.new.tables (g.S.Store.disk c.args.store.now) c.requires.readable c.plan_of.ensures.reads),
             (
-              subst (λ p. c.args.first + c.run_in_block-len.result + (c.args.count - c.run_in_block-len.result) ≤ p.sectors) (sym parts) (omega arith),
+              subst (λ p. c.args.first + c.run_in_block-len.result + (c.args.count - c.run_in_block-len.result) ≤ p.sectors) (sym parts) (rest_rows c.args.first c.run_in_block-len.result c.args.count _ c.run_in_block-len.ensures.most c.requires.on_disk),
               (
                 omega (
                   arith,
-                  rest_few c.args.tables.now c.plan_of.new.tables (g.S.Store.disk c.args.store.now) c.requires.readable.sizes c.plan_of.ensures.reads c.args.first c.args.count c.run_in_block-len.result (omega arith) c.run_in_block-len.ensures.is
+                  rest_few c.args.tables.now c.plan_of.new.tables (g.S.Store.disk c.args.store.now) c.requires.readable.sizes c.plan_of.ensures.reads c.args.first c.args.count c.run_in_block-len.result (not_none c.args.count c.if-count-eq0.false) c.run_in_block-len.ensures.is
                       (record { blocks = 0; bitmaps = 0; tables = false; chunk = None }) _ c.in_ok-plan.plan refl,
                   length-set c.args.plans.now c.args.k c.in_ok-plan.plan,
                   c.requires.few,
@@ -76,12 +79,12 @@ returns-clause-before g t c i l = c.look.ensures.before i (omega (arith, l)) ∙
 
 pub returns-clause-few : goal.returns-clause-few
 returns-clause-few g t c =
-    few_then c.args.tables.now c.plan_of.new.tables (g.S.Store.disk c.args.store.now) c.requires.readable.sizes c.plan_of.ensures.reads c.args.first c.args.count c.run_in_block-len.result (omega arith) c.run_in_block-len.ensures.is
+    few_then c.args.tables.now c.plan_of.new.tables (g.S.Store.disk c.args.store.now) c.requires.readable.sizes c.plan_of.ensures.reads c.args.first c.args.count c.run_in_block-len.result (not_none c.args.count c.if-count-eq0.false) c.run_in_block-len.ensures.is
     c.in_ok-rest.rest c.with_plan.result c.in_ok-plan.plan c.with_plan.ensures c.in_ok-rest.ensures.few.0 c.in_ok-rest.ensures.few.1
 
 pub returns-clause-looked : goal.returns-clause-looked
 returns-clause-looked g t c trace told =
-    looked_then c.args.tables.now c.plan_of.new.tables (g.S.Store.disk c.args.store.now) c.requires.readable.sizes c.plan_of.ensures.reads c.args.first c.args.count c.run_in_block-len.result (omega arith) c.run_in_block-len.ensures.is
+    looked_then c.args.tables.now c.plan_of.new.tables (g.S.Store.disk c.args.store.now) c.requires.readable.sizes c.plan_of.ensures.reads c.args.first c.args.count c.run_in_block-len.result (not_none c.args.count c.if-count-eq0.false) c.run_in_block-len.ensures.is
     c.in_ok-rest.rest c.with_plan.result c.in_ok-plan.plan c.with_plan.ensures trace c.args.trims c.look.new.plans c.args.k c.requires.on_disk (c.in_ok-plan.ensures.planned trace told)
     (c.look.ensures.before c.args.k (omega arith) ∙ set_here c.args.plans.now c.args.k c.in_ok-plan.plan (omega (arith, c.requires.few, few_blocks)))
     (c.in_ok-rest.ensures.looked trace (ap (λ (d : Disk). d.told) c.in_ok-plan.ensures.stays ∙ told))
@@ -90,7 +93,7 @@ returns-clause-looked g t c trace told =
     few_blocks =
         omega (
           arith,
-          rest_few c.args.tables.now c.plan_of.new.tables (g.S.Store.disk c.args.store.now) c.requires.readable.sizes c.plan_of.ensures.reads c.args.first c.args.count c.run_in_block-len.result (omega arith) c.run_in_block-len.ensures.is
+          rest_few c.args.tables.now c.plan_of.new.tables (g.S.Store.disk c.args.store.now) c.requires.readable.sizes c.plan_of.ensures.reads c.args.first c.args.count c.run_in_block-len.result (not_none c.args.count c.if-count-eq0.false) c.run_in_block-len.ensures.is
               c.in_ok-rest.rest c.with_plan.result c.in_ok-plan.plan c.with_plan.ensures,
         )
 
@@ -99,7 +102,7 @@ returns-then-count-eq0-clause-counted g t c = nothing c.args.k c.args.first c.ar
 
 pub returns-clause-counted : goal.returns-clause-counted
 returns-clause-counted g t c =
-    counted_then c.args.tables.now c.plan_of.new.tables (g.S.Store.disk c.args.store.now) c.requires.readable.sizes c.plan_of.ensures.reads c.args.first c.args.count c.run_in_block-len.result (omega arith) c.run_in_block-len.ensures.is
+    counted_then c.args.tables.now c.plan_of.new.tables (g.S.Store.disk c.args.store.now) c.requires.readable.sizes c.plan_of.ensures.reads c.args.first c.args.count c.run_in_block-len.result (not_none c.args.count c.if-count-eq0.false) c.run_in_block-len.ensures.is
     c.in_ok-rest.rest c.with_plan.result c.in_ok-plan.plan c.with_plan.ensures c.look.new.plans c.args.k
     (c.look.ensures.before c.args.k (omega arith) ∙ set_here c.args.plans.now c.args.k c.in_ok-plan.plan (omega (arith, c.requires.few, few_blocks)))
     c.in_ok-rest.ensures.counted
@@ -108,7 +111,7 @@ returns-clause-counted g t c =
     few_blocks =
         omega (
           arith,
-          rest_few c.args.tables.now c.plan_of.new.tables (g.S.Store.disk c.args.store.now) c.requires.readable.sizes c.plan_of.ensures.reads c.args.first c.args.count c.run_in_block-len.result (omega arith) c.run_in_block-len.ensures.is
+          rest_few c.args.tables.now c.plan_of.new.tables (g.S.Store.disk c.args.store.now) c.requires.readable.sizes c.plan_of.ensures.reads c.args.first c.args.count c.run_in_block-len.result (not_none c.args.count c.if-count-eq0.false) c.run_in_block-len.ensures.is
               c.in_ok-rest.rest c.with_plan.result c.in_ok-plan.plan c.with_plan.ensures,
         )
 
@@ -175,3 +178,18 @@ plan_of-requires-clause-block g t c = record {
   on_disk = few_rows c.args.first c.run_in_block-len.result c.args.count _ c.run_in_block-len.ensures.most c.requires.on_disk;
   run = c.run_in_block-len.ensures.inside;
 }
+
+pub run_in_block-len-requires-clause-count : goal.run_in_block-len-requires-clause-count
+run_in_block-len-requires-clause-count g t c = not_none c.args.count c.if-count-eq0.false
+
+pub run_in_block-len-requires-clause-first : goal.run_in_block-len-requires-clause-first
+run_in_block-len-requires-clause-first g t c = first_below c.args.first c.args.count c.args.tables.now.parts.sectors (not_none c.args.count c.if-count-eq0.false) c.requires.on_disk
+
+pub overflow_add-first : goal.overflow_add-first
+overflow_add-first g t c = end_fits c.args.tables.now.parts c.requires.readable.sizes c.args.first c.run_in_block-len.result (few_rows c.args.first c.run_in_block-len.result c.args.count _ c.run_in_block-len.ensures.most c.requires.on_disk)
+
+pub returns-clause-err : goal.returns-clause-err
+returns-clause-err g t c = tt
+
+pub returns-then-count-eq0-clause-err : goal.returns-then-count-eq0-clause-err
+returns-then-count-eq0-clause-err g t c = tt

@@ -1,6 +1,7 @@
 use Rattle.std.proofs.Common.{rules}
 use Rattle.layer_session.proofs.Planned.{bits_tell}
-use Rattle.layer_session.proofs.RunsRead.{bits_asked, bits_were_read, byte_begins, byte_on_disk}
+use Rattle.layer_session.proofs.RunsRead.{bits_asked, bits_were_read, byte_before, byte_begins, byte_on_disk, bytes_few, skip_fits, skip_small}
+use Rattle.vx_base.proofs.Handed.{failed_for, not_if_ok, not_ok}
 use Rattle.layer_session.proofs.planning.are_few_marked.Goals as goal
 
 pub bits-requires-clause-there : goal.bits-requires-clause-there
@@ -35,3 +36,30 @@ returns-clause-reads g c =
 pub returns-clause-marked : goal.returns-clause-marked
 returns-clause-marked g c trace told =
     bits_tell c.args.tables.now.parts _ c.bits.new.out c.args.first c.args.count c.are_set.result (c.in_ok-bits.ensures.bits trace told) (search rules) c.are_set.ensures
+
+pub overflow_sub-first : goal.overflow_sub-first
+overflow_sub-first g c = byte_before c.args.first
+
+pub overflow_add-skip : goal.overflow_add-skip
+overflow_add-skip g c = skip_fits c.args.first c.args.count c.requires.few
+
+pub are_set-requires-clause-fits : goal.are_set-requires-clause-fits
+are_set-requires-clause-fits g c = skip_small c.args.first c.args.count c.requires.few
+
+pub returns-in_err-bits-clause-marked : goal.returns-in_err-bits-clause-marked
+returns-in_err-bits-clause-marked g c = not_if_ok c.from_residual.result _ c.from_residual.ensures.1 _
+
+pub returns-in_err-bits-clause-stays : goal.returns-in_err-bits-clause-stays
+returns-in_err-bits-clause-stays g c = not_ok c.from_residual.result _ c.from_residual.ensures.1 _
+
+pub returns-in_err-bits-clause-err : goal.returns-in_err-bits-clause-err
+returns-in_err-bits-clause-err g c = failed_for c.from_residual.result _ c.from_residual.ensures.1 _ c.in_err-bits.ensures.err
+
+pub returns-clause-stays : goal.returns-clause-stays
+returns-clause-stays g c = c.in_ok-bits.ensures.stays
+
+pub returns-clause-err : goal.returns-clause-err
+returns-clause-err g c = tt
+
+pub slice_bounds-bits-end : goal.slice_bounds-bits-end
+slice_bounds-bits-end g c = bytes_few c.args.first c.args.count c.div_ceil-bytes.result c.div_ceil-bytes.ensures c.requires.few

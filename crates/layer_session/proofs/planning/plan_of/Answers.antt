@@ -189,12 +189,21 @@ returns-clause-planned g c trace told =
             | else-trims-via-then-trims+else-is_whole_block v ↦ both_not c.args.trims _ (inr (sym v.is_whole_block.ensures ∙ v.if-is_whole_block.false))
             | else-trims-via-else-trims v ↦ both_not c.args.trims _ (inl v.if-trims.false)
           ])
-      )
+          )
       | else-state-ge-FULLY_PRESENT w ↦ rw w.step-is (
           chosen_make _ _ c.args.trims _ _ _ _ c.entry_index.ensures.index (c.in_ok-word.ensures.entry trace told) (
           elim c.else-trims.branch [
             | else-trims-via-then-trims+else-is_whole_block v ↦ both_not c.args.trims _ (inr (sym v.is_whole_block.ensures ∙ v.if-is_whole_block.false))
             | else-trims-via-else-trims v ↦ both_not c.args.trims _ (inl v.if-trims.false)
           ]) w.if-state-ge-FULLY_PRESENT.false (alone _ _ c.else-parts-2.either)
-      )
+          )
     ])
+
+pub returns-clause-err : goal.returns-clause-err
+returns-clause-err g c = tt
+
+pub returns-then-is_whole_block-clause-err : goal.returns-then-is_whole_block-clause-err
+returns-then-is_whole_block-clause-err g c = tt
+
+pub returns-then-state-eq-NOT_PRESENT-clause-err : goal.returns-then-state-eq-NOT_PRESENT-clause-err
+returns-then-state-eq-NOT_PRESENT-clause-err g c = tt

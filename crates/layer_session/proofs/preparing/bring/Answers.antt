@@ -1,4 +1,4 @@
-use Rattle.std.proofs.Common.{◌≡◌, ◌+◌, ◌-◌, ◌*◌, ◌/◌, ◌<◌, ◌≤◌, ◌^◌, ◌∙◌, true, length, if◌then◌else◌, ap, refl, subst, sym}
+use Rattle.std.proofs.Common.{◌≡◌, ◌+◌, ◌-◌, ◌/◌, ◌<◌, ◌≤◌, ◌^◌, ◌∙◌, true, length, if◌then◌else◌, ap, refl, subst, sym}
 use Rattle.std.specs.Prelude.{Some}
 use Rattle.vx_base.proofs.Handed.{failed_for, not_ok, ok_then, on_ok_any}
 use Rattle.store_model.specs.Disk.{Disk}

@@ -6,7 +6,9 @@ use Rattle.layer_session.proofs.Planned.{read_none, read_then}
 use Rattle.table_pages.specs.declared.tables.TableParts.{TableParts}
 use Rattle.vx_base.proofs.Handed.{failed_for, not_ok, ok_then}
 use Rattle.layer_session.proofs.Handing.{fails_then, few_bytes, few_rows, front_in, none_owned, stays_then}
-use Rattle.layer_session.proofs.RunsRead.{fit_front, reads_rest}
+use Rattle.layer_session.proofs.RunsRead.{end_at, fit_front, not_none, reads_rest, rest_smaller}
+use Rattle.layer_session.proofs.Known.{end_fits}
+use Rattle.layer_session.proofs.Sectors.{first_below}
 use Rattle.layer_session.proofs.reading.+own_all.Goals as goal
 
 pub returns-clause-reads : goal.returns-clause-reads
@@ -66,13 +68,13 @@ pub overflow_mul-from : goal.overflow_mul-from
 overflow_mul-from g n c = let few = few_bytes c.from.result c.args.tables.now.parts.sector c.args.first c.run_in_block-len.result c.args.count c.args.tables.now.parts.sectors c.from.ensures c.run_in_block-len.ensures.most c.requires.on_disk c.requires.readable.tables.sizes.most in omega (arith, few)
 
 pub returns-then-count-eq0-clause-owned : goal.returns-then-count-eq0-clause-owned
-returns-then-count-eq0-clause-owned g n c = λ t told. none_owned _ c.args.tables.now.parts.sector c.args.first c.args.count c.args.at c.args.mask.now c.args.out.now (omega (arith, c.if-count-eq0.true))
+returns-then-count-eq0-clause-owned g n c = λ t told. none_owned _ c.args.tables.now.parts.sector c.args.first c.args.count c.args.at c.args.mask.now c.args.out.now c.if-count-eq0.true
 
 pub own_all-requires : goal.own_all-requires
 own_all-requires g n c κs within =
     let asked = reads_rest c.args.tables.now c.own_run.new.tables (g.S.Store.disk c.args.store.now) (g.S.Store.disk c.own_run.new.store) c.own_run.ensures.reads c.in_ok-own_run.ensures.stays c.requires.readable c.args.first
     c.run_in_block-len.result c.args.count c.args.out.now c.split_at_mut-run.result.0.now c.split_at_mut-run.result.1.now c.args.mask.now c.own_run.new.mask c.args.at c.run_in_block-len.ensures.most c.requires.on_disk c.requires.room c.split_at_mut-run.ensures.value
-    (c.split_at_mut-run.ensures.front_len ∙ ap (λ s. s * c.run_in_block-len.result) c.from.ensures) c.own_run.auto.mask in (omega arith, (within.0, (within.1, (asked.readable, (asked.on_disk, asked.room)))))
+    (c.split_at_mut-run.ensures.front_len ∙ ap (λ s. s * c.run_in_block-len.result) c.from.ensures) c.own_run.auto.mask in (rest_smaller c.run_in_block-len.result c.args.count n c.decreases c.run_in_block-len.ensures.some c.run_in_block-len.ensures.most, (within.0, (within.1, (asked.readable, (asked.on_disk, asked.room)))))
 
 pub own_run-requires-clause-room : goal.own_run-requires-clause-room
 own_run-requires-clause-room g n c =
@@ -80,3 +82,18 @@ own_run-requires-clause-room g n c =
 
 pub own_run-requires-clause-block : goal.own_run-requires-clause-block
 own_run-requires-clause-block g n c = record { some = c.run_in_block-len.ensures.some; on_disk = few_rows c.args.first c.run_in_block-len.result c.args.count _ c.run_in_block-len.ensures.most c.requires.on_disk; run = c.run_in_block-len.ensures.inside }
+
+pub overflow_add-first : goal.overflow_add-first
+overflow_add-first g n c = end_fits c.args.tables.now.parts c.requires.readable.tables.sizes c.args.first c.run_in_block-len.result (few_rows c.args.first c.run_in_block-len.result c.args.count _ c.run_in_block-len.ensures.most c.requires.on_disk)
+
+pub overflow_add-at : goal.overflow_add-at
+overflow_add-at g n c = end_at c.args.at c.run_in_block-len.result c.args.count c.run_in_block-len.ensures.most c.requires.room.ends
+
+pub returns-then-count-eq0-clause-err : goal.returns-then-count-eq0-clause-err
+returns-then-count-eq0-clause-err g n c = tt
+
+pub run_in_block-len-requires-clause-count : goal.run_in_block-len-requires-clause-count
+run_in_block-len-requires-clause-count g n c = not_none c.args.count c.if-count-eq0.false
+
+pub run_in_block-len-requires-clause-first : goal.run_in_block-len-requires-clause-first
+run_in_block-len-requires-clause-first g n c = first_below c.args.first c.args.count c.args.tables.now.parts.sectors (not_none c.args.count c.if-count-eq0.false) c.requires.on_disk

@@ -7,7 +7,7 @@ use Rattle.layer_session.proofs.Owned.{marked_joined, next_place, rest_inside}
 use Rattle.store_model.specs.Disk.{Disk}
 use Rattle.vx_base.proofs.Handed.{failed_for, not_ok, ok_then}
 use Rattle.layer_session.proofs.Handing.{fails_then, front_in, front_within, none_owned, stays_then}
-use Rattle.layer_session.proofs.RunsRead.{fit_front, fit_rest}
+use Rattle.layer_session.proofs.RunsRead.{end_at, fit_front, fit_rest, not_none, rest_end, rest_rows, rest_smaller}
 use Rattle.layer_session.proofs.reading.+own_marked.Goals as goal
 
 pub returns-clause-owned : goal.returns-clause-owned
@@ -34,7 +34,7 @@ own_marked-requires g n c κs within =
     let front = c.split_at_mut-piece.result.0.now in
     let back = c.split_at_mut-piece.result.1.now in
     let stays = sym c.in_ok-take_run.ensures.stays in (
-      omega (arith, few, c.first_run-run.ensures.some),
+      rest_smaller run.count c.args.count n c.decreases c.first_run-run.ensures.some few,
       (
         within.0,
         (
@@ -42,9 +42,9 @@ own_marked-requires g n c κs within =
           (
             subst (λ (d : Disk). c.args.parts.now.file < d.files) stays c.requires.there,
             (
-              omega (arith, few, c.requires.bits),
+              rest_rows c.args.skip run.count c.args.count _ few c.requires.bits,
               (
-                omega (arith, few, c.requires.fits),
+                rest_end c.args.skip run.count c.args.count few c.requires.fits,
                 (
                   fit_rest c.args.count run.count z c.args.out.now front back c.args.mask.now c.take_run.new.mask c.args.at few piece.value piece.front_len c.take_run.auto.mask c.requires.room,
                   (
@@ -82,7 +82,7 @@ pub returns-clause-err : goal.returns-clause-err
 returns-clause-err g n c = fails_then c.own_marked.result c.args.parts.now.file c.args.parts.now.file (g.S.Store.disk c.args.store.now) (g.S.Store.disk c.take_run.new.store) (g.S.Store.disk c.own_marked.new.store) c.in_ok-take_run.ensures.stays refl c.own_marked.ensures.err
 
 pub returns-then-count-eq0-clause-owned : goal.returns-then-count-eq0-clause-owned
-returns-then-count-eq0-clause-owned g n c = λ t told. none_owned _ c.args.parts.now.sector 0 c.args.count c.args.at c.args.mask.now c.args.out.now (omega (arith, c.if-count-eq0.true))
+returns-then-count-eq0-clause-owned g n c = λ t told. none_owned _ c.args.parts.now.sector 0 c.args.count c.args.at c.args.mask.now c.args.out.now c.if-count-eq0.true
 
 pub first_run-run-requires-clause-within : goal.first_run-run-requires-clause-within
 first_run-run-requires-clause-within g n c = c.requires.bits
@@ -105,3 +105,15 @@ overflow_sub-count g n c = c.first_run-run.ensures.most
 pub take_run-requires-clause-room : goal.take_run-requires-clause-room
 take_run-requires-clause-room g n c =
     fit_front c.args.count c.first_run-run.result.count c.args.parts.now.sector c.args.out.now c.split_at_mut-piece.result.0.now c.args.mask.now c.args.at c.first_run-run.ensures.most c.split_at_mut-piece.ensures.front_len c.requires.room
+
+pub first_run-run-requires-clause-some : goal.first_run-run-requires-clause-some
+first_run-run-requires-clause-some g n c = not_none c.args.count c.if-count-eq0.false
+
+pub overflow_add-at : goal.overflow_add-at
+overflow_add-at g n c = end_at c.args.at c.first_run-run.result.count c.args.count c.first_run-run.ensures.most c.requires.room.ends
+
+pub overflow_add-skip : goal.overflow_add-skip
+overflow_add-skip g n c = end_at c.args.skip c.first_run-run.result.count c.args.count c.first_run-run.ensures.most c.requires.fits
+
+pub returns-then-count-eq0-clause-err : goal.returns-then-count-eq0-clause-err
+returns-then-count-eq0-clause-err g n c = tt

@@ -6,7 +6,8 @@ use Rattle.layer_session.proofs.Planned.{read_none, read_then}
 use Rattle.vx_base.proofs.Handed.{failed_for, not_ok, ok_then}
 use Rattle.layer_session.proofs.Handing.{fails_then, few_bytes, few_rows, front_in, stays_then}
 use Rattle.table_pages.specs.declared.tables.TableParts.{TableParts}
-use Rattle.layer_session.proofs.RunsRead.{fit_front, reads_rest}
+use Rattle.layer_session.proofs.RunsRead.{end_at, fit_front, none_added, not_none, reads_rest, rest_smaller}
+use Rattle.layer_session.proofs.Known.{end_fits}
 use Rattle.layer_session.proofs.reading.+own_missing.Goals as goal
 
 pub returns-clause-reads : goal.returns-clause-reads
@@ -76,7 +77,7 @@ pub own_missing-requires : goal.own_missing-requires
 own_missing-requires g n c κs within =
     let asked = reads_rest c.args.tables.now c.add_run.new.tables (g.S.Store.disk c.args.store.now) (g.S.Store.disk c.add_run.new.store) c.add_run.ensures.reads c.in_ok-add_run.ensures.stays c.requires.readable c.args.first
     c.first_run-run.result.count c.args.count c.args.out.now c.split_at_mut-piece.result.0.now c.split_at_mut-piece.result.1.now c.args.mask.now c.add_run.new.mask c.args.at c.first_run-run.ensures.most c.requires.on_disk c.requires.room c.split_at_mut-piece.ensures.value
-    (c.split_at_mut-piece.ensures.front_len ∙ ap (λ s. s * c.first_run-run.result.count) c.from.ensures) c.add_run.auto.mask in (omega arith, (within.0, (within.1, (asked.readable, (asked.on_disk, asked.room)))))
+    (c.split_at_mut-piece.ensures.front_len ∙ ap (λ s. s * c.first_run-run.result.count) c.from.ensures) c.add_run.auto.mask in (rest_smaller c.first_run-run.result.count c.args.count n c.decreases c.first_run-run.ensures.some c.first_run-run.ensures.most, (within.0, (within.1, (asked.readable, (asked.on_disk, asked.room)))))
 
 pub add_run-requires-clause-room : goal.add_run-requires-clause-room
 add_run-requires-clause-room g n c =
@@ -84,3 +85,18 @@ add_run-requires-clause-room g n c =
 
 pub first_run-run-requires-clause-fits : goal.first_run-run-requires-clause-fits
 first_run-run-requires-clause-fits g n c = c.requires.room.ends
+
+pub overflow_add-first : goal.overflow_add-first
+overflow_add-first g n c = end_fits c.args.tables.now.parts c.requires.readable.tables.sizes c.args.first c.first_run-run.result.count (few_rows c.args.first c.first_run-run.result.count c.args.count _ c.first_run-run.ensures.most c.requires.on_disk)
+
+pub overflow_add-at : goal.overflow_add-at
+overflow_add-at g n c = end_at c.args.at c.first_run-run.result.count c.args.count c.first_run-run.ensures.most c.requires.room.ends
+
+pub returns-then-count-eq0-clause-err : goal.returns-then-count-eq0-clause-err
+returns-then-count-eq0-clause-err g n c = tt
+
+pub first_run-run-requires-clause-some : goal.first_run-run-requires-clause-some
+first_run-run-requires-clause-some g n c = not_none c.args.count c.if-count-eq0.false
+
+pub returns-then-count-eq0-clause-added : goal.returns-then-count-eq0-clause-added
+returns-then-count-eq0-clause-added g n c = λ t told. none_added _ c.args.tables.now.parts.sector c.args.first c.args.count c.args.at c.args.mask.now c.args.out.now c.if-count-eq0.true

@@ -5,7 +5,7 @@ use Rattle.table_pages.specs.Held.{held_file}
 use Rattle.layer_session.proofs.Parted.{part_owned, part_within}
 use Rattle.vx_base.proofs.Handed.{failed_for, not_ok, ok_then}
 use Rattle.layer_session.proofs.Handing.{fails_then, stays_then, there_still}
-use Rattle.layer_session.proofs.RunsRead.{bits_asked, bits_were_read, byte_begins, byte_on_disk}
+use Rattle.layer_session.proofs.RunsRead.{bits_asked, bits_were_read, byte_before, byte_begins, byte_on_disk, bytes_few, skip_fits, skip_small}
 use Rattle.layer_session.proofs.reading.own_few.Goals as goal
 
 pub returns-clause-owned : goal.returns-clause-owned
@@ -76,3 +76,15 @@ bits-requires-clause-bytes g c = byte_begins c.args.first
 
 pub own_marked-requires-clause-room : goal.own_marked-requires-clause-room
 own_marked-requires-clause-room g c = c.requires.room
+
+pub overflow_sub-first : goal.overflow_sub-first
+overflow_sub-first g c = byte_before c.args.first
+
+pub overflow_add-skip : goal.overflow_add-skip
+overflow_add-skip g c = skip_fits c.args.first c.args.count c.requires.few
+
+pub own_marked-requires-clause-fits : goal.own_marked-requires-clause-fits
+own_marked-requires-clause-fits g c = skip_small c.args.first c.args.count c.requires.few
+
+pub slice_bounds-bits-end : goal.slice_bounds-bits-end
+slice_bounds-bits-end g c = bytes_few c.args.first c.args.count c.div_ceil-bytes.result c.div_ceil-bytes.ensures c.requires.few

@@ -213,3 +213,9 @@ set_range-requires-in-Zeros-clause-fits g c = c.requires.room.ends
 
 pub take_run-requires-clause-room : goal.take_run-requires-clause-room
 take_run-requires-clause-room g c = c.requires.room
+
+pub returns-in-Absent-clause-err : goal.returns-in-Absent-clause-err
+returns-in-Absent-clause-err g c = tt
+
+pub returns-in-Zeros-clause-err : goal.returns-in-Zeros-clause-err
+returns-in-Zeros-clause-err g c = tt

@@ -1,3 +1,5 @@
+use Rattle.std.proofs.Common.{◌+◌, ◌≤◌, length, refl, subst, sym}
+use Rattle.vx_base.proofs.Handed.{failed_for, not_ok}
 use Rattle.store_model.specs.File.{seen}
 use Rattle.store_model.specs.Trace.{file_of}
 use Rattle.layer_session.proofs.Owned.{run_left, run_taken}
@@ -24,3 +26,30 @@ set_range-requires-2-clause-within g c = c.requires.room.bits
 
 pub set_range-requires-2-clause-fits : goal.set_range-requires-2-clause-fits
 set_range-requires-2-clause-fits g c = c.requires.room.ends
+
+pub read_at-requires-clause-there : goal.read_at-requires-clause-there
+read_at-requires-clause-there g c = c.requires.there
+
+pub read_at-requires-clause-inside : goal.read_at-requires-clause-inside
+read_at-requires-clause-inside g c = λ t told. subst (λ n. c.args.place + n ≤ length (seen (file_of t c.args.parts.now.file))) (sym c.requires.room.bytes) (c.requires.inside c.if-not-has.false t told)
+
+pub returns-clause-stays : goal.returns-clause-stays
+returns-clause-stays g c = c.in_ok-read_at.ensures.stays
+
+pub returns-clause-err : goal.returns-clause-err
+returns-clause-err g c = tt
+
+pub returns-in_err-read_at-clause-owned : goal.returns-in_err-read_at-clause-owned
+returns-in_err-read_at-clause-owned g c = not_ok c.from_residual.result _ c.from_residual.ensures.1 _
+
+pub returns-in_err-read_at-clause-stays : goal.returns-in_err-read_at-clause-stays
+returns-in_err-read_at-clause-stays g c = not_ok c.from_residual.result _ c.from_residual.ensures.1 _
+
+pub returns-in_err-read_at-clause-err : goal.returns-in_err-read_at-clause-err
+returns-in_err-read_at-clause-err g c = failed_for c.from_residual.result _ c.from_residual.ensures.1 _ c.in_err-read_at.ensures.err
+
+pub returns-then-not-has-clause-stays : goal.returns-then-not-has-clause-stays
+returns-then-not-has-clause-stays g c = refl
+
+pub returns-then-not-has-clause-err : goal.returns-then-not-has-clause-err
+returns-then-not-has-clause-err g c = tt

@@ -1,8 +1,8 @@
-use Rattle.std.proofs.Common.{◌≡◌, ◌*◌, ℕ, List, Bool, true, false, ap, subst, sym, take, ◌∙◌}
+use Rattle.std.proofs.Common.{◌≡◌, ◌≤◌, ◌+◌, ◌*◌, ◌%◌, ℕ, List, Bool, true, false, ap, subst, sym, take, ◌∙◌}
 use Rattle.std.specs.Prelude.{is_some}
 use Rattle.store_model.specs.Disk.{WhereBothTold}
 use Rattle.layer_session.specs.Masked.{HasPutNamed, HoldsUnnamed, PutsNamed, is_masked, with_masked}
-use Rattle.merge_core.proofs.PieceLemmas.{on_broken, on_ok, piece_moments, piece_put, piece_rest, same_named}
+use Rattle.merge_core.proofs.PieceLemmas.{on_broken, on_ok, piece_in_block, piece_moments, piece_put, piece_rest, same_named}
 use Rattle.merge_core.proofs.putting.put_piece.Goals as goal
 
 pub returns-clause-moments : goal.returns-clause-moments
@@ -70,3 +70,12 @@ pub returns-clause-nothing : goal.returns-clause-nothing
 returns-clause-nothing g c =
     let piece = c.args.piece.now in
     λ none. c.put_masked.ensures.nothing (λ s. subst (λ (m : List ℕ). is_masked piece.first piece.count 0 m s ≡ false) (sym c.as_slice-2.ensures.value) (subst (λ (n : ℕ → Bool). n s ≡ false) (sym (same_named piece)) (ap is_some (none s))))
+
+pub put_masked-requires-clause-block : goal.put_masked-requires-clause-block
+put_masked-requires-clause-block g c =
+    let piece = c.args.piece.now in
+    let parts = c.args.target.now.tables.parts in
+    record {
+      on_disk = c.requires.fits.on_disk;
+      run = subst (λ z. piece.first * z % parts.block + piece.count * z ≤ parts.block) c.requires.fits.sector (piece_in_block piece.sector parts.block piece.stripe piece.first piece.count c.requires.ready.readable.sizes.block piece.place piece.few);
+    }

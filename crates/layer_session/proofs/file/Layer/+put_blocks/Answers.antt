@@ -7,11 +7,13 @@ use Rattle.layer_session.specs.Prepared.{IsPrepared}
 use Rattle.layer_session.specs.Taking.{IsDone}
 use Rattle.layer_session.proofs.Frames.{next_prepared, next_small, next_wants, plan_there, run_pages, run_room, run_todo}
 use Rattle.layer_session.proofs.Joining.{keeps_puts, put_none, puts_more}
-use Rattle.layer_session.proofs.Portions.{front_outside, rest_on, some_count}
-use Rattle.layer_session.proofs.Sectors.{part_on}
+use Rattle.layer_session.proofs.Portions.{few_fit, front_outside, rest_on, some_count}
+use Rattle.layer_session.proofs.Sectors.{first_below, part_on}
+use Rattle.layer_session.proofs.Known.{end_fits}
+use Rattle.layer_session.proofs.Handing.{few_bytes, front_in}
 use Rattle.layer_session.proofs.Told.{if_err, if_err_map, ok_map}
-use Rattle.layer_session.proofs.Zeroing.{back_whole, broken_more, bytes_join, bytes_nobody, bytes_off, join_broken, join_done, join_moments}
-use Rattle.vx_base.proofs.Handed.{err_is}
+use Rattle.layer_session.proofs.Zeroing.{back_whole, broken_more, bytes_join, bytes_nobody, bytes_off, front_whole, join_broken, join_done, join_moments}
+use Rattle.vx_base.proofs.Handed.{err_is, not_ok}
 use Rattle.layer_session.proofs.file.Layer.+put_blocks.Goals as goal
 
 pub returns-then-count-eq0-clause-moments : goal.returns-then-count-eq0-clause-moments
@@ -81,3 +83,37 @@ returns-clause-done g t c =
 pub returns-clause-broken : goal.returns-clause-broken
 returns-clause-broken g t c =
     if_err_map c.put_blocks.result _ _ c.put_blocks.ensures.broken (join_broken c.args.self.now c.put_run.new.self c.args.first c.run_in_block-len.result c.args.count c.run_in_block-len.ensures.most (with_bytes c.args.self.now.tables.parts.sector c.args.first c.run_in_block-len.result c.split_at.result.0.now) (bytes_off c.args.self.now.tables.parts.sector c.args.first c.run_in_block-len.result c.split_at.result.0.now) (g.S.Store.disk c.args.store.now) (g.S.Store.disk c.put_run.new.store) c.in_ok-put_run.ensures.done c.put_blocks.new.self (g.S.Store.disk c.put_blocks.new.store))
+
+pub run_in_block-len-requires-clause-parts : goal.run_in_block-len-requires-clause-parts
+run_in_block-len-requires-clause-parts g t c = c.requires.ready.readable.sizes
+
+pub run_in_block-len-requires-clause-first : goal.run_in_block-len-requires-clause-first
+run_in_block-len-requires-clause-first g t c = first_below c.args.first c.args.count _ (some_count c.args.count c.if-count-eq0.false) c.requires.on_disk
+
+pub run_in_block-len-requires-clause-count : goal.run_in_block-len-requires-clause-count
+run_in_block-len-requires-clause-count g t c = some_count c.args.count c.if-count-eq0.false
+
+pub put_run-requires-clause-ready : goal.put_run-requires-clause-ready
+put_run-requires-clause-ready g t c = c.requires.ready
+
+pub put_run-requires-clause-some : goal.put_run-requires-clause-some
+put_run-requires-clause-some g t c = c.run_in_block-len.ensures.some
+
+pub returns-in_err-put_run-clause-done : goal.returns-in_err-put_run-clause-done
+returns-in_err-put_run-clause-done g t c = not_ok c.from_residual.result _ c.from_residual.ensures.1 _
+
+pub overflow_sub-count : goal.overflow_sub-count
+overflow_sub-count g t c = c.run_in_block-len.ensures.most
+
+pub overflow_add-first : goal.overflow_add-first
+overflow_add-first g t c = end_fits c.args.self.now.tables.parts c.requires.ready.readable.sizes c.args.first c.run_in_block-len.result (part_on c.args.first c.run_in_block-len.result c.args.count c.args.self.now.tables.parts.sectors c.run_in_block-len.ensures.most c.requires.on_disk)
+
+pub overflow_mul-from : goal.overflow_mul-from
+overflow_mul-from g t c = few_fit _ (few_bytes c.from.result c.args.self.now.tables.parts.sector c.args.first c.run_in_block-len.result c.args.count c.args.self.now.tables.parts.sectors c.from.ensures c.run_in_block-len.ensures.most c.requires.on_disk c.requires.ready.readable.sizes.most)
+
+pub split_at-requires : goal.split_at-requires
+split_at-requires g t c = front_in c.from.result c.args.self.now.tables.parts.sector c.run_in_block-len.result c.args.count (length c.args.bytes.now) c.from.ensures c.run_in_block-len.ensures.most c.requires.whole
+
+pub put_run-requires-clause-whole : goal.put_run-requires-clause-whole
+put_run-requires-clause-whole g t c =
+    front_whole c.args.self.now.tables.parts.sector c.run_in_block-len.result c.args.count c.run_in_block-len.ensures.most c.args.bytes.now c.split_at.result.0.now c.requires.whole (c.split_at.ensures.front ∙ ap (λ n. take n c.args.bytes.now) (ap (λ n. n * c.run_in_block-len.result) c.from.ensures))

@@ -1,4 +1,4 @@
-use Rattle.std.proofs.Common.{◌≡◌, ◌+◌, ◌-◌, ◌*◌, ◌%◌, ◌<◌, ◌≤◌, ℕ, Bool, true, false, arith, refl, sym, subst, ap, ◌∙◌, length, take, drop, lt_of_lt_of_le}
+use Rattle.std.proofs.Common.{◌≡◌, ◌+◌, ◌-◌, ◌*◌, ◌%◌, ◌≤◌, arith, refl, sym, subst, ap, ◌∙◌, length, take, drop, lt_of_lt_of_le}
 use Rattle.layer_session.proofs.Leading.{keeps_now}
 use Rattle.vhdx_format.specs.Layers.{HasSizes}
 use Rattle.store_model.specs.Disk.{WhereTold}
@@ -8,11 +8,14 @@ use Rattle.layer_session.specs.declared.masked.Spot.{Spot}
 use Rattle.layer_session.specs.Masked.{HasMarkPages, is_masked, with_masked}
 use Rattle.layer_session.proofs.Masking.{keeps_named, masked_kept, masked_nobody, nothing_named, range_broken, range_named, spots_broken, spots_done, spots_moments}
 use Rattle.layer_session.proofs.Spots.{first_fits, in_chunk, next_kept, pages_less, pages_of, pages_stay, rest_fits, spot_low_part, spot_less}
+use Rattle.layer_session.proofs.Handing.{few_bytes, front_in}
+use Rattle.layer_session.proofs.Known.{end_fits}
+use Rattle.layer_session.proofs.Portions.{few_fit, part_fits, place_behind, rest_on, rest_some, some_count}
 use Rattle.layer_session.proofs.Sectors.{part_on}
 use Rattle.layer_session.proofs.Told.{if_err, if_err_map, ok_map}
 use Rattle.layer_session.proofs.Zeroing.{back_whole, front_whole}
 use Rattle.layer_session.specs.Steps.{held_by}
-use Rattle.vx_base.proofs.Handed.{err_is}
+use Rattle.vx_base.proofs.Handed.{err_is, not_ok}
 use Rattle.layer_session.proofs.file.Layer.+put_spots.Goals as goal
 
 pub returns-then-count-eq0-clause-moments : goal.returns-then-count-eq0-clause-moments
@@ -76,14 +79,14 @@ put_spots-requires g t c κs within =
     let back_is : c.split_at.result.1.now ≡ drop (c.args.self.now.tables.parts.sector * n) c.args.bytes.now = c.split_at.ensures.back ∙ ap (λ k. drop k c.args.bytes.now) (ap (λ x. x * n) c.from.ensures) in
     let fits : n ≤ c.args.count = c.first_run-run.ensures.most in
     let next : Spot = record { place = c.saturating_add-place.result; bitmap = c.args.spot.bitmap; marks = c.args.spot.marks } in
-    let room = in_chunk (shape_of c.args.self.now.tables.parts) sized c.args.first c.args.count (omega arith) c.requires.block.run in
+    let room = in_chunk (shape_of c.args.self.now.tables.parts) sized c.args.first c.args.count (some_count c.args.count c.if-count-eq0.false) c.requires.block.run in
     let place : WhereTold (g.S.Store.disk c.args.store.now).told (λ t. c.saturating_add-place.result ≡ c.args.spot.place + c.args.self.now.tables.parts.sector * n) = λ t told.
-    let low = spot_low_part c.args.self.now (g.S.Store.disk c.args.store.now) c.requires.ready c.args.spot c.args.first c.args.count (omega arith) c.requires.block.on_disk c.requires.block.run (c.requires.spot (omega arith)) n fits t told in
+    let low = spot_low_part c.args.self.now (g.S.Store.disk c.args.store.now) c.requires.ready c.args.spot c.args.first c.args.count (some_count c.args.count c.if-count-eq0.false) c.requires.block.on_disk c.requires.block.run (c.requires.spot (some_count c.args.count c.if-count-eq0.false)) n fits t told in
     let long : c.from.result * n ≡ c.args.self.now.tables.parts.sector * n = ap (λ x. x * n) c.from.ensures in
-    omega (arith, low, long, c.saturating_add-place.ensures) in
+    place_behind c.saturating_add-place.result c.args.spot.place (c.from.result * n) (c.args.self.now.tables.parts.sector * n) c.saturating_add-place.ensures long low in
     let one = c.in_ok-put_all_or_none.ensures.done in
     let whole = subst (λ (p : TableParts). length c.split_at.result.1.now ≡ p.sector * (c.args.count - n)) (sym one.parts) (back_whole c.args.self.now.tables.parts.sector n c.args.count fits c.args.bytes.now c.split_at.result.1.now c.requires.whole back_is) in
-    let disk = subst (λ (p : TableParts). c.args.first + n + (c.args.count - n) ≤ p.sectors) (sym one.parts) (omega (arith, fits, c.requires.block.on_disk)) in
+    let disk = subst (λ (p : TableParts). c.args.first + n + (c.args.count - n) ≤ p.sectors) (sym one.parts) (rest_on c.args.first n c.args.count c.args.self.now.tables.parts.sectors fits c.requires.block.on_disk) in
     let run = subst (λ (p : TableParts). (c.args.first + n) * p.sector % p.block + (c.args.count - n) * p.sector ≤ p.block) (sym one.parts) (rest_fits (shape_of c.args.self.now.tables.parts) sized c.args.first n c.args.count fits c.requires.block.run) in
     let pages : HasMarkPages c.put_all_or_none.new.self.tables (c.args.first + n) (c.args.count - n) next = pages_stay c.args.self.now.tables c.put_all_or_none.new.self.tables (c.args.first + n) (c.args.count - n) next c.put_all_or_none.ensures.places
     (pages_of c.args.self.now.tables c.args.first c.args.count (c.args.first + n) (c.args.count - n) c.args.spot next refl refl room (omega arith) (omega (arith, fits)) c.requires.pages) in (
@@ -103,7 +106,7 @@ put_spots-requires g t c κs within =
                   (
                     omega (arith, fits, c.requires.ends),
                     (
-                      λ more. next_kept c.args.self.now (g.S.Store.disk c.args.store.now) c.requires.ready c.args.spot c.args.first c.args.count (omega arith) c.requires.block.on_disk c.requires.block.run (c.requires.spot (omega arith)) c.put_all_or_none.new.self (g.S.Store.disk c.put_all_or_none.new.store) n next one.parts (omega (arith, more)) place refl refl c.in_ok-put_all_or_none.ensures.spots,
+                      λ more. next_kept c.args.self.now (g.S.Store.disk c.args.store.now) c.requires.ready c.args.spot c.args.first c.args.count (some_count c.args.count c.if-count-eq0.false) c.requires.block.on_disk c.requires.block.run (c.requires.spot (some_count c.args.count c.if-count-eq0.false)) c.put_all_or_none.new.self (g.S.Store.disk c.put_all_or_none.new.store) n next one.parts (rest_some n c.args.count more) place refl refl c.in_ok-put_all_or_none.ensures.spots,
                       pages,
                     ),
                   ),
@@ -138,3 +141,30 @@ returns-clause-broken g t c =
     let back_is : c.split_at.result.1.now ≡ drop (c.args.self.now.tables.parts.sector * n) c.args.bytes.now = c.split_at.ensures.back ∙ ap (λ k. drop k c.args.bytes.now) (ap (λ x. x * n) c.from.ensures) in
     let front_is : c.split_at.result.0.now ≡ take (c.args.self.now.tables.parts.sector * n) c.args.bytes.now = c.split_at.ensures.front ∙ ap (λ k. take k c.args.bytes.now) (ap (λ x. x * n) c.from.ensures) in
     if_err_map c.put_spots.result _ _ c.put_spots.ensures.broken (spots_broken c.args.self.now c.put_all_or_none.new.self c.args.first n c.args.count c.args.at fits c.args.mask.now c.args.bytes.now c.split_at.result.0.now c.split_at.result.1.now c.first_run-run.result.set c.first_run-run.ensures.same c.requires.whole front_is back_is (g.S.Store.disk c.args.store.now) (g.S.Store.disk c.put_all_or_none.new.store) c.in_ok-put_all_or_none.ensures.done c.put_spots.new.self (g.S.Store.disk c.put_spots.new.store))
+
+pub first_run-run-requires-clause-some : goal.first_run-run-requires-clause-some
+first_run-run-requires-clause-some g t c = some_count c.args.count c.if-count-eq0.false
+
+pub first_run-run-requires-clause-within : goal.first_run-run-requires-clause-within
+first_run-run-requires-clause-within g t c = c.requires.mask
+
+pub first_run-run-requires-clause-fits : goal.first_run-run-requires-clause-fits
+first_run-run-requires-clause-fits g t c = c.requires.ends
+
+pub overflow_mul-long : goal.overflow_mul-long
+overflow_mul-long g t c = few_fit _ (few_bytes c.from.result c.args.self.now.tables.parts.sector c.args.first c.first_run-run.result.count c.args.count c.args.self.now.tables.parts.sectors c.from.ensures c.first_run-run.ensures.most c.requires.block.on_disk c.requires.ready.readable.sizes.most)
+
+pub split_at-requires : goal.split_at-requires
+split_at-requires g t c = front_in c.from.result c.args.self.now.tables.parts.sector c.first_run-run.result.count c.args.count (length c.args.bytes.now) c.from.ensures c.first_run-run.ensures.most c.requires.whole
+
+pub overflow_add-behind : goal.overflow_add-behind
+overflow_add-behind g t c = part_fits c.args.at c.first_run-run.result.count c.args.count c.first_run-run.ensures.most c.requires.ends
+
+pub overflow_add-first : goal.overflow_add-first
+overflow_add-first g t c = end_fits c.args.self.now.tables.parts c.requires.ready.readable.sizes c.args.first c.first_run-run.result.count (part_on c.args.first c.first_run-run.result.count c.args.count c.args.self.now.tables.parts.sectors c.first_run-run.ensures.most c.requires.block.on_disk)
+
+pub overflow_sub-count : goal.overflow_sub-count
+overflow_sub-count g t c = c.first_run-run.ensures.most
+
+pub returns-in_err-put_all_or_none-clause-done : goal.returns-in_err-put_all_or_none-clause-done
+returns-in_err-put_all_or_none-clause-done g t c = not_ok c.from_residual.result _ c.from_residual.ensures.1 _

@@ -11,10 +11,11 @@ use Rattle.layer_session.specs.Taking.{IsDone}
 use Rattle.layer_session.proofs.Frames.{next_prepared, next_small, next_wants, plan_there, run_pages, run_room, run_todo}
 use Rattle.layer_session.proofs.Joining.{keeps_puts, put_none, puts_more}
 use Rattle.layer_session.proofs.Portions.{front_outside, rest_on, some_count}
-use Rattle.layer_session.proofs.Sectors.{part_on}
+use Rattle.layer_session.proofs.Sectors.{first_below, part_on}
+use Rattle.layer_session.proofs.Known.{end_fits}
 use Rattle.layer_session.proofs.Told.{if_err, if_err_map, ok_map}
 use Rattle.layer_session.proofs.Zeroing.{broken_more, zeros_join, zeros_nobody, zeros_off, join_broken, join_done, join_moments}
-use Rattle.vx_base.proofs.Handed.{err_is}
+use Rattle.vx_base.proofs.Handed.{err_is, not_ok}
 use Rattle.layer_session.proofs.file.Layer.+zero_blocks.Goals as goal
 
 pub returns-then-count-eq0-clause-moments : goal.returns-then-count-eq0-clause-moments
@@ -82,3 +83,27 @@ returns-clause-done g t c =
 pub returns-clause-broken : goal.returns-clause-broken
 returns-clause-broken g t c =
     if_err_map c.zero_blocks.result _ _ c.zero_blocks.ensures.broken (join_broken c.args.self.now c.zero_block.new.self c.args.first c.run_in_block-len.result c.args.count c.run_in_block-len.ensures.most (with_zeros c.args.self.now.tables.parts.sector c.args.first c.run_in_block-len.result) (zeros_off c.args.self.now.tables.parts.sector c.args.first c.run_in_block-len.result) (g.S.Store.disk c.args.store.now) (g.S.Store.disk c.zero_block.new.store) c.in_ok-zero_block.ensures.done c.zero_blocks.new.self (g.S.Store.disk c.zero_blocks.new.store))
+
+pub run_in_block-len-requires-clause-parts : goal.run_in_block-len-requires-clause-parts
+run_in_block-len-requires-clause-parts g t c = c.requires.ready.readable.sizes
+
+pub run_in_block-len-requires-clause-first : goal.run_in_block-len-requires-clause-first
+run_in_block-len-requires-clause-first g t c = first_below c.args.first c.args.count _ (some_count c.args.count c.if-count-eq0.false) c.requires.on_disk
+
+pub run_in_block-len-requires-clause-count : goal.run_in_block-len-requires-clause-count
+run_in_block-len-requires-clause-count g t c = some_count c.args.count c.if-count-eq0.false
+
+pub zero_block-requires-clause-ready : goal.zero_block-requires-clause-ready
+zero_block-requires-clause-ready g t c = c.requires.ready
+
+pub zero_block-requires-clause-some : goal.zero_block-requires-clause-some
+zero_block-requires-clause-some g t c = c.run_in_block-len.ensures.some
+
+pub returns-in_err-zero_block-clause-done : goal.returns-in_err-zero_block-clause-done
+returns-in_err-zero_block-clause-done g t c = not_ok c.from_residual.result _ c.from_residual.ensures.1 _
+
+pub overflow_sub-count : goal.overflow_sub-count
+overflow_sub-count g t c = c.run_in_block-len.ensures.most
+
+pub overflow_add-first : goal.overflow_add-first
+overflow_add-first g t c = end_fits c.args.self.now.tables.parts c.requires.ready.readable.sizes c.args.first c.run_in_block-len.result (part_on c.args.first c.run_in_block-len.result c.args.count c.args.self.now.tables.parts.sectors c.run_in_block-len.ensures.most c.requires.on_disk)

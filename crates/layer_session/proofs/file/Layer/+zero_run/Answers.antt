@@ -5,12 +5,14 @@ use Rattle.layer_session.specs.Calls.{PutsInto, sectors_in, with_zeros}
 use Rattle.layer_session.specs.Steps.{StandFrom}
 use Rattle.layer_session.specs.Taking.{IsBroken, IsDone}
 use Rattle.layer_session.proofs.Joining.{keeps_puts, put_none, puts_more}
-use Rattle.layer_session.proofs.Portions.{front_outside, least_first, least_second, place_behind, rest_on, rest_some, some_count}
+use Rattle.layer_session.proofs.Portions.{few_fit, front_outside, least_first, least_second, place_behind, rest_on, rest_some, some_count}
+use Rattle.layer_session.proofs.Handing.{few_bytes}
+use Rattle.layer_session.proofs.Known.{end_fits}
 use Rattle.layer_session.proofs.Sectors.{part_on}
 use Rattle.vhdx_format.specs.Fields.{megabyte}
 use Rattle.layer_session.proofs.Zeroing.{broken_more, done_zeros, entries_join, first_stands, join_broken, join_done, join_moments, piece_at, piece_clear, piece_count, piece_long, piece_some, piece_whole, place_small, rest_stands, zeros_join, zeros_nobody, zeros_off}
 use Rattle.layer_session.proofs.Told.{if_err, if_err_map, ok_map}
-use Rattle.vx_base.proofs.Handed.{err_is}
+use Rattle.vx_base.proofs.Handed.{err_is, not_ok}
 use Rattle.layer_session.proofs.file.Layer.+zero_run.Goals as goal
 
 pub returns-then-count-eq0-clause-moments : goal.returns-then-count-eq0-clause-moments
@@ -108,3 +110,21 @@ write-requires-clause-on_disk g t c =
     let n : sectors_in c.args.self.now (take (c.from-sector.result * c.min-len.result) c.deref.result.now) ≡ c.min-len.result =
     piece_count c.args.self.now c.from-sector.result c.min-len.result c.from-sector.ensures c.requires.ready.readable.sizes.sector (least_second c.min-len.result c.args.count (megabyte / c.from-sector.result) c.min-len.ensures) c.deref.result.now (c.deref.ensures.value ∙ c.requires.ready.clear) in
     subst (λ k. c.args.first + k ≤ c.args.self.now.tables.parts.sectors) (sym n) (part_on c.args.first c.min-len.result c.args.count c.args.self.now.tables.parts.sectors (least_first c.min-len.result c.args.count (megabyte / c.from-sector.result) c.min-len.ensures) c.requires.on_disk)
+
+pub write-requires-clause-ready : goal.write-requires-clause-ready
+write-requires-clause-ready g t c = c.requires.ready
+
+pub returns-in_err-write-clause-done : goal.returns-in_err-write-clause-done
+returns-in_err-write-clause-done g t c = not_ok c.from_residual.result _ c.from_residual.ensures.1 _
+
+pub returns-in_err-write-clause-same : goal.returns-in_err-write-clause-same
+returns-in_err-write-clause-same g t c = not_ok c.from_residual.result _ c.from_residual.ensures.1 _
+
+pub overflow_mul-bytes : goal.overflow_mul-bytes
+overflow_mul-bytes g t c = few_fit _ (few_bytes c.from-sector.result c.args.self.now.tables.parts.sector c.args.first c.min-len.result c.args.count c.args.self.now.tables.parts.sectors c.from-sector.ensures (least_first c.min-len.result c.args.count (megabyte / c.from-sector.result) c.min-len.ensures) c.requires.on_disk c.requires.ready.readable.sizes.most)
+
+pub overflow_add-first : goal.overflow_add-first
+overflow_add-first g t c = end_fits c.args.self.now.tables.parts c.requires.ready.readable.sizes c.args.first c.min-len.result (part_on c.args.first c.min-len.result c.args.count c.args.self.now.tables.parts.sectors (least_first c.min-len.result c.args.count (megabyte / c.from-sector.result) c.min-len.ensures) c.requires.on_disk)
+
+pub overflow_sub-count : goal.overflow_sub-count
+overflow_sub-count g t c = least_first c.min-len.result c.args.count (megabyte / c.from-sector.result) c.min-len.ensures

@@ -1,4 +1,4 @@
-use Rattle.std.proofs.Common.{◌≡◌, ◌≤◌, ◌∙◌, length, ap, refl, sym, subst, List}
+use Rattle.std.proofs.Common.{◌≡◌, ◌∙◌, length, ap, refl, sym, subst, List}
 use Rattle.table_pages.specs.Held.{shape_of}
 use Rattle.layer_session.specs.SectorRanges.{FitInCall}
 use Rattle.layer_session.specs.Bringing.{most_bit_pages}

@@ -1,4 +1,4 @@
-use Rattle.std.proofs.Common.{◌≡◌, ◌/◌, ◌∙◌, ◌+◌, ◌*◌, ◌≤◌, ap, sym, subst, true}
+use Rattle.std.proofs.Common.{◌≡◌, ◌/◌, ◌∙◌, ◌+◌, ◌≤◌, ap, sym, subst, true}
 use Rattle.std.specs.Prelude.{Err, Result}
 use Rattle.layer_session.specs.declared.file.LayerFault.{LayerFault}
 use Rattle.layer_session.specs.declared.file.LayerFault.TheVariants.{FileFull}

@@ -1,4 +1,4 @@
-use Rattle.std.proofs.Common.{◌≡◌, ℕ, true, subst}
+use Rattle.std.proofs.Common.{◌≡◌, true, subst}
 use Rattle.std.specs.Prelude.{OnOk, IfErr}
 use Rattle.store_model.specs.Disk.{WhereBothTold}
 use Rattle.layer_session.specs.Calls.{PutsInto, with_bytes}

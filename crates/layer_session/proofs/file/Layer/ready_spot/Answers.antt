@@ -1,4 +1,4 @@
-use Rattle.std.proofs.Common.{◌/◌, ap, false, inl, inr, refl, subst, sym}
+use Rattle.std.proofs.Common.{◌/◌, false, inl, inr, refl, subst, sym}
 use Rattle.layer_session.proofs.Sectors.{first_below}
 use Rattle.layer_session.proofs.Leading.{keeps_now}
 use Rattle.layer_session.proofs.Readying.{part_absent}

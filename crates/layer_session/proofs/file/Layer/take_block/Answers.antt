@@ -145,3 +145,46 @@ write_zeros-requires-clause-clear g c = c.requires.ready.clear
 
 pub returns-in-Ok-write_zeros-clause-counts : goal.returns-in-Ok-write_zeros-clause-counts
 returns-in-Ok-write_zeros-clause-counts g c = c.in-Ok-write_zeros.ensures.counts
+
+pub returns-in-Err-clause-counts : goal.returns-in-Err-clause-counts
+returns-in-Err-clause-counts g c = tt
+
+pub returns-in-Err-clause-ready : goal.returns-in-Err-clause-ready
+returns-in-Err-clause-ready g c = tt
+
+pub returns-in-Err-clause-taken : goal.returns-in-Err-clause-taken
+returns-in-Err-clause-taken g c = tt
+
+pub returns-in-Err-clause-unit : goal.returns-in-Err-clause-unit
+returns-in-Err-clause-unit g c = tt
+
+pub returns-in-Err-grow-clause-counts : goal.returns-in-Err-grow-clause-counts
+returns-in-Err-grow-clause-counts g c = tt
+
+pub returns-in-Err-grow-clause-ready : goal.returns-in-Err-grow-clause-ready
+returns-in-Err-grow-clause-ready g c = tt
+
+pub returns-in-Err-grow-clause-taken : goal.returns-in-Err-grow-clause-taken
+returns-in-Err-grow-clause-taken g c = tt
+
+pub returns-in-Err-grow-clause-unit : goal.returns-in-Err-grow-clause-unit
+returns-in-Err-grow-clause-unit g c = tt
+
+pub returns-in-Err-write_zeros-clause-counts : goal.returns-in-Err-write_zeros-clause-counts
+returns-in-Err-write_zeros-clause-counts g c = tt
+
+pub returns-in-Err-write_zeros-clause-ready : goal.returns-in-Err-write_zeros-clause-ready
+returns-in-Err-write_zeros-clause-ready g c = tt
+
+pub returns-in-Err-write_zeros-clause-taken : goal.returns-in-Err-write_zeros-clause-taken
+returns-in-Err-write_zeros-clause-taken g c = tt
+
+pub returns-in-Err-write_zeros-clause-unit : goal.returns-in-Err-write_zeros-clause-unit
+returns-in-Err-write_zeros-clause-unit g c = tt
+
+pub returns-in-Ok-grow-clause-broken : goal.returns-in-Ok-grow-clause-broken
+returns-in-Ok-grow-clause-broken g c = tt
+
+pub returns-in-Ok-write_zeros-clause-broken : goal.returns-in-Ok-write_zeros-clause-broken
+returns-in-Ok-write_zeros-clause-broken g c = tt
+
