@@ -17,12 +17,6 @@ pub record SectorsFit (count size : ℕ) (out mask : List ℕ) (at : ℕ) : Type
   pub bits : at + count ≤ 8 * length mask
   pub ends : at + count < 2 ^ 64
 
--- Some sectors of the disk lie in one block.
-pub record LieInOneBlock (parts : TableParts) (first count : ℕ) : Type 0 where
-  pub some : 0 < count
-  pub on_disk : first + count ≤ parts.sectors
-  pub run : first * parts.sector % parts.block + count * parts.sector ≤ parts.block
-
 -- Sectors of the disk, in a file with a parent, have their bits in one sector bitmap block, which is there.
 pub record HaveOneBitmap (t : Tables) (disk : Disk) (first count : ℕ) : Type 0 where
   pub parent : t.parts.parent ≡ true

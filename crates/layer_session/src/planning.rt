@@ -7,7 +7,8 @@ ghost use Rattle.table_pages.specs.Held.{shape_of};
 ghost use Rattle.layer_session.specs.Planning as spec;
 ghost use Rattle.layer_session.specs.Planning.{AreCounted, IsPlanned};
 ghost use Rattle.layer_session.specs.TablesRead.{AreReadable, HasRead};
-ghost use Rattle.layer_session.specs.Runs.{HaveOneBitmap, LieInOneBlock};
+ghost use Rattle.layer_session.specs.Runs.{HaveOneBitmap};
+ghost use Rattle.layer_session.specs.SectorRanges.{LieInBlock};
 ghost use Rattle.layer_session.specs.Blocks as blocks;
 ghost use Rattle.layer_session.specs.ByTables.{IsLookedBy, WantsAtMost, WhereHeld};
 
@@ -127,7 +128,8 @@ fn plan_of<S: Store>(
     trims: bool,
 ) -> Result<Plan, StoreFault>
     requires readable { AreReadable tables.old (S.disk store.old) }
-    requires block { LieInOneBlock tables.old.parts first count }
+    requires some { 0 < count }
+    requires block { LieInBlock tables.old.parts first count }
     ensures planned { IfOk result (λ plan. WhereHeld tables.old (S.disk store.old) (λ p file. IsPlanned p file trims first count plan)) }
     ensures reads { HasRead tables.old tables.new (S.disk store.old) }
     ensures stays { OnOk result (S.disk store.new ≡ S.disk store.old) }
@@ -169,7 +171,8 @@ fn plan_part<S: Store>(
 ) -> Result<Plan, StoreFault>
     requires readable { AreReadable tables.old (S.disk store.old) }
     requires parent { tables.old.parts.parent ≡ true }
-    requires block { LieInOneBlock tables.old.parts first count }
+    requires some { 0 < count }
+    requires block { LieInBlock tables.old.parts first count }
     requires state { word % 8 ≡ 7 }
     requires word { WhereHeld tables.old (S.disk store.old) (λ p file. word ≡ table_entry p file (entry_of p first)) }
     ensures planned { IfOk result (λ plan. WhereHeld tables.old (S.disk store.old) (λ p file. IsPlanned p file false first count plan)) }

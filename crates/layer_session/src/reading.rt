@@ -8,7 +8,8 @@ ghost use Rattle.vx_base.specs.Fields.{zeros};
 ghost use Rattle.vhdx_format.specs.SectorBitmaps.{bit_of, bit_value};
 ghost use Rattle.layer_session.specs.Keeping.{IsPartAt};
 ghost use Rattle.layer_session.specs.TablesRead.{HasRead};
-ghost use Rattle.layer_session.specs.Runs.{HaveOneBitmap, LieInOneBlock, SectorsAreReadable, SectorsFit};
+ghost use Rattle.layer_session.specs.Runs.{HaveOneBitmap, SectorsAreReadable, SectorsFit};
+ghost use Rattle.layer_session.specs.SectorRanges.{LieInBlock};
 ghost use Rattle.layer_session.specs.ByTables.{AddsOwnedBy, HasOwnedBy, HasOwnedMarked, HasOwnedRun, LieIn, WhereHeld};
 
 use crate::geometry::{entry_index, offset_in_block, place_in, run_in_block};
@@ -211,7 +212,8 @@ fn own_run<S: Store>(
     at: usize,
 ) -> Result<(), StoreFault>
     requires readable { SectorsAreReadable tables.old (S.disk store.old) }
-    requires block { LieInOneBlock tables.old.parts first count }
+    requires some { 0 < count }
+    requires block { LieInBlock tables.old.parts first count }
     requires room { SectorsFit count tables.old.parts.sector out.old mask.old at }
     ensures owned { OnOk result (HasOwnedBy tables.old (S.disk store.old) first count at mask.old mask.new out.old out.new) }
     ensures reads { HasRead tables.old tables.new (S.disk store.old) }

@@ -172,9 +172,11 @@ overflow_sub-count g t c = c.run_in_block-len.ensures.most
 pub returns-clause-stays : goal.returns-clause-stays
 returns-clause-stays g t c = c.in_ok-rest.ensures.stays ∙ c.in_ok-plan.ensures.stays
 
+pub plan_of-requires-clause-some : goal.plan_of-requires-clause-some
+plan_of-requires-clause-some g t c = c.run_in_block-len.ensures.some
+
 pub plan_of-requires-clause-block : goal.plan_of-requires-clause-block
 plan_of-requires-clause-block g t c = record {
-  some = c.run_in_block-len.ensures.some;
   on_disk = few_rows c.args.first c.run_in_block-len.result c.args.count _ c.run_in_block-len.ensures.most c.requires.on_disk;
   run = c.run_in_block-len.ensures.inside;
 }

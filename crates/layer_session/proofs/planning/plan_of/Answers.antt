@@ -1,5 +1,5 @@
 use Rattle.std.proofs.Common.{◌≡◌, ◌⊎◌, Bool, ◌+◌, ◌*◌, ◌%◌, ◌<◌, ◌≤◌, ◌∙◌, true, false, inl, inr, sym, subst, arith}
-use Rattle.layer_session.specs.Runs.{LieInOneBlock}
+use Rattle.layer_session.specs.SectorRanges.{LieInBlock}
 use Rattle.layer_session.specs.TablesRead.{HasRead}
 use Rattle.table_pages.specs.Held.{AreTablesIn, HasTables, held_file, shape_of}
 use Rattle.vhdx_format.specs.Layers.{entry_of, table_entry}
@@ -63,7 +63,7 @@ pub entry_index-requires-clause-parts : goal.entry_index-requires-clause-parts
 entry_index-requires-clause-parts g c = c.requires.readable.sizes
 
 pub entry_index-requires-clause-sector : goal.entry_index-requires-clause-sector
-entry_index-requires-clause-sector g c = first_below c.args.first c.args.count c.args.tables.now.parts.sectors c.requires.block.some c.requires.block.on_disk
+entry_index-requires-clause-sector g c = first_below c.args.first c.args.count c.args.tables.now.parts.sectors c.requires.some c.requires.block.on_disk
 
 pub entry-requires-clause-there : goal.entry-requires-clause-there
 entry-requires-clause-there g c = c.requires.readable.there
@@ -96,7 +96,7 @@ pub is_whole_block-requires-clause-on_disk : goal.is_whole_block-requires-clause
 is_whole_block-requires-clause-on_disk g c = c.requires.block.on_disk
 
 pub is_whole_block-requires-clause-some : goal.is_whole_block-requires-clause-some
-is_whole_block-requires-clause-some g c = c.requires.block.some
+is_whole_block-requires-clause-some g c = c.requires.some
 
 pub returns-then-is_whole_block-clause-reads : goal.returns-then-is_whole_block-clause-reads
 returns-then-is_whole_block-clause-reads g c = entry_reads _ _ _ c.entry.ensures.as_held c.entry.ensures.places
@@ -131,7 +131,7 @@ pub bitmap_entry_index-requires-clause-parent : goal.bitmap_entry_index-requires
 bitmap_entry_index-requires-clause-parent g c = c.if-parts-2.true
 
 pub bitmap_entry_index-requires-clause-sector : goal.bitmap_entry_index-requires-clause-sector
-bitmap_entry_index-requires-clause-sector g c = first_below c.args.first c.args.count c.args.tables.now.parts.sectors c.requires.block.some c.requires.block.on_disk
+bitmap_entry_index-requires-clause-sector g c = first_below c.args.first c.args.count c.args.tables.now.parts.sectors c.requires.some c.requires.block.on_disk
 
 pub entry-requires-then-state-eq-NOT_PRESENT-clause-there : goal.entry-requires-then-state-eq-NOT_PRESENT-clause-there
 entry-requires-then-state-eq-NOT_PRESENT-clause-there g c =
@@ -158,8 +158,11 @@ returns-in_err-bitmap-clause-err g c =
 pub returns-then-state-eq-NOT_PRESENT-clause-stays : goal.returns-then-state-eq-NOT_PRESENT-clause-stays
 returns-then-state-eq-NOT_PRESENT-clause-stays g c = c.in_ok-bitmap.ensures.stays ∙ c.in_ok-word.ensures.stays
 
+pub plan_part-requires-clause-some : goal.plan_part-requires-clause-some
+plan_part-requires-clause-some g c = c.requires.some
+
 pub plan_part-requires-clause-block : goal.plan_part-requires-clause-block
-plan_part-requires-clause-block g c = of_parts (λ p. LieInOneBlock p c.args.first c.args.count) _ _ c.entry.ensures.as_held.parts_are c.requires.block
+plan_part-requires-clause-block g c = of_parts (λ p. LieInBlock p c.args.first c.args.count) _ _ c.entry.ensures.as_held.parts_are c.requires.block
 
 pub returns-then-is_whole_block-clause-planned : goal.returns-then-is_whole_block-clause-planned
 returns-then-is_whole_block-clause-planned g c trace told =
@@ -182,7 +185,7 @@ returns-clause-planned g c trace told =
     elim c.if-state-ge-FULLY_PRESENT.branch [
       | then-state-ge-FULLY_PRESENT w ↦ rw w.step-is (
           planned_write c.args.tables.now (g.S.Store.disk c.args.store.now) trace c.args.trims c.args.first c.args.count c.in_ok-word.word c.requires.readable told
-          (first_below c.args.first c.args.count c.args.tables.now.parts.sectors c.requires.block.some c.requires.block.on_disk)
+          (first_below c.args.first c.args.count c.args.tables.now.parts.sectors c.requires.some c.requires.block.on_disk)
           (subst (λ i. c.in_ok-word.word ≡ table_entry (shape_of c.args.tables.now.parts) (held_file c.args.tables.now trace) i) c.entry_index.ensures.index (c.in_ok-word.ensures.entry trace told))
           w.if-state-ge-FULLY_PRESENT.true (alone _ _ c.else-parts.either) (
           elim c.else-trims.branch [

@@ -47,11 +47,11 @@ pub are_marked-requires-clause-bitmap : goal.are_marked-requires-clause-bitmap
 are_marked-requires-clause-bitmap g c =
     let same = c.entry.ensures.as_held.parts_are in
     let sized = c.requires.readable.sizes in
-    let below = first_below c.args.first c.args.count c.args.tables.now.parts.sectors c.requires.block.some c.requires.block.on_disk in
+    let below = first_below c.args.first c.args.count c.args.tables.now.parts.sectors c.requires.some c.requires.block.on_disk in
     record {
       parent = of_parts (λ p. p.parent ≡ true) _ _ same c.requires.parent;
       on_disk = of_parts (λ p. c.args.first + c.args.count ≤ p.sectors) _ _ same c.requires.block.on_disk;
-      chunk = in_chunk (shape_of c.args.tables.now.parts) (record { sector = sized.sector; block = sized.block }) c.args.first c.args.count c.requires.block.some c.requires.block.run;
+      chunk = in_chunk (shape_of c.args.tables.now.parts) (record { sector = sized.sector; block = sized.block }) c.args.first c.args.count c.requires.some c.requires.block.run;
       bitmap =
           λ some t told.
           let there = bits_there_again c.args.tables.now c.entry.new.self (g.S.Store.disk c.args.store.now) c.args.first (entry_reads _ _ _ c.entry.ensures.as_held c.entry.ensures.places)
@@ -66,7 +66,7 @@ pub bitmap_entry_index-index-requires-clause-parent : goal.bitmap_entry_index-in
 bitmap_entry_index-index-requires-clause-parent g c = c.requires.parent
 
 pub bitmap_entry_index-index-requires-clause-sector : goal.bitmap_entry_index-index-requires-clause-sector
-bitmap_entry_index-index-requires-clause-sector g c = first_below c.args.first c.args.count c.args.tables.now.parts.sectors c.requires.block.some c.requires.block.on_disk
+bitmap_entry_index-index-requires-clause-sector g c = first_below c.args.first c.args.count c.args.tables.now.parts.sectors c.requires.some c.requires.block.on_disk
 
 pub entry-requires-clause-there : goal.entry-requires-clause-there
 entry-requires-clause-there g c = c.requires.readable.there

@@ -80,8 +80,11 @@ pub own_run-requires-clause-room : goal.own_run-requires-clause-room
 own_run-requires-clause-room g n c =
     fit_front c.args.count c.run_in_block-len.result c.args.tables.now.parts.sector c.args.out.now c.split_at_mut-run.result.0.now c.args.mask.now c.args.at c.run_in_block-len.ensures.most (c.split_at_mut-run.ensures.front_len ∙ ap (λ s. s * c.run_in_block-len.result) c.from.ensures) c.requires.room
 
+pub own_run-requires-clause-some : goal.own_run-requires-clause-some
+own_run-requires-clause-some g n c = c.run_in_block-len.ensures.some
+
 pub own_run-requires-clause-block : goal.own_run-requires-clause-block
-own_run-requires-clause-block g n c = record { some = c.run_in_block-len.ensures.some; on_disk = few_rows c.args.first c.run_in_block-len.result c.args.count _ c.run_in_block-len.ensures.most c.requires.on_disk; run = c.run_in_block-len.ensures.inside }
+own_run-requires-clause-block g n c = record { on_disk = few_rows c.args.first c.run_in_block-len.result c.args.count _ c.run_in_block-len.ensures.most c.requires.on_disk; run = c.run_in_block-len.ensures.inside }
 
 pub overflow_add-first : goal.overflow_add-first
 overflow_add-first g n c = end_fits c.args.tables.now.parts c.requires.readable.tables.sizes c.args.first c.run_in_block-len.result (few_rows c.args.first c.run_in_block-len.result c.args.count _ c.run_in_block-len.ensures.most c.requires.on_disk)

@@ -31,7 +31,7 @@ returns-in-Here-clause-owned g c =
     sym (c.in_ok-word.ensures.entry t told ∙ ap (table_entry (shape_of c.args.tables.now.parts) held) c.entry_index.ensures.index) in
     let six : state_at (shape_of c.args.tables.now.parts) held (entry_of (shape_of c.args.tables.now.parts) c.args.first) ≡ 6 = ap (λ w. w % 8) word ∙ here c.args.tables.now.parts.parent c.in_ok-word.word _ c.in-Here.is c.sectors_of.ensures in
     full_owned c.args.tables.now.parts file held c.requires.readable.tables.sizes (c.requires.readable.stored t told) c.args.first c.args.count c.requires.block.on_disk c.requires.block.run c.place_in-place.result c.args.at c.args.mask.now c.take_run.new.mask c.args.out.now c.take_run.new.out six
-    (start_is c.args.tables.now.parts file held c.requires.readable.tables.sizes (c.requires.readable.stored t told) c.args.first c.args.count c.requires.block.on_disk c.requires.block.run (inl six) c.requires.block.some c.place_in-place.result
+    (start_is c.args.tables.now.parts file held c.requires.readable.tables.sizes (c.requires.readable.stored t told) c.args.first c.args.count c.requires.block.on_disk c.requires.block.run (inl six) c.requires.some c.place_in-place.result
     (c.place_in-place.ensures ∙ ap (λ o. min (c.in_ok-word.word / 2 ^ 20 * megabyte + o) (2 ^ 64 - 1)) c.offset_in_block.ensures.is
     ∙ ap (λ w. min (w / 2 ^ 20 * megabyte + c.args.first * c.args.tables.now.parts.sector % c.args.tables.now.parts.block) (2 ^ 64 - 1)) (sym word)))
     (owned t (ap (λ d. d.told) c.in_ok-word.ensures.stays ∙ told)))
@@ -59,7 +59,7 @@ returns-in-Zeros-clause-owned g c t told =
     let state : state_at (shape_of c.args.tables.now.parts) held (entry_of (shape_of c.args.tables.now.parts) c.args.first) ≡ c.in_ok-word.word % 8 = ap (λ w. w % 8) word in
     let nothing = standing.zeros c.args.tables.now.parts.parent c.in_ok-word.word _ c.in-Zeros.is c.sectors_of.ensures in
     zeros_owned c.args.tables.now.parts (seen (file_of t c.args.tables.now.parts.file)) held c.requires.readable.tables.sizes (c.requires.readable.stored t told) c.args.first c.args.count c.requires.block.on_disk c.requires.block.run c.args.at c.args.mask.now
-    c.set_range-in-Zeros.new.bits c.args.out.now c.clear.new.out (c.requires.readable.tables.states t told) c.requires.block.some (λ e. nothing.0 (sym state ∙ e)) (λ e. nothing.1 (sym state ∙ e)) (λ e. nothing.2 (sym state ∙ e))
+    c.set_range-in-Zeros.new.bits c.args.out.now c.clear.new.out (c.requires.readable.tables.states t told) c.requires.some (λ e. nothing.0 (sym state ∙ e)) (λ e. nothing.1 (sym state ∙ e)) (λ e. nothing.2 (sym state ∙ e))
     c.set_range-in-Zeros.ensures c.requires.room.bits c.set_range-in-Zeros.auto.bits c.clear.auto.out (c.clear.ensures ∙ ap zeros c.requires.room.bytes)
 
 pub returns-in-Here-clause-reads : goal.returns-in-Here-clause-reads
@@ -117,7 +117,7 @@ own_part-requires-clause-part g c =
       run = c.requires.block.run;
       seven = seven;
       place_is =
-          start_is c.args.tables.now.parts (seen (file_of t c.args.tables.now.parts.file)) held c.requires.readable.tables.sizes (c.requires.readable.stored t told) c.args.first c.args.count c.requires.block.on_disk c.requires.block.run (inr seven) c.requires.block.some c.place_in-place.result
+          start_is c.args.tables.now.parts (seen (file_of t c.args.tables.now.parts.file)) held c.requires.readable.tables.sizes (c.requires.readable.stored t told) c.args.first c.args.count c.requires.block.on_disk c.requires.block.run (inr seven) c.requires.some c.place_in-place.result
           (c.place_in-place.ensures ∙ ap (λ o. min (c.in_ok-word.word / 2 ^ 20 * megabyte + o) (2 ^ 64 - 1)) c.offset_in_block.ensures.is
           ∙ ap (λ w. min (w / 2 ^ 20 * megabyte + c.args.first * c.args.tables.now.parts.sector % c.args.tables.now.parts.block) (2 ^ 64 - 1)) (sym word));
     })
@@ -132,10 +132,10 @@ take_run-requires-clause-inside g c =
     sym (c.in_ok-word.ensures.entry t told ∙ ap (table_entry (shape_of c.args.tables.now.parts) held) c.entry_index.ensures.index) in
     let six : state_at (shape_of c.args.tables.now.parts) held (entry_of (shape_of c.args.tables.now.parts) c.args.first) ≡ 6 = ap (λ w. w % 8) word ∙ here c.args.tables.now.parts.parent c.in_ok-word.word _ c.in-Here.is c.sectors_of.ensures in
     subst (λ n. n + c.args.tables.now.parts.sector * c.args.count ≤ length (seen (file_of t c.args.tables.now.parts.file))) (sym (
-    start_is c.args.tables.now.parts (seen (file_of t c.args.tables.now.parts.file)) held c.requires.readable.tables.sizes (c.requires.readable.stored t told) c.args.first c.args.count c.requires.block.on_disk c.requires.block.run (inl six) c.requires.block.some c.place_in-place.result
+    start_is c.args.tables.now.parts (seen (file_of t c.args.tables.now.parts.file)) held c.requires.readable.tables.sizes (c.requires.readable.stored t told) c.args.first c.args.count c.requires.block.on_disk c.requires.block.run (inl six) c.requires.some c.place_in-place.result
     (c.place_in-place.ensures ∙ ap (λ o. min (c.in_ok-word.word / 2 ^ 20 * megabyte + o) (2 ^ 64 - 1)) c.offset_in_block.ensures.is
     ∙ ap (λ w. min (w / 2 ^ 20 * megabyte + c.args.first * c.args.tables.now.parts.sector % c.args.tables.now.parts.block) (2 ^ 64 - 1)) (sym word))))
-    (run_within c.args.tables.now.parts (seen (file_of t c.args.tables.now.parts.file)) held c.requires.readable.tables.sizes (c.requires.readable.stored t told) c.args.first c.args.count c.requires.block.on_disk c.requires.block.run (inl six) c.requires.block.some)
+    (run_within c.args.tables.now.parts (seen (file_of t c.args.tables.now.parts.file)) held c.requires.readable.tables.sizes (c.requires.readable.stored t told) c.args.first c.args.count c.requires.block.on_disk c.requires.block.run (inl six) c.requires.some)
 
 pub returns-in-Here-clause-stays : goal.returns-in-Here-clause-stays
 returns-in-Here-clause-stays g c = stays_then c.take_run.result (g.S.Store.disk c.args.store.now) (g.S.Store.disk c.entry.new.store) (g.S.Store.disk c.take_run.new.store) c.in_ok-word.ensures.stays c.take_run.ensures.stays
@@ -153,10 +153,10 @@ pub returns-in-Zeros-clause-stays : goal.returns-in-Zeros-clause-stays
 returns-in-Zeros-clause-stays g c = c.in_ok-word.ensures.stays
 
 pub entry_index-requires-clause-sector : goal.entry_index-requires-clause-sector
-entry_index-requires-clause-sector g c = first_below c.args.first c.args.count c.args.tables.now.parts.sectors c.requires.block.some c.requires.block.on_disk
+entry_index-requires-clause-sector g c = first_below c.args.first c.args.count c.args.tables.now.parts.sectors c.requires.some c.requires.block.on_disk
 
 pub offset_in_block-requires-clause-sector : goal.offset_in_block-requires-clause-sector
-offset_in_block-requires-clause-sector g c = first_below c.args.first c.args.count c.args.tables.now.parts.sectors c.requires.block.some c.requires.block.on_disk
+offset_in_block-requires-clause-sector g c = first_below c.args.first c.args.count c.args.tables.now.parts.sectors c.requires.some c.requires.block.on_disk
 
 pub returns-in-Absent-clause-stays : goal.returns-in-Absent-clause-stays
 returns-in-Absent-clause-stays g c = c.in_ok-word.ensures.stays
@@ -186,7 +186,7 @@ own_part-requires-clause-bitmap g c =
     record {
       parent = subst (λ (p : TableParts). p.parent ≡ true) (sym c.entry.ensures.as_held.parts_are) parent;
       on_disk = sectors_of c.args.tables.now.parts c.entry.new.self.parts (c.args.first + c.args.count) c.entry.ensures.as_held.parts_are c.requires.block.on_disk;
-      chunk = in_chunk (shape_of c.args.tables.now.parts) (record { sector = c.requires.readable.tables.sizes.sector; block = c.requires.readable.tables.sizes.block }) c.args.first c.args.count c.requires.block.some c.requires.block.run;
+      chunk = in_chunk (shape_of c.args.tables.now.parts) (record { sector = c.requires.readable.tables.sizes.sector; block = c.requires.readable.tables.sizes.block }) c.args.first c.args.count c.requires.some c.requires.block.run;
       bitmap =
           λ some t after.
           bits_there_again c.args.tables.now c.entry.new.self (g.S.Store.disk c.args.store.now) c.args.first (entry_reads c.args.tables.now c.entry.new.self (g.S.Store.disk c.args.store.now) c.entry.ensures.as_held c.entry.ensures.places)
@@ -195,7 +195,7 @@ own_part-requires-clause-bitmap g c =
           let word : table_entry (shape_of c.args.tables.now.parts) held (entry_of (shape_of c.args.tables.now.parts) c.args.first) ≡ c.in_ok-word.word =
           sym (c.in_ok-word.ensures.entry t told ∙ ap (table_entry (shape_of c.args.tables.now.parts) held) c.entry_index.ensures.index) in
           let seven : state_at (shape_of c.args.tables.now.parts) held (entry_of (shape_of c.args.tables.now.parts) c.args.first) ≡ 7 = ap (λ w. w % 8) word ∙ (marked c.args.tables.now.parts.parent c.in_ok-word.word _ c.in-Marked.is c.sectors_of.ensures).0 in
-          (c.requires.readable.tables.bitmaps t told).there c.args.first (first_below c.args.first c.args.count c.args.tables.now.parts.sectors c.requires.block.some c.requires.block.on_disk) parent seven)
+          (c.requires.readable.tables.bitmaps t told).there c.args.first (first_below c.args.first c.args.count c.args.tables.now.parts.sectors c.requires.some c.requires.block.on_disk) parent seven)
           t (ap (λ d. d.told) (sym c.in_ok-word.ensures.stays) ∙ after);
     }
 
