@@ -187,4 +187,3 @@ returns-in-Ok-grow-clause-broken g c = tt
 
 pub returns-in-Ok-write_zeros-clause-broken : goal.returns-in-Ok-write_zeros-clause-broken
 returns-in-Ok-write_zeros-clause-broken g c = tt
-
