@@ -4,6 +4,8 @@ use Rattle.std.proofs.Math.Nat.{add-mul, mul-div_cancel}
 use Rattle.std.proofs.lemmas.Nat.{div-add-mod', le-div, mod_below}
 use Rattle.std.specs.Prelude.{min, Result, Ok, Err, Some, IfErr, OnErr, OnOk, Option}
 use Rattle.store_model.specs.Disk.{Disk, ReadFailed, WhereBothTold, WhereTold}
+use Rattle.store_model.specs.Cause.{RoseAt}
+use Rattle.store_model.specs.Plans.{FailsToChange}
 use Rattle.store_model.specs.File.{seen}
 use Rattle.store_model.specs.Trace.{Trace, file_of}
 use Rattle.store_model.specs.declared.fault.StoreFault.{StoreFault}
@@ -41,6 +43,10 @@ use Rattle.vx_base.proofs.Handed.{ok_then}
 -- a state fits an u32
 pub state_fits : (word : ℕ) → Fits w32 (word % 8)
 state_fits word = omega arith
+
+-- the lesser of two
+pub few_of : (n a b : ℕ) → n ≡ min a b → n ≤ a
+few_of n a b is = omega (arith, is)
 
 pub some_sum : (first count : ℕ) → 0 < count → 1 ≤ first + count
 some_sum first count some = omega (arith, some)
@@ -259,6 +265,15 @@ pub fails_from : {T : Type 0} (r : Result T StoreFault) (old new : TableParts) (
     → IfErr r (ReadFailed new.file middle after) → IfErr r (ReadFailed old.file disk after)
 fails_from r old new disk middle after e same failed =
     subst (λ (p : TableParts). IfErr r (ReadFailed p.file disk after)) e (subst (λ d. IfErr r (ReadFailed new.file d after)) same failed)
+
+-- a change that failed behind another one
+pub behind_change : {T : Type 0} (r : Result T StoreFault) (file : ℕ) (old middle after : Disk) → middle ≡ record old { told = middle.told } → IfErr r (FailsToChange file middle after) → IfErr r (FailsToChange file old after)
+behind_change (Ok x) file old middle after e h = tt
+behind_change (Err fault) file old middle after e h = record {
+  stays = h.stays ∙ ap (λ (d : Disk). record d { told = after.told; failed_changes = after.failed_changes }) e;
+  of_file = h.of_file;
+  count = subst (λ counts. RoseAt file fault.count counts after.failed_changes) (ap (λ (d : Disk). d.failed_changes) e) h.count;
+}
 
 -- a read that failed doesn't tell that the file is full
 pub read_not_full : {T : Type 0} (fault : StoreFault) (next : ℕ) → ◌≡◌ {A = Result T LayerFault} (Err (Read fault)) (Err (FileFull next)) → ⊥

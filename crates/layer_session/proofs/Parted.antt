@@ -1,6 +1,6 @@
 -- Sectors of one block, by the tables that were read.
-use Rattle.std.proofs.Common.{◌≡◌, ◌≢◌, ℕ, ◌+◌, ◌-◌, ◌*◌, ◌%◌, ◌^◌, ◌<◌, ◌≤◌, ◌⊎◌, ◌==◌, true, false, if◌then◌else◌, List, ◌++◌, length, Some, None, sym, ap, subst, ◌∙◌, arith, inl, inr}
-use Rattle.std.specs.Prelude.{min, Result, Ok, Err, OnOk}
+use Rattle.std.proofs.Common.{◌≡◌, ◌≢◌, ℕ, ◌+◌, ◌-◌, ◌*◌, ◌%◌, ◌^◌, ◌<◌, ◌≤◌, ◌⊎◌, ◌==◌, true, false, if◌then◌else◌, List, length, Some, None, sym, ap, subst, ◌∙◌, arith, inl, inr}
+use Rattle.std.specs.Prelude.{min}
 use Rattle.std.proofs.Math.Nat.{add-mul, mul_comm}
 use Rattle.std.proofs.lemmas.Bool.{cases_eq}
 use Rattle.vx_base.specs.Fields.{bytes_at, zeros}
@@ -11,7 +11,6 @@ use Rattle.vhdx_format.specs.SectorBitmaps.{HasRunSet, bit_of}
 use Rattle.vhdx_format.proofs.LayerLemmas.{by_state-absent, by_state-base, by_state-full, by_state-zeros, sector_entries}
 use Rattle.vhdx_format.proofs.MadeOpen.{zeros_within}
 use Rattle.vhdx_format.proofs.SizeLemmas.{sector_cases}
-use Rattle.store_model.specs.declared.fault.StoreFault.{StoreFault}
 use Rattle.store_model.specs.Disk.{Disk, WhereTold}
 use Rattle.store_model.specs.File.{seen}
 use Rattle.store_model.specs.Trace.{Trace, file_of}

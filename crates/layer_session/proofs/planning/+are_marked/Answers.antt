@@ -1,4 +1,6 @@
-use Rattle.std.proofs.Common.{◌≡◌, true, false, ap, refl, subst}
+use Rattle.std.proofs.Common.{◌≡◌, true, false, ap, refl, subst, sym}
+use Rattle.table_pages.specs.Held.{held_file, shape_of}
+use Rattle.layer_session.specs.Planning.{are_marked}
 use Rattle.layer_session.specs.TablesRead.{HasRead}
 use Rattle.layer_session.proofs.Choices.{readable_then}
 use Rattle.layer_session.proofs.Planned.{marked_then, not_marked, read_none, read_then}
@@ -101,3 +103,7 @@ returns-clause-stays g t c = stays_then c.are_marked.result (g.S.Store.disk c.ar
 
 pub returns-clause-err : goal.returns-clause-err
 returns-clause-err g t c = fails_then c.are_marked.result c.args.tables.now.parts.file c.are_few_marked.new.tables.parts.file (g.S.Store.disk c.args.store.now) (g.S.Store.disk c.are_few_marked.new.store) (g.S.Store.disk c.are_marked.new.store) c.in_ok-are_few_marked.ensures.stays (ap (λ (p : TableParts). p.file) c.are_few_marked.ensures.reads.as_held.parts_are) c.are_marked.ensures.err
+
+pub returns-then-count-eq0-clause-marked : goal.returns-then-count-eq0-clause-marked
+returns-then-count-eq0-clause-marked g t c trace told =
+    subst (λ n. true ≡ are_marked (shape_of c.args.tables.now.parts) (held_file c.args.tables.now trace) c.args.first n) (sym c.if-count-eq0.true) refl

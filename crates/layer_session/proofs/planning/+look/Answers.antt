@@ -36,7 +36,7 @@ pub look-requires : goal.look-requires
 look-requires g t c κs within =
     let stays = c.in_ok-plan.ensures.stays in
     let parts = c.plan_of.ensures.reads.as_held.parts_are in (
-      omega arith,
+      rest_smaller c.run_in_block-len.result c.args.count t c.decreases c.run_in_block-len.ensures.some c.run_in_block-len.ensures.most,
       (
         within.0,
         (

@@ -1,5 +1,5 @@
 use Rattle.std.specs.Prelude.{min}
-use Rattle.std.proofs.Common.{◌^◌, ◌<◌, ◌≤◌, ◌+◌, ◌-◌, ◌*◌, length, arith, ap, subst, ◌∙◌, refl}
+use Rattle.std.proofs.Common.{◌^◌, ◌+◌, ◌-◌, ◌*◌, length, arith, ap, subst, ◌∙◌, refl}
 use Rattle.table_pages.specs.declared.tables.TableParts.{TableParts}
 use Rattle.layer_session.specs.TablesRead.{HasRead}
 use Rattle.layer_session.proofs.Owned.{owned_rest}

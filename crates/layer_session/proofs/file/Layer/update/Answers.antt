@@ -1,4 +1,4 @@
-use Rattle.std.proofs.Common.{List, subst, sym, ◌∙◌}
+use Rattle.std.proofs.Common.{List, inl, refl, subst, sym, ◌∙◌}
 use Rattle.store_model.specs.Disk.{WhereBothTold}
 use Rattle.store_model.specs.File.{seen}
 use Rattle.store_model.specs.Trace.{file_of}
@@ -13,6 +13,7 @@ use Rattle.layer_session.specs.Keeping.{IsReadable, IsReady}
 use Rattle.layer_session.specs.Updating.{HasUpdated, UpdatesOver}
 use Rattle.layer_session.proofs.Updates.{behind_is, keeps_same, never_left_out, puts_all, runs_behind, torn_is, untold, update_moments, update_readable, update_ready, update_rest, update_served}
 use Rattle.layer_session.proofs.Equal.{true_false}
+use Rattle.vx_base.proofs.Handed.{not_ok}
 use Rattle.layer_session.proofs.file.Layer.update.Goals as goal
 
 pub returns-then-not-can_take-clause-moments : goal.returns-then-not-can_take-clause-moments
@@ -91,3 +92,66 @@ returns-clause-ready g c =
     (runs_behind l pages made c.put_pages.ensures.parts c.put_pages.ensures.pending c.commit.new.self old.told new.told c.in_ok-commit.ensures.log c.in_ok-commit.ensures.running) content in
     subst (λ (then : Layer). IsReady then new) (behind_is l pages made c.put_pages.ensures.parts c.put_pages.ensures.pending c.commit.new.self c.commit.new.pending c.committed.new.self c.in_ok-commit.ensures.log c.in_ok-commit.ensures.taken c.committed.ensures)
     (update_ready l pages old new c.requires.ready.one_file c.requires.numbers c.requires.empty c.commit.ensures.only made.cache puts keeps c.requires.ready c.requires.turns c.in_ok-commit.ensures.counts served)
+
+pub returns-then-not-can_take-clause-broken : goal.returns-then-not-can_take-clause-broken
+returns-then-not-can_take-clause-broken g c = tt
+
+pub returns-then-not-can_take-clause-counts : goal.returns-then-not-can_take-clause-counts
+returns-then-not-can_take-clause-counts g c = refl
+
+pub returns-then-not-can_take-clause-empty : goal.returns-then-not-can_take-clause-empty
+returns-then-not-can_take-clause-empty g c = c.requires.empty
+
+pub returns-then-not-can_take-clause-err : goal.returns-then-not-can_take-clause-err
+returns-then-not-can_take-clause-err g c = tt
+
+pub returns-then-not-can_take-clause-header : goal.returns-then-not-can_take-clause-header
+returns-then-not-can_take-clause-header g c = refl
+
+pub returns-then-not-can_take-clause-leave : goal.returns-then-not-can_take-clause-leave
+returns-then-not-can_take-clause-leave g c = refl
+
+pub returns-then-not-can_take-clause-parts : goal.returns-then-not-can_take-clause-parts
+returns-then-not-can_take-clause-parts g c = refl
+
+pub returns-then-not-can_take-clause-plans : goal.returns-then-not-can_take-clause-plans
+returns-then-not-can_take-clause-plans g c = refl
+
+pub returns-then-not-can_take-clause-ready : goal.returns-then-not-can_take-clause-ready
+returns-then-not-can_take-clause-ready g c = c.requires.ready
+
+pub returns-then-not-can_take-clause-space : goal.returns-then-not-can_take-clause-space
+returns-then-not-can_take-clause-space g c = inl refl
+
+pub returns-clause-broken : goal.returns-clause-broken
+returns-clause-broken g c = tt
+
+pub returns-clause-err : goal.returns-clause-err
+returns-clause-err g c = tt
+
+pub returns-clause-leave : goal.returns-clause-leave
+returns-clause-leave g c = refl
+
+pub returns-clause-plans : goal.returns-clause-plans
+returns-clause-plans g c = refl
+
+pub returns-in_err-commit-clause-counts : goal.returns-in_err-commit-clause-counts
+returns-in_err-commit-clause-counts g c = not_ok c.from_residual.result _ c.from_residual.ensures.1 _
+
+pub returns-in_err-commit-clause-empty : goal.returns-in_err-commit-clause-empty
+returns-in_err-commit-clause-empty g c = not_ok c.from_residual.result _ c.from_residual.ensures.1 _
+
+pub returns-in_err-commit-clause-ready : goal.returns-in_err-commit-clause-ready
+returns-in_err-commit-clause-ready g c = not_ok c.from_residual.result _ c.from_residual.ensures.1 _
+
+pub returns-in_err-commit-clause-space : goal.returns-in_err-commit-clause-space
+returns-in_err-commit-clause-space g c = not_ok c.from_residual.result _ c.from_residual.ensures.1 _
+
+pub returns-in_err-commit-clause-updated : goal.returns-in_err-commit-clause-updated
+returns-in_err-commit-clause-updated g c = not_ok c.from_residual.result _ c.from_residual.ensures.1 _
+
+pub returns-in_err-commit-clause-leave : goal.returns-in_err-commit-clause-leave
+returns-in_err-commit-clause-leave g c = refl
+
+pub returns-in_err-commit-clause-plans : goal.returns-in_err-commit-clause-plans
+returns-in_err-commit-clause-plans g c = refl
