@@ -1,5 +1,5 @@
 -- What a guest call says of its noting: where it was refused before that, and once it was noted.
-use Rattle.std.proofs.Common.{◌≡◌, ◌+◌, ◌≤◌, ◌/◌, ◌^◌, ℕ, Bool, true, false, is_some, length, ◌||◌, sym, ap, ◌∙◌, arith, nat_lt, ◌==◌}
+use Rattle.std.proofs.Common.{◌≡◌, ◌+◌, ◌≤◌, ◌/◌, ◌^◌, ℕ, Bool, true, false, is_some, length, ◌||◌, refl, sym, ap, ◌∙◌, arith, nat_lt, ◌==◌, ltb-false}
 use Rattle.std.specs.Prelude.{Option, Some, None, Result, Ok, Err, IfErr, IsErrAnd, OnErr, if◌then◌else◌}
 use Rattle.store_model.specs.declared.fault.StoreFault.{StoreFault}
 use Rattle.guest_model.specs.declared.call.Call.{Call}
@@ -11,7 +11,7 @@ use Rattle.guest_model.specs.Ranges.{range_refusal}
 use Rattle.vx_base.specs.declared.parts.Geometry.{Geometry}
 use Rattle.chain_core.specs.Refusing.{broken_by, is_read, misplaced, out_of, range_of, unfit}
 use Rattle.chain_core.specs.declared.layers.Layers.{Layers}
-use Rattle.layer_session.proofs.Equal.{err_same, none_some, ok_err, some_same}
+use Rattle.layer_session.proofs.Equal.{err_ok, err_same, none_some, ok_err, some_same}
 
 pub on_err_any : {T E : Type 0} (result : Result T E) (P : Type 0) → P → OnErr result P
 on_err_any (Ok x) P p = tt
@@ -63,3 +63,14 @@ one_noted n events noted few = let room : nat_lt (n + 1) (2 ^ 64) ≡ true = gri
 pub err_is : {T E : Type 0} (result : Result T E) (P : E → Type 0) → IsErrAnd result P → IfErr result P
 err_is (Ok x) P is = tt
 err_is (Err e) P is = is
+
+-- a range that isn't refused is on the disk, and within the limit
+within_by : (first count limit sectors : ℕ) (a b c : Bool) → nat_lt limit count ≡ b → nat_lt sectors (first + count) ≡ c
+    → ◌≡◌ {A = Result (Unit {0}) ChainRefusal} (if a then Err refusals.EmptyRange else if b then Err (refusals.TooLong count limit) else if c then Err (refusals.OutOfRange first count sectors) else Ok tt) (Ok tt) → (first + count ≤ sectors) × (count ≤ limit)
+within_by first count limit sectors true b c l s is = absurd (err_ok is)
+within_by first count limit sectors false true c l s is = absurd (err_ok is)
+within_by first count limit sectors false false true l s is = absurd (err_ok is)
+within_by first count limit sectors false false false l s is = (ltb-false sectors (first + count) s, ltb-false limit count l)
+
+pub range_within : (first count limit sectors : ℕ) → range_refusal first count limit sectors ≡ Ok tt → (first + count ≤ sectors) × (count ≤ limit)
+range_within first count limit sectors = within_by first count limit sectors (count == 0) (nat_lt limit count) (nat_lt sectors (first + count)) refl refl

@@ -29,6 +29,7 @@ use Rattle.chain_core.specs.Merging.{IsTruePiece}
 use Rattle.chain_core.specs.Reading.{HasOnlyRead}
 use Rattle.chain_core.specs.Sessions.{AreReady, AtMostOne, IsMergeOf}
 use Rattle.chain_core.specs.States.{AreHeld, IsCourse, IsServing, IsUnder, Rest, State, merging, plain, retiring, sector_of}
+use Rattle.chain_core.proofs.Numbers.{before_next, stripe_of_512}
 use Rattle.chain_core.proofs.Finding.{below_reads}
 use Rattle.chain_core.proofs.Putting.{have_parts}
 use Rattle.layer_session.proofs.Equal.{false_true}
@@ -108,7 +109,7 @@ merge_of layers u disk merge_is ready = subst (λ o. IfSome o (IsMergeOf layers.
 
 pub source_at : (layers : Layers) (u : Underway) (disk : Disk) (x d : FileLayer) → layers.merge ≡ Some u → AreReady layers disk → x ≡ get_or layers.below.items u.source d → IsAt layers.below.items u.source x
 source_at layers u disk x d merge_is ready is =
-    subst (IsAt layers.below.items u.source) (sym is) (at_place layers.below.items u.source d (omega (arith, (merge_of layers u disk merge_is ready).there)))
+    subst (IsAt layers.below.items u.source) (sym is) (at_place layers.below.items u.source d (before_next u.source (length layers.below.items) (merge_of layers u disk merge_is ready).there))
 
 pub one_of : (P : FileLayer → Type 0) (a : List FileLayer) (x : FileLayer) (b : List FileLayer) → AllByRecursion P (a ++ x ∷ b) → P x
 one_of P [] x b all = all.0
@@ -162,6 +163,11 @@ source_taken v (merging above source target below m) layers leaf u x trace piece
     let t = taken source own in
     true_pieces.taken z m.first [] source.member.layer piece stripes (λ s. under.under_way.source_is s) (stamp ∙ sym (stamps_by_call.none z piece.stripe)) t.within t.taken
 
+-- what is none isn't some
+pub none_left : {A : Type 0} (o : Option A) → ((x : A) → o ≡ Some x → ⊥) → is_some o ≡ true → ⊥
+none_left None not some = false_true some
+none_left (Some x) not some = not x refl
+
 pub some_leaf : (o : Option Layer) → is_some o ≡ true → (leaf : Layer) × (o ≡ Some leaf)
 some_leaf None some = absurd (false_true some)
 some_leaf (Some leaf) some = (leaf, refl)
@@ -173,7 +179,7 @@ takes layers u x disk (Ok done) piece merge_is at ready stamp taken = λ trace t
     let merge : IsMergeOf layers.geometry layers.leaf layers.below.items u = subst (λ o. IfSome o (IsMergeOf layers.geometry layers.leaf layers.below.items)) merge_is ready.merge in
     let leaf = some_leaf layers.leaf merge.session in
     let size : layers.geometry.sector ≡ sector_of v = ap (λ (k : Geometry). k.sector) serving.geometry in
-    let stripes : 0 < per_stripe (sector_of v) = subst (λ (z : ℕ). 0 < per_stripe z) (sym ready.sector ∙ size) (omega arith) in
+    let stripes : 0 < per_stripe (sector_of v) = stripe_of_512 (sector_of v) (sym ready.sector ∙ size) in
     source_taken v v.rest layers leaf.0 u x trace piece leaf.1 merge_is at serving stripes stamp (λ file own. subst (λ (z : ℕ). IsTaken z file.member.layer piece) size (taken file trace told own))
 
 -- all that a take of the source says

@@ -2,7 +2,7 @@ use Rattle.std.specs.Prelude.{Err, IfErr}
 use Rattle.store_model.specs.declared.fault.SealFault.{SealFault}
 use Rattle.chain_core.specs.MergeStarting.{BeginsMerge, files_in}
 use Rattle.chain_core.proofs.MergeAsked.{source_numbers}
-use Rattle.chain_core.proofs.MergeBegun.{begun_upper, behind_source, behind_top, leaf_numbered, leaf_ready, locator_stops, source_ready, source_stops, top_stops, twice_turns}
+use Rattle.chain_core.proofs.MergeBegun.{begun_upper, behind_source, behind_top, leaf_numbered, leaf_ready, locator_stops, source_ready, source_stops, source_within, top_stops, twice_turns}
 use Rattle.vx_base.proofs.Handed.{handed, not_if_ok}
 use Rattle.chain_core.proofs.merge_start.begin_upper.Goals as goal
 
@@ -34,6 +34,15 @@ begin-requires-2-clause-numbers g c =
     let m = files_in c.args.of in
     let d = g.S.Store.disk c.args.store.now in
     source_numbers m c.args.merge.now d c.requires.files c.requires.plan
+
+pub begin-requires-2-clause-there : goal.begin-requires-2-clause-there
+begin-requires-2-clause-there g c =
+    let m = files_in c.args.of in
+    let d = g.S.Store.disk c.args.store.now in
+    let a = g.S.Store.disk c.begin.new.store in
+    let leaf = c.in_ok-leaf.leaf in
+    let r1 = behind_top m c.args.merge.now d c.requires.files c.requires.plan c.leaf_of-top.result.now c.data_session-leaf_ids.result c.leaf_of-top.ensures c.data_session-leaf_ids.ensures a c.begin.ensures.moments leaf c.in_ok-leaf.ensures.served c.in_ok-leaf.ensures.counts in
+    source_within m c.args.merge.now d c.requires.files c.requires.plan leaf a r1 c.log_session-source_ids.result c.log_session-source_ids.ensures
 
 pub begin-requires-2-clause-ready : goal.begin-requires-2-clause-ready
 begin-requires-2-clause-ready g c =
