@@ -8,7 +8,7 @@ use Rattle.chain_core.specs.Finished.{ChangesFile, IsReplaced, UpdatesBy, at_lea
 use Rattle.chain_core.specs.declared.layers.Layers.{Layers}
 use Rattle.chain_core.proofs.Exchanged.{child_turned, turns_of}
 use Rattle.chain_core.proofs.Numbers.{back_one, length_items, none_below}
-use Rattle.chain_core.proofs.Places.{none_left}
+use Rattle.chain_core.proofs.Places.{none_left, leaf_not_none, merge_of}
 use Rattle.chain_core.proofs.layers.Layers.relink.Goals as goal
 
 pub returns-then-place-gt0 : goal.returns-then-place-gt0
@@ -72,3 +72,6 @@ returns-in-Some-leaf g c =
 
 pub returns-in_default : goal.returns-in_default
 returns-in_default g c = absurd (none_left c.args.self.now.merge c.in_default.not-Some c.requires.merge)
+
+pub returns-in-None : goal.returns-in-None
+returns-in-None g c = absurd (leaf_not_none c.args.self.now c.in-None.is (merge_of c.args.self.now c.in-Some.merge (g.S.Store.disk c.args.store.now) c.in-Some.is c.requires.ready).session)

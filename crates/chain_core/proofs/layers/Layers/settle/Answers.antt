@@ -1,9 +1,10 @@
 use Rattle.std.proofs.Common.{refl, sym, subst, ap, length, ◌∙◌, ◌-◌, ◌+◌, ◌≡◌, ℕ}
 use Rattle.std.proofs.lemmas.List.{with_items_is}
 use Rattle.std.specs.Vec.{with_items}
-use Rattle.chain_core.specs.Finished.{IsReplaced, at_leaf, at_lower}
+use Rattle.chain_core.specs.Finished.{IsReplaced, at_leaf, at_lower, IsSessionOf}
 use Rattle.chain_core.specs.declared.layers.Layers.{Layers}
 use Rattle.chain_core.proofs.Numbers.{back_one, length_items, none_below}
+use Rattle.chain_core.proofs.Places.{leaf_not_none}
 use Rattle.chain_core.proofs.layers.Layers.settle.Goals as goal
 
 pub returns-then-place-gt0 : goal.returns-then-place-gt0
@@ -40,3 +41,6 @@ returns-in-Some g c =
         err = c.commit.ensures.err;
       };
     }
+
+pub returns-in-None : goal.returns-in-None
+returns-in-None g c = absurd (leaf_not_none c.args.self.now c.in-None.is (subst (λ (n : ℕ). IsSessionOf c.args.self.now n) (none_below c.args.place c.if-place-gt0.false) c.requires.session))

@@ -9,9 +9,11 @@ use Rattle.chain_core.proofs.Copied.{low_on}
 use Rattle.chain_core.proofs.Exchanged.{child_session, child_waits, exchanged_low, exchanged_numbers}
 use Rattle.chain_core.proofs.Finishes.{finish_done, finish_stopped_first, finish_stopped_second, finish_stopped_third, settled_ready}
 use Rattle.vx_base.proofs.Handed.{handed}
-use Rattle.chain_core.proofs.Places.{alone, merge_of, none_left}
+use Rattle.chain_core.proofs.Places.{alone, merge_of, is_none, leaf_merge}
 use Rattle.chain_core.proofs.Numbers.{five_of_five, four_of_five, length_items, within_len}
-use Rattle.chain_core.proofs.layers.Layers.drop_source.Goals as goal
+use Rattle.chain_core.proofs.Stopped.{leaf_copied}
+use Rattle.chain_core.specs.Sessions.{marks_in}
+use Rattle.chain_core.proofs.layers.Layers.finish.Goals as goal
 
 pub returns-in_err-settle : goal.returns-in_err-settle
 returns-in_err-settle g c =
@@ -112,7 +114,7 @@ returns-in_err-relink g c =
     let fault = c.in_err-relink.field-0.0 in
     let third : ChangesFile (UpdatesBy u.relink) u.source L2 L3 d2 d3 (Err fault) = subst (λ o. IfSome o (λ w. ChangesFile (UpdatesBy w.relink) w.source L2 L3 d2 d3 (Err fault))) (second.merge ∙ first.merge ∙ is) c.in_err-relink.ensures in
     handed (Finishes L0 L3 d0 d3) c.from_residual-in_err-relink.result fault c.from_residual-in_err-relink.ensures
-    (finish_stopped_third L0 L1 u d0 d1 is c.requires.ready L2 d2 first L3 d3 second (subst (λ o. IfSome o (λ w. IsAllMarked w.marks)) is c.requires.copied) fault third)
+    (finish_stopped_third L0 L1 u d0 d1 is c.requires.ready L2 d2 first L3 d3 second (subst (λ o. IfSome (marks_in o c.args.self.now.retiring) IsAllMarked) is c.requires.copied) fault third)
 
 pub remove-requires : goal.remove-requires
 remove-requires g c =
@@ -148,7 +150,13 @@ returns g c =
     let first = c.in_ok-settle.ensures in
     let second = c.in_ok-settle-2.ensures in
     let third : ChangesFile (UpdatesBy u.relink) u.source L2 L3 d2 d3 (Ok tt) = subst (λ o. IfSome o (λ w. ChangesFile (UpdatesBy w.relink) w.source L2 L3 d2 d3 (Ok tt))) (second.merge ∙ first.merge ∙ is) c.in_ok-relink.ensures in
-    finish_done L0 L1 u d0 d1 is c.requires.ready L2 d2 first L3 d3 second (subst (λ o. IfSome o (λ w. IsAllMarked w.marks)) is c.requires.copied) _ third refl refl refl (third.retiring ∙ second.retiring ∙ first.retiring ∙ alone L0 u d0 is c.requires.ready) c.remove.ensures.items
+    finish_done L0 L1 u d0 d1 is c.requires.ready L2 d2 first L3 d3 second (subst (λ o. IfSome (marks_in o c.args.self.now.retiring) IsAllMarked) is c.requires.copied) _ third refl refl refl (third.retiring ∙ second.retiring ∙ first.retiring ∙ alone L0 u d0 is c.requires.ready) c.remove.ensures.items
 
-pub returns-in_default : goal.returns-in_default
-returns-in_default g c = absurd (none_left c.args.self.now.merge c.in_default.not-Some c.requires.merge)
+pub retire_leaf-requires-clause-none : goal.retire_leaf-requires-clause-none
+retire_leaf-requires-clause-none g c = is_none c.args.self.now.merge c.in_default.not-Some
+
+pub retire_leaf-requires-clause-merge : goal.retire_leaf-requires-clause-merge
+retire_leaf-requires-clause-merge g c = leaf_merge c.args.self.now (is_none c.args.self.now.merge c.in_default.not-Some) c.requires.merge
+
+pub retire_leaf-requires-clause-copied : goal.retire_leaf-requires-clause-copied
+retire_leaf-requires-clause-copied g c = leaf_copied c.args.self.now (is_none c.args.self.now.merge c.in_default.not-Some) c.requires.copied
