@@ -328,7 +328,7 @@ module _ (m : MergeFiles) (merge : Merge) (d : Disk) (can : CanStart (chain_file
   four_geometry : AllByRecursion (λ (f : LinkedFile). f.parts.geometry ≡ g) (m.child ∷ m.source ∷ m.target ∷ m.below)
   four_geometry = all_right (λ (f : LinkedFile). f.parts.geometry ≡ g) m.above (m.child ∷ m.source ∷ m.target ∷ m.below) same_geometry
 
-  many_files : length m.above + 3 + length m.below ≤ d.files
+  pub many_files : length m.above + 3 + length m.below ≤ d.files
   many_files = three_between (length (chain_files m)) (length m.above) (length m.below) d.files (length-append m.above (m.child ∷ m.source ∷ m.target ∷ m.below)) can.there
 
   -- a layer in a session was ready, and is of a file of the disk

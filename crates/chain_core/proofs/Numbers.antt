@@ -184,6 +184,9 @@ two_there b d e there same = omega (arith, there, same)
 pub three_between : (l a b n : ℕ) → l ≡ a + suc (suc (suc b)) → l ≤ n → a + 3 + b ≤ n
 three_between l a b n long there = omega (arith, long, there)
 
+pub some_files : (a b n : ℕ) → a + 3 + b ≤ n → 0 < n
+some_files a b n there = omega (arith, there)
+
 pub three_above : (a b d e : ℕ) → a + 3 + b ≤ d → e ≡ d → a + 3 ≤ e
 three_above a b d e there same = omega (arith, there, same)
 
@@ -211,6 +214,9 @@ far_below n low = omega (arith, low)
 
 pub one_far_below : (a b c : ℕ) → a ≤ 2 ^ 63 + 6 → a ≡ b → c ≤ b + 1 → c ≤ 2 ^ 63 + 8
 one_far_below a b c low same next = omega (arith, low, same, next)
+
+pub first_low : (n : ℕ) → n ≡ 1 → n ≤ 2 ^ 64 - 2 ^ 32
+first_low n first = omega (arith, first)
 
 pub next_fits : (n : ℕ) → n ≤ 2 ^ 64 - 2 ^ 32 → min (min (n + 1) (2 ^ 64 - 1) + 1) (2 ^ 64 - 1) < 2 ^ 64 - 2 ^ 31
 next_fits n low = omega (arith, low)

@@ -183,3 +183,9 @@ returns g c =
       };
       err = tt;
     }
+
+pub begin-requires-clause-low : goal.begin-requires-clause-low
+begin-requires-clause-low g c = c.requires.low.target
+
+pub begin_child-requires-clause-low : goal.begin_child-requires-clause-low
+begin_child-requires-clause-low g c = c.requires.low.child

@@ -2,8 +2,12 @@ use Rattle.std.specs.Prelude.{Err, IfErr}
 use Rattle.store_model.specs.declared.fault.SealFault.{SealFault}
 use Rattle.chain_core.specs.MergeStarting.{BeginsMerge, files_in}
 use Rattle.chain_core.proofs.MergeAsked.{source_numbers}
-use Rattle.chain_core.proofs.MergeBegun.{begun_upper, behind_source, behind_top, leaf_numbered, leaf_ready, locator_stops, source_ready, source_stops, source_within, top_stops, twice_turns}
+use Rattle.chain_core.proofs.MergeBegun.{begun_upper, behind_source, behind_top, leaf_numbered, leaf_ready, locator_stops, source_ready, source_stops, source_within, top_stops, twice_turns, many_files}
 use Rattle.vx_base.proofs.Handed.{handed, not_if_ok}
+use Rattle.chain_core.proofs.Numbers.{few_pages, first_low, some_files}
+use Rattle.std.proofs.Common.{◌≤◌, ◌-◌, ◌^◌, ap, length, subst, sym}
+use Rattle.link_rules.specs.declared.linked.LinkedFile.{LinkedFile}
+use Rattle.log_format.specs.PendingPages.{HasOnePageEach}
 use Rattle.chain_core.proofs.merge_start.begin_upper.Goals as goal
 
 pub begin-requires-clause-numbers : goal.begin-requires-clause-numbers
@@ -108,3 +112,30 @@ returns g c =
           c.in_ok-link_twice.ensures.ready c.link_twice.ensures.parts c.link_twice.ensures.number c.in_ok-link_twice.ensures.counts;
       err = tt;
     }
+
+pub begin-requires-clause-there : goal.begin-requires-clause-there
+begin-requires-clause-there g c =
+    let m = files_in c.args.of in
+    let d = g.S.Store.disk c.args.store.now in
+    some_files (length m.above) (length m.below) d.files (many_files m c.args.merge.now d c.requires.files c.requires.plan)
+
+pub begin-requires-clause-low : goal.begin-requires-clause-low
+begin-requires-clause-low g c = subst (λ (f : LinkedFile). f.parts.header.number ≤ 2 ^ 64 - 2 ^ 32) (sym c.leaf_of-top.ensures) c.requires.low.leaf
+
+pub begin-requires-2-clause-low : goal.begin-requires-2-clause-low
+begin-requires-2-clause-low g c = c.requires.low.source
+
+pub link_twice-requires-clause-ready : goal.link_twice-requires-clause-ready
+link_twice-requires-clause-ready g c = c.in_ok-source.ensures.ready
+
+pub link_twice-requires-clause-empty : goal.link_twice-requires-clause-empty
+link_twice-requires-clause-empty g c = c.in_ok-source.ensures.empty
+
+pub link_twice-requires-clause-numbers : goal.link_twice-requires-clause-numbers
+link_twice-requires-clause-numbers g c = first_low c.in_ok-source.source.log.number c.in_ok-source.ensures.parts.first
+
+pub link_twice-requires-clause-few : goal.link_twice-requires-clause-few
+link_twice-requires-clause-few g c = few_pages (length c.args.merge.now.twice) (length c.as_slice.result.now) c.requires.plan.twice.has.few (ap length c.as_slice.ensures.pages)
+
+pub link_twice-requires-clause-apart : goal.link_twice-requires-clause-apart
+link_twice-requires-clause-apart g c = subst HasOnePageEach (sym c.as_slice.ensures.pages) c.as_slice.ensures.apart
