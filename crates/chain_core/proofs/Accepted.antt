@@ -1,6 +1,6 @@
 -- What a guest call says of its noting: where it was refused before that, and once it was noted.
-use Rattle.std.proofs.Common.{◌≡◌, ◌+◌, ◌≤◌, ◌/◌, ◌^◌, ℕ, Bool, true, false, is_some, length, ◌||◌, sym, ap, ◌∙◌, arith, nat_lt, ◌==◌}
-use Rattle.std.specs.Prelude.{Option, Some, None, Result, Ok, Err, IfErr, IsErrAnd, OnErr, if◌then◌else◌}
+use Rattle.std.proofs.Common.{◌≡◌, ◌+◌, ◌≤◌, ◌/◌, ◌^◌, ℕ, Bool, true, false, is_some, length, ◌||◌, refl, sym, ap, subst, ◌∙◌, arith, nat_lt, ◌==◌, ltb-false}
+use Rattle.std.specs.Prelude.{Option, Some, None, Result, Ok, Err, IfErr, IsErrAnd, OnErr, OnOk, if◌then◌else◌}
 use Rattle.store_model.specs.declared.fault.StoreFault.{StoreFault}
 use Rattle.guest_model.specs.declared.call.Call.{Call}
 use Rattle.guest_model.specs.declared.call.Call.TheVariants.{Read, Write, Trim, Flush}
@@ -9,9 +9,9 @@ use Rattle.guest_model.specs.declared.refusal.ChainRefusal.TheVariants as refusa
 use Rattle.guest_model.specs.Counts.{one_more}
 use Rattle.guest_model.specs.Ranges.{range_refusal}
 use Rattle.vx_base.specs.declared.parts.Geometry.{Geometry}
-use Rattle.chain_core.specs.Refusing.{broken_by, is_read, misplaced, out_of, range_of, unfit}
+use Rattle.chain_core.specs.Refusing.{barred, broken_by, is_read, misplaced, out_of, range_of, unfit}
 use Rattle.chain_core.specs.declared.layers.Layers.{Layers}
-use Rattle.layer_session.proofs.Equal.{err_same, none_some, ok_err, some_same}
+use Rattle.layer_session.proofs.Equal.{err_ok, err_same, none_some, ok_err, some_same}
 
 pub on_err_any : {T E : Type 0} (result : Result T E) (P : Type 0) → P → OnErr result P
 on_err_any (Ok x) P p = tt
@@ -63,3 +63,34 @@ one_noted n events noted few = let room : nat_lt (n + 1) (2 ^ 64) ≡ true = gri
 pub err_is : {T E : Type 0} (result : Result T E) (P : E → Type 0) → IsErrAnd result P → IfErr result P
 err_is (Ok x) P is = tt
 err_is (Err e) P is = is
+
+-- a range that isn't refused is on the disk, and within the limit
+within_by : (first count limit sectors : ℕ) (a b c : Bool) → nat_lt limit count ≡ b → nat_lt sectors (first + count) ≡ c
+    → ◌≡◌ {A = Result (Unit {0}) ChainRefusal} (if a then Err refusals.EmptyRange else if b then Err (refusals.TooLong count limit) else if c then Err (refusals.OutOfRange first count sectors) else Ok tt) (Ok tt) → (first + count ≤ sectors) × (count ≤ limit)
+within_by first count limit sectors true b c l s is = absurd (err_ok is)
+within_by first count limit sectors false true c l s is = absurd (err_ok is)
+within_by first count limit sectors false false true l s is = absurd (err_ok is)
+within_by first count limit sectors false false false l s is = (ltb-false sectors (first + count) s, ltb-false limit count l)
+
+pub range_within : (first count limit sectors : ℕ) → range_refusal first count limit sectors ≡ Ok tt → (first + count ≤ sectors) × (count ≤ limit)
+range_within first count limit sectors = within_by first count limit sectors (count == 0) (nat_lt limit count) (nat_lt sectors (first + count)) refl refl
+
+-- what is said of a call that was looked at by its range, and then for a session
+pub record IsPlaced (call : Call) (layers : Layers) (result : Result (Unit {0}) ChainRefusal) : Type 0 where
+  pub ok : OnOk result (misplaced call layers ≡ None)
+  pub range : OnOk result (range_of layers.geometry call ≡ Ok tt)
+  pub session : OnOk result (is_read call ≡ false → is_some layers.leaf ≡ true)
+  pub err : IfErr result (λ e. misplaced call layers ≡ Some e)
+
+pub permitted : (call : Call) (layers : Layers) (read : Bool) (result : Result (Unit {0}) ChainRefusal) → read ≡ is_read call → result ≡ (if read || is_some layers.leaf then Ok tt else Err refusals.ReadOnly) → Ok tt ≡ range_of layers.geometry call
+    → IsPlaced call layers result
+permitted call layers read result same is range =
+    by_test (is_read call || is_some layers.leaf) refl (is ∙ ap (λ (b : Bool). if b || is_some layers.leaf then Ok tt else Err refusals.ReadOnly) same)
+  where
+    by_test : (b : Bool) → (is_read call || is_some layers.leaf) ≡ b → result ≡ (if b then Ok tt else Err refusals.ReadOnly) → IsPlaced call layers result
+    by_test true e is =
+        subst (IsPlaced call layers) (sym is)
+        (record { ok = ap (λ (r : Result (Unit {0}) ChainRefusal). out_of r (barred call (is_some layers.leaf))) (sym range) ∙ ap (λ (b : Bool). if b then None else Some refusals.ReadOnly) e; range = sym range; session = λ none. sym (ap (λ (b : Bool). b || is_some layers.leaf) none) ∙ e; err = tt })
+    by_test false e is =
+        subst (IsPlaced call layers) (sym is)
+        (record { ok = tt; range = tt; session = tt; err = ap (λ (r : Result (Unit {0}) ChainRefusal). out_of r (barred call (is_some layers.leaf))) (sym range) ∙ ap (λ (b : Bool). if b then None else Some refusals.ReadOnly) e })

@@ -27,6 +27,7 @@ use Rattle.chain_core.specs.Answering.{EachOpensNow, HasEnded}
 use Rattle.chain_core.specs.Finished.{ChangesFile, Finishes, FinishesTo, IsAllMarked, IsExchanged, IsFinished, IsReplaced, IsTargetOrChild, LeavesBy, Settles, UpdatesBy, at_leaf, at_lower, leaf_left, look_of, numbers_left}
 use Rattle.chain_core.specs.Sessions.{AreReady, AtMostOne, CanRelink, CanRetire, IsLow, IsMergeOf, IsRetiringOf, leaf_number, number_of_leaf}
 use Rattle.chain_core.specs.States.{AreHeld, AreWritten, IsCourse, IsServing, IsUnder, Merging, Relinks, Rest, State, child_of, child_parts, dirty_now, disk_now, merging, plain, retiring, sector_of}
+use Rattle.chain_core.proofs.Numbers.{next_long, room_behind, same_before, second_place, some_room, stripe_of_512, suc_next, suc_place, three_more, two_more_not_zero, within_same, zero_and_next}
 use Rattle.chain_core.proofs.Children.{child_failed, child_settled, ended_by, leaf_failed, target_failed}
 use Rattle.chain_core.proofs.Ending.{failed_later}
 use Rattle.chain_core.proofs.Exchanged.{change_failed, child_turned, exchanged_leaf, exchanged_low, exchanged_numbers, exchanged_session, finishing_before, is_child, is_target, parts_stay, parts_was, relinking_leaves, settling_leaves, still_ready, was_ready}
@@ -142,17 +143,17 @@ module _ (v : State) (top : Placed) (above : List Placed) (source target : Place
 
   -- the target
   pub target_ok : IsExchanged (u.source + 2) was now old new → HasCommitted was now x y → EachOpensNow here x y × IsServing new (record v { top = top; rest = merging above source (settled target) below m }) y
-  target_ok (at_leaf at is leaf_now same) has = absurd (omega (arith, at))
+  target_ok (at_leaf at is leaf_now same) has = absurd (two_more_not_zero u.source at)
   target_ok (at_lower at e leaf_is r) has =
-      let place : length r.above ≡ length above + 1 = (let p : u.source ≡ length above = under.place in omega (arith, e, r.place, p)) in
+      let place : length r.above ≡ length above + 1 = second_place u.source at (length r.above) (length above) e r.place under.place in
       let serves : Serves was x target = serves_target v top above source target below m old the_leaf.0 x serving the_leaf.1 r.above was r.below r.was_there place in
       target_settled v top above source target below m old the_leaf.0 x serving the_leaf.1 r.above was r.below r.was_there place new u now y geometry (kept ∙ alone old u disk merge_is ready) (leaf_is ∙ the_leaf.1) merge_is (merge ∙ merge_is) r.now_there parts
       (subst (AreWritten v.writes) (sym r.now_there) (written_at was now parts v.writes r.above r.below (subst (AreWritten v.writes) r.was_there written.1))) (over.over target serves) (has.serves target serves)
 
   pub target_err : IsExchanged (u.source + 2) was now old new → HasEnded here x y
-  target_err (at_leaf at is leaf_now same) = absurd (omega (arith, at))
+  target_err (at_leaf at is leaf_now same) = absurd (two_more_not_zero u.source at)
   target_err (at_lower at e leaf_is r) =
-      let place : length r.above ≡ length above + 1 = (let p : u.source ≡ length above = under.place in omega (arith, e, r.place, p)) in
+      let place : length r.above ≡ length above + 1 = second_place u.source at (length r.above) (length above) e r.place under.place in
       let serves : Serves was x target = serves_target v top above source target below m old the_leaf.0 x serving the_leaf.1 r.above was r.below r.was_there place in
       target_failed v top above source target below m old x y serving under.written (over.over target serves)
 
@@ -204,7 +205,7 @@ module _ (v : State) (top : Placed) (above : List Placed) (source target : Place
   course_of = subst (λ o. IsCourse top.member.ties.geometry.sector v.writes old o top (merging above source target below m)) merge_is serving.course
 
   pub some_stripe : 0 < per_stripe top.member.ties.geometry.sector
-  some_stripe = subst (λ (z : ℕ). 0 < per_stripe z) (sym ready.sector ∙ ap (λ (g : Geometry). g.sector) serving.geometry) (omega arith)
+  some_stripe = stripe_of_512 top.member.ties.geometry.sector (sym ready.sector ∙ ap (λ (g : Geometry). g.sector) serving.geometry)
 
   pub all_marked : AllMarked (stripe_count top.member.ties.geometry.sector top.member.ties.geometry.sectors) m.marks
   all_marked t inside =
@@ -452,19 +453,19 @@ module _ (L0 L1 : Layers) (u : Underway) (d0 d1 : Disk) (merge_is : L0.merge ≡
               still = last.still;
               past = last.past;
             }
-        leaf_unlinked v source target below m x y z w serving both over (at_leaf at is leaf_now same) (at_lower at' e leaf_is r) = absurd (omega (arith, at, e))
+        leaf_unlinked v source target below m x y z w serving both over (at_leaf at is leaf_now same) (at_lower at' e leaf_is r) = absurd (zero_and_next u.source at' at e)
         leaf_unlinked v source target below m x y z w serving both over (at_lower at e leaf_is r) other =
             absurd (let under : IsUnder (sector_of v) v.writes L0 u v.top [] source target m = subst (λ o. IsCourse (sector_of v) v.writes L0 o v.top (merging [] source target below m)) merge_is serving.course in
-            let none : u.source ≡ 0 = under.place in omega (arith, e, none))
+            zero_and_next u.source at under.place e)
 
         lower_unlinked : (v : State) (pre : List Placed) (child source target : Placed) (below : List Placed) (m : Merging) (x y z w : Trace) → IsServing L0 (record v { rest = merging (pre ++ child ∷ []) source target below m }) x → Both x y z → UpdatesOver k.was u.relink z w
             → u.source ≡ length pre + 1 → IsExchanged u.source c.was c.now L1 L2 → IsExchanged u.source k.was k.now L2 L3 → HasEnded (record v { rest = merging (pre ++ child ∷ []) source target below m }) x w
-        lower_unlinked v pre child source target below m x y z w serving both over place (at_leaf at is leaf_now same) other = absurd (omega (arith, place, at))
-        lower_unlinked v pre child source target below m x y z w serving both over place (at_lower at e leaf_is r) (at_leaf at' is' leaf_then same') = absurd (omega (arith, place, at'))
+        lower_unlinked v pre child source target below m x y z w serving both over place (at_leaf at is leaf_now same) other = absurd (zero_and_next u.source (length pre) at place)
+        lower_unlinked v pre child source target below m x y z w serving both over place (at_lower at e leaf_is r) (at_leaf at' is' leaf_then same') = absurd (zero_and_next u.source (length pre) at' place)
         lower_unlinked v pre child source target below m x y z w serving both over place (at_lower at e leaf_is r) (at_lower at' e' leaf_is' r') =
-            let long : length pre ≡ at = omega (arith, place, e) in
+            let long : length pre ≡ at = same_before u.source (length pre) at place e in
             let second = lower_second v pre child source target below m x y z serving both at long leaf_is r in
-            let place' : length r'.above ≡ length pre = omega (arith, place, e', r'.place) in
+            let place' : length r'.above ≡ length pre = r'.place ∙ same_before u.source at' (length pre) e' place in
             let last = child_err v v.top pre (settled child) source (settled target) below m L2 u d2 z w merge_now ready_now second.1 marked (λ s. refl) k.was k.now r'.above r'.below r'.was_there place' (parts_was u.source k.was k.now L2 L3 k.exchanged) over in
             record {
               moments = joined (record v { rest = merging (pre ++ child ∷ []) source target below m }) x z w (lower_moments v pre child source target below m x y z serving both at long leaf_is r) last.moments;
@@ -478,8 +479,8 @@ module _ (L0 L1 : Layers) (u : Underway) (d0 d1 : Disk) (merge_is : L0.merge ≡
         unlinked v (merging [] source target below m) x y z w serving both over = leaf_unlinked v source target below m x y z w serving both over c.exchanged k.exchanged
         unlinked v (merging (f ∷ above) source target below m) x y z w serving both over =
             let under : IsUnder (sector_of v) v.writes L0 u v.top (f ∷ above) source target m = subst (λ o. IsCourse (sector_of v) v.writes L0 o v.top (merging (f ∷ above) source target below m)) merge_is serving.course in
-            let s = snoc (f ∷ above) (length above) (omega arith) in
-            let place : u.source ≡ length s.pre + 1 = (let p : u.source ≡ suc (length above) = under.place in omega (arith, p, s.long)) in
+            let s = snoc (f ∷ above) (length above) (suc_next (length above)) in
+            let place : u.source ≡ length s.pre + 1 = suc_place u.source (length above) (length s.pre) under.place s.long in
             subst (λ (l : List Placed). IsServing L0 (record v { rest = merging l source target below m }) x → HasEnded (record v { rest = merging l source target below m }) x w) (sym s.is)
             (λ here. lower_unlinked v s.pre s.child source target below m x y z w here both over place c.exchanged k.exchanged) serving
 
@@ -514,7 +515,7 @@ module _ (L0 L1 : Layers) (u : Underway) (d0 d1 : Disk) (merge_is : L0.merge ≡
             → IsExchanged u.source c.was c.now L1 L2 → IsExchanged u.source k.was k.now L2 L3 → FinishesTo L0.retiring (record v { rest = merging [] source target below m }) L4 x w (Ok tt)
         leaf_finished v source target below m x y z w serving both last (at_leaf at is leaf_now same) (at_leaf at' is' leaf_then same') =
             let second = leaf_second v source target below m x y z serving both is leaf_now same in
-            let next = next_of L2.below.items (omega (arith, room)) in
+            let next = next_of L2.below.items (some_room u.source (length L2.below.items) room) in
             let left : L4.below.items ≡ next.rest = items ∙ ap (λ b. remove b.items u.source) same' ∙ ap (remove L2.below.items) at ∙ ap (λ (l : List FileLayer). remove l 0) next.is in
             let third = top_ok v (settled v.top) source (settled target) below m L2 u d2 z w merge_now ready_now second.1 marked (λ s. refl) k.was k.now is' (parts_was u.source k.was k.now L2 L3 k.exchanged) last.0
             L4 next.next next.rest next.is (geometry ∙ k.geometry) (leaf_is ∙ leaf_then) no_merge none_now left last.1 in (
@@ -527,25 +528,25 @@ module _ (L0 L1 : Layers) (u : Underway) (d0 d1 : Disk) (merge_is : L0.merge ≡
                 serving = third.1;
               }),
             )
-        leaf_finished v source target below m x y z w serving both last (at_leaf at is leaf_now same) (at_lower at' e leaf_is' r) = absurd (omega (arith, at, e))
+        leaf_finished v source target below m x y z w serving both last (at_leaf at is leaf_now same) (at_lower at' e leaf_is' r) = absurd (zero_and_next u.source at' at e)
         leaf_finished v source target below m x y z w serving both last (at_lower at e leaf_is' r) other =
             absurd (let under : IsUnder (sector_of v) v.writes L0 u v.top [] source target m = subst (λ o. IsCourse (sector_of v) v.writes L0 o v.top (merging [] source target below m)) merge_is serving.course in
-            let none : u.source ≡ 0 = under.place in omega (arith, e, none))
+            zero_and_next u.source at under.place e)
 
         -- the child stands below the leaf
         lower_finished : (v : State) (pre : List Placed) (child source target : Placed) (below : List Placed) (m : Merging) (x y z w : Trace) → IsServing L0 (record v { rest = merging (pre ++ child ∷ []) source target below m }) x → Both x y z
             → UpdatesOver k.was u.relink z w × HasUpdated k.was k.now u.relink z w → u.source ≡ length pre + 1 → IsExchanged u.source c.was c.now L1 L2 → IsExchanged u.source k.was k.now L2 L3
             → FinishesTo L0.retiring (record v { rest = merging (pre ++ child ∷ []) source target below m }) L4 x w (Ok tt)
-        lower_finished v pre child source target below m x y z w serving both last place (at_leaf at is leaf_now same) other = absurd (omega (arith, place, at))
-        lower_finished v pre child source target below m x y z w serving both last place (at_lower at e leaf_is' r) (at_leaf at' is' leaf_then same') = absurd (omega (arith, place, at'))
+        lower_finished v pre child source target below m x y z w serving both last place (at_leaf at is leaf_now same) other = absurd (zero_and_next u.source (length pre) at place)
+        lower_finished v pre child source target below m x y z w serving both last place (at_lower at e leaf_is' r) (at_leaf at' is' leaf_then same') = absurd (zero_and_next u.source (length pre) at' place)
         lower_finished v pre child source target below m x y z w serving both last place (at_lower at e leaf_is' r) (at_lower at' e' leaf_is'' r') =
-            let long : length pre ≡ at = omega (arith, place, e) in
+            let long : length pre ≡ at = same_before u.source (length pre) at place e in
             let second = lower_second v pre child source target below m x y z serving both at long leaf_is' r in
-            let place' : length r'.above ≡ length pre = omega (arith, place, e', r'.place) in
+            let place' : length r'.above ≡ length pre = r'.place ∙ same_before u.source at' (length pre) e' place in
             let count : length L2.below.items ≡ length r'.above + suc (length r'.below) = ap length r'.was_there ∙ length-append r'.above (Session k.was ∷ r'.below) in
-            let next = next_of r'.below (omega (arith, room, count, place', place)) in
+            let next = next_of r'.below (room_behind u.source (length L2.below.items) (length r'.above) (length r'.below) (length pre) room count place' place) in
             let split : L3.below.items ≡ (r'.above ++ Session k.now ∷ []) ++ next.next ∷ next.rest = r'.now_there ∙ ap (λ (l : List FileLayer). r'.above ++ Session k.now ∷ l) next.is ∙ sym (append_assoc r'.above (Session k.now ∷ []) (next.next ∷ next.rest)) in
-            let length_is : u.source ≡ length (r'.above ++ Session k.now ∷ []) = omega (arith, place, place', length-append r'.above (Session k.now ∷ [])) in
+            let length_is : u.source ≡ length (r'.above ++ Session k.now ∷ []) = next_long u.source (length pre) (length r'.above) (length (r'.above ++ Session k.now ∷ [])) place place' (length-append r'.above (Session k.now ∷ [])) in
             let dropped : remove ((r'.above ++ Session k.now ∷ []) ++ next.next ∷ next.rest) u.source ≡ (r'.above ++ Session k.now ∷ []) ++ next.rest =
             ap (remove ((r'.above ++ Session k.now ∷ []) ++ next.next ∷ next.rest)) length_is ∙ remove_at (r'.above ++ Session k.now ∷ []) next.next next.rest in
             let items_then : L4.below.items ≡ remove ((r'.above ++ Session k.now ∷ []) ++ next.next ∷ next.rest) u.source = items ∙ ap (λ (l : List FileLayer). remove l u.source) split in
@@ -572,8 +573,8 @@ module _ (L0 L1 : Layers) (u : Underway) (d0 d1 : Disk) (merge_is : L0.merge ≡
         finished v (merging [] source target below m) x y z w serving both last = leaf_finished v source target below m x y z w serving both last c.exchanged k.exchanged
         finished v (merging (f ∷ above) source target below m) x y z w serving both last =
             let under : IsUnder (sector_of v) v.writes L0 u v.top (f ∷ above) source target m = subst (λ o. IsCourse (sector_of v) v.writes L0 o v.top (merging (f ∷ above) source target below m)) merge_is serving.course in
-            let s = snoc (f ∷ above) (length above) (omega arith) in
-            let place : u.source ≡ length s.pre + 1 = (let p : u.source ≡ suc (length above) = under.place in omega (arith, p, s.long)) in
+            let s = snoc (f ∷ above) (length above) (suc_next (length above)) in
+            let place : u.source ≡ length s.pre + 1 = suc_place u.source (length above) (length s.pre) under.place s.long in
             subst (λ (l : List Placed). IsServing L0 (record v { rest = merging l source target below m }) x → FinishesTo L0.retiring (record v { rest = merging l source target below m }) L4 x w (Ok tt)) (sym s.is)
             (λ here. lower_finished v s.pre s.child source target below m x y z w here both last place c.exchanged k.exchanged) serving
 
@@ -585,7 +586,7 @@ module _ (L0 L1 : Layers) (u : Underway) (d0 d1 : Disk) (merge_is : L0.merge ≡
         at_source =
             at_place L3.below.items u.source (Session k.now)
             (let long : length L3.below.items ≡ length L2.below.items =
-            sym (length-map L3.below.items number_of) ∙ ap length (exchanged_numbers u.source k.was k.now L2 L3 k.exchanged k.changed.parts) ∙ length-map L2.below.items number_of in omega (arith, room, long))
+            sym (length-map L3.below.items number_of) ∙ ap length (exchanged_numbers u.source k.was k.now L2 L3 k.exchanged k.changed.parts) ∙ length-map L2.below.items number_of in within_same u.source (length L2.below.items) (length L3.below.items) room long)
 
         items_left : L4.below.items ≡ at_source.before ++ at_source.behind
         items_left =
@@ -605,7 +606,7 @@ module _ (L0 L1 : Layers) (u : Underway) (d0 d1 : Disk) (merge_is : L0.merge ≡
             let one = exchanged_low (u.source + 2) t.was t.now L0 L1 t.exchanged t.changed.parts t.changed.number most low in
             let two = exchanged_low u.source c.was c.now L1 L2 c.exchanged c.changed.parts c.changed.number (most + 1) one in
             let three = exchanged_low u.source k.was k.now L2 L3 k.exchanged k.changed.parts k.changed.number (most + 1 + 1) two in
-            let sum : most + 1 + 1 + 1 ≡ most + 3 = omega arith in
+            let sum : most + 1 + 1 + 1 ≡ most + 3 = three_more most in
             let all : IsLow (most + 3) L3 = subst (λ (n : ℕ). IsLow n L3) sum three in (
               subst (λ (o : Option Layer). IfSome (option_map (λ (l : Layer). l.log.number) o) (λ n. n ≤ most + 3)) (sym leaf_is) all.0,
               subst (λ (l : List FileLayer). AllByRecursion (λ number. IfSome number (λ n. n ≤ most + 3)) (map log_number l)) (sym items_left)

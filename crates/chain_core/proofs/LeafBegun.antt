@@ -41,6 +41,7 @@ use Rattle.chain_core.specs.States.{IsServing}
 use Rattle.chain_core.specs.declared.layers.Layers.{Layers}
 use Rattle.chain_core.specs.declared.layers.Retiring.{Retiring}
 use Rattle.chain_core.specs.declared.leaf_start.LeafRoom.{LeafRoom}
+use Rattle.chain_core.proofs.Numbers.{few_pages, next_fits, one_low_two, stripe_of_512, two_low, two_there, zero_one, zero_suc}
 use Rattle.chain_core.proofs.Beginning.{none_logged, one_geometry}
 use Rattle.chain_core.proofs.LeafPhases.{AtBegun, AtHeir, AtLinked}
 use Rattle.chain_core.proofs.LeafServed.{AreGiven, ClearsAt, have_below, leaf_turns, serves_leaf_merge, target_turns}
@@ -168,7 +169,7 @@ module _ (m : LeafFiles) (merge : LeafMerge) (d : Disk) (can : CanStart (leaf_ch
 
   few_clear : (o : Option (List Page)) → ClearsTarget m.target 1 d o → IfSome o (λ ps. length ps ≤ 120)
   few_clear None none = tt
-  few_clear (Some ps) has = let few : length ps ≤ 22 = has.1.few in omega (arith, few)
+  few_clear (Some ps) has = few_pages (length ps) (length ps) has.1.few refl
 
   -- ---- the layers
 
@@ -182,7 +183,7 @@ module _ (m : LeafFiles) (merge : LeafMerge) (d : Disk) (can : CanStart (leaf_ch
   sector_is = (served_at d (leaf_chain m) [] m.source (m.target ∷ m.below) can refl).sector
 
   some_stripe : 0 < per_stripe g.sector
-  some_stripe = subst (λ (z : ℕ). 0 < per_stripe z) (sym sector_is) (omega arith)
+  some_stripe = stripe_of_512 g.sector (sym sector_is)
 
   -- the leaf as its session began, and as it is behind its update
   pub record LeafMade (begun leaf : Layer) : Type 0 where
@@ -203,7 +204,7 @@ module _ (m : LeafFiles) (merge : LeafMerge) (d : Disk) (can : CanStart (leaf_ch
 
   next_of : (h : Header) (session : SessionIds) (now : Header) → h.number ≤ 2 ^ 64 - 2 ^ 32 → now ≡ session_header h session → HasNextNumber now
   next_of h session now low is =
-      let next : min (min (h.number + 1) (2 ^ 64 - 1) + 1) (2 ^ 64 - 1) < 2 ^ 64 - 2 ^ 31 = omega (arith, low) in subst HasNextNumber (sym is) next
+      subst HasNextNumber (sym is) (next_fits h.number low)
 
   module _ (b : Disk) (room : LeafRoom) (for : IsLeafRoom m room) (low : m.target.parts.header.number ≤ 2 ^ 64 - 2 ^ 32) (begun leaf target : Layer) (r : Behind (λ t. AtHeir t m ids pages leaf target) b)
       (leaf_made : LeafMade begun leaf) (heir_made : HeirMade target) where
@@ -239,7 +240,7 @@ module _ (m : LeafFiles) (merge : LeafMerge) (d : Disk) (can : CanStart (leaf_ch
         (heir_made.old, (heir_made.was, same_files heir_made.old heir_made.counts)),
         (heir_made.of.sector ∙ ap (λ (k : Geometry). k.sector) same_geometry.1.0, heir_made.of.sectors ∙ ap (λ (k : Geometry). k.sectors) same_geometry.1.0),
       ),
-      made_read g b 2 m.below room.below.items for.below (let there : length (leaf_chain m) ≤ d.files = can.there in let same : b.files ≡ d.files = ap (λ (x : Disk). x.files) r.counts in omega (arith, there, same)) same_geometry.1.1,
+      made_read g b 2 m.below room.below.items for.below (two_there (length m.below) d.files b.files can.there (ap (λ (x : Disk). x.files) r.counts)) same_geometry.1.1,
     )
 
     leaf_ready : IsReadyLeaf g below b leaf
@@ -247,7 +248,7 @@ module _ (m : LeafFiles) (merge : LeafMerge) (d : Disk) (can : CanStart (leaf_ch
       ready = ready_still leaf leaf_made.old b leaf_made.was (same_files leaf_made.old leaf_made.counts) leaf_held;
       sector = ap (λ (p : TableParts). p.sector) leaf_made.parts ∙ leaf_made.of.sector;
       sectors = ap (λ (p : TableParts). p.sectors) leaf_made.parts ∙ leaf_made.of.sectors;
-      apart = subst (λ (n : ℕ). AreOthers n below) (sym leaf_file) (counted_others 1 below (omega arith) counted);
+      apart = subst (λ (n : ℕ). AreOthers n below) (sym leaf_file) (counted_others 1 below zero_one counted);
     }
 
     module _ (layers : Layers) (u : Retiring) (geometry : layers.geometry ≡ g) (leaf_is : layers.leaf ≡ Some leaf) (none_now : layers.merge ≡ None) (merge_is : layers.retiring ≡ Some u) (below_is : layers.below.items ≡ below)
@@ -268,7 +269,7 @@ module _ (m : LeafFiles) (merge : LeafMerge) (d : Disk) (can : CanStart (leaf_ch
       retiring_of : IsRetiringOf g (Some leaf) below u
       retiring_of = record {
         session = refl;
-        there = omega arith;
+        there = zero_suc (length room.below.items);
         target = refl;
         next = next_of m.target.parts.header heir_made.session target.log.header low heir_made.header;
         size = source_numbers.most;
@@ -283,7 +284,7 @@ module _ (m : LeafFiles) (merge : LeafMerge) (d : Disk) (can : CanStart (leaf_ch
 
       can_retire : CanRetire (Some leaf) below b u
       can_retire = record {
-        few = subst (λ (ps : List Page). length ps ≤ 120) (sym retire_is) (let few : length merge.retire ≤ 22 = plan.retire.few in omega (arith, few));
+        few = subst (λ (ps : List Page). length ps ≤ 120) (sym retire_is) (few_pages (length merge.retire) (length merge.retire) plan.retire.few refl);
         turns = subst (λ (ps : List Page). WhereTold b.told (FileTurns (Session leaf) ps)) (sym retire_is)
             (told_last (λ x t. AreGiven m merge x × AtHeir x m ids pages leaf target t) (FileTurns (Session leaf) merge.retire)
             (λ x t at. leaf_turns x t m merge at.0 leaf target at.1 room.below.items for.below table heir_made.of.table plan.retire.pages_are) d.told b.told at_both);
@@ -314,9 +315,9 @@ module _ (m : LeafFiles) (merge : LeafMerge) (d : Disk) (can : CanStart (leaf_ch
       are_low : IsLow 2 layers
       are_low =
           subst (λ (o : Option Layer). AllByRecursion (λ number. IfSome number (λ n. n ≤ 2)) (option_map (λ (l : Layer). l.log.number) o ∷ map log_number layers.below.items)) (sym leaf_is) (
-            (let first : begun.log.number ≡ 1 = leaf_made.of.first in let next : leaf.log.number ≤ begun.log.number + 1 = leaf_made.number in omega (arith, first, next)),
+            two_low begun.log.number leaf.log.number leaf_made.of.first leaf_made.number,
             subst (λ (x : List FileLayer). AllByRecursion (λ number. IfSome number (λ n. n ≤ 2)) (map log_number x)) (sym below_is)
-                ((let one : target.log.number ≡ 1 = heir_made.of.first in omega (arith, one)), none_logged 2 2 m.below room.below.items for.below),
+                (one_low_two target.log.number heir_made.of.first, none_logged 2 2 m.below room.below.items for.below),
           )
 
       pub has_begun : HasBegunLeafMerge m merge d b layers

@@ -38,6 +38,7 @@ use Rattle.chain_core.specs.Starting.{AreReadOf, opening_disk, placed_from}
 use Rattle.chain_core.specs.States.{AreHeld, AreWritten, IsCleared, IsCourse, IsLeaving, IsRetiring, IsServing, Renames, WasSynced, target_parts}
 use Rattle.chain_core.specs.declared.layers.Layers.{Layers}
 use Rattle.chain_core.specs.declared.layers.Retiring.{Retiring}
+use Rattle.chain_core.proofs.Numbers.{from_two_first, from_two_second}
 use Rattle.chain_core.proofs.LeafPhases.{AtHeir, heir_opened}
 use Rattle.chain_core.proofs.MergeFound.{IsFound, whole_first}
 use Rattle.chain_core.proofs.MergeServed.{Each, none_written, read_on, synced_on}
@@ -67,7 +68,7 @@ two_false true b x y = absurd (true_false x)
 two_false false true x y = absurd (true_false y)
 
 unwritten : (k : ℕ) → 2 ≤ k → is_first_two k ≡ false
-unwritten k from = two_false (k == 0) (k == 1) (ne_eqb k 0 (λ e. absurd (omega (arith, e, from)))) (ne_eqb k 1 (λ e. absurd (omega (arith, e, from))))
+unwritten k from = two_false (k == 0) (k == 1) (ne_eqb k 0 (from_two_first k from)) (ne_eqb k 1 (from_two_second k from))
 
 -- ---- all of it
 
@@ -132,8 +133,8 @@ module _ (t0 now : Trace) (m : LeafFiles) (merge : LeafMerge) (given : AreGiven 
   beside_rest : Each (λ k. IsBeside k t0 now) 2 m.below
   beside_rest k from to =
       e.left k (
-        (λ x. let never : k ≡ 1 = x in absurd (omega (arith, from, never))),
-        ((λ x. let never : k ≡ 0 = x in absurd (omega (arith, from, never))), ((λ x. let never : k ≡ 0 = x in absurd (omega (arith, from, never))), tt)),
+        from_two_second k from,
+        (from_two_first k from, (from_two_first k from, tt)),
       )
 
   unwritten_rest : Each (λ k. is_first_two k ≡ false) 2 m.below

@@ -1,3 +1,4 @@
+mod Numbers
 mod Rests
 mod Putting
 mod Relinked

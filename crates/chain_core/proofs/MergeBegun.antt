@@ -45,6 +45,7 @@ use Rattle.chain_core.specs.States.{AreHeld, IsCourse, IsServing, IsUnder, State
 use Rattle.chain_core.specs.declared.layers.Layers.{Layers}
 use Rattle.chain_core.specs.declared.layers.Underway.{Underway}
 use Rattle.chain_core.specs.declared.merge_start.Room.{Room}
+use Rattle.chain_core.proofs.Numbers.{all_there, few_pages, less_there, next_is, one_low, same_not_next, same_not_second, second_is, some_not_zero, some_there, suc_is, third_is, three_above, three_between, zero_one}
 use Rattle.chain_core.proofs.Beginning.{none_logged, one_geometry}
 use Rattle.chain_core.proofs.MergeAsked.{begins_not, child_fresh, child_there, leaf_fresh, leaf_numbers, ready_still, source_fresh, source_there, target_fresh, target_there}
 use Rattle.chain_core.proofs.MergeChild.{child_stage, child_told, leaf_only}
@@ -264,10 +265,10 @@ module _ (m : MergeFiles) (merge : Merge) (d : Disk) (can : CanStart (chain_file
             let more = inside i is in
             serve_on d.told m.child.parts i.log (child_place m) (λ t. AtTarget t m ids pages leaf source target)
             (λ x y at. at.left (child_place m) (
-              (λ e. let never : length m.above ≡ length m.above + 1 + 1 = e in absurd (omega (arith, never))),
+              same_not_second (length m.above),
               (
-                (λ e. let never : length m.above ≡ length m.above + 1 = e in absurd (omega (arith, never))),
-                ((λ e. let never : length m.above ≡ length m.above + 1 = e in absurd (omega (arith, never))), ((λ e. let never : length m.above ≡ 0 = e in absurd (omega (arith, never, more))), tt)),
+                same_not_next (length m.above),
+                (same_not_next (length m.above), (some_not_zero (length m.above) more, tt)),
               ),
             )) a.told r.at (child_fresh m merge d can plan i is)
 
@@ -327,8 +328,8 @@ module _ (m : MergeFiles) (merge : Merge) (d : Disk) (can : CanStart (chain_file
   four_geometry : AllByRecursion (λ (f : LinkedFile). f.parts.geometry ≡ g) (m.child ∷ m.source ∷ m.target ∷ m.below)
   four_geometry = all_right (λ (f : LinkedFile). f.parts.geometry ≡ g) m.above (m.child ∷ m.source ∷ m.target ∷ m.below) same_geometry
 
-  many_files : length m.above + 3 + length m.below ≤ d.files
-  many_files = let there : length (chain_files m) ≤ d.files = can.there in omega (arith, there, length-append m.above (m.child ∷ m.source ∷ m.target ∷ m.below))
+  pub many_files : length m.above + 3 + length m.below ≤ d.files
+  many_files = three_between (length (chain_files m)) (length m.above) (length m.below) d.files (length-append m.above (m.child ∷ m.source ∷ m.target ∷ m.below)) can.there
 
   -- a layer in a session was ready, and is of a file of the disk
   pub record Made (parts : Parts) (number : ℕ) (l : Layer) : Type 0 where
@@ -361,7 +362,7 @@ module _ (m : MergeFiles) (merge : Merge) (d : Disk) (can : CanStart (chain_file
 
     low_child : (o : Option Layer) → IfSome o (Made m.child.parts (child_place m)) → Low (session_of o)
     low_child None made = tt
-    low_child (Some l) made = (let one : l.log.number ≡ 1 = made.of.first in omega (arith, one), tt)
+    low_child (Some l) made = (one_low l.log.number made.of.first, tt)
 
     -- the layers of all four, and of the files that are only read
     module _ (room : Room) (for : IsRoomFor m room) (some : is_some ids.child ≡ nat_lt 0 (length m.above)) (leaf target old_source : Layer) (child : Option Layer) (source : ReadLayer) (both : is_some child ≡ is_some ids.child)
@@ -381,10 +382,10 @@ module _ (m : MergeFiles) (merge : Merge) (d : Disk) (can : CanStart (chain_file
           count_both 1 (room.above.items ++ session_of child) (Read source ∷ Session target ∷ room.below.items)
           (front_counts m.above room.above.items child for.above child_some child_made)
           (subst (λ (n : ℕ). CountFrom (1 + n) (Read source ∷ Session target ∷ room.below.items)) (sym front_many) (
-            (ap (λ (p : TableParts). p.file) source_parts ∙ source_of.number ∙ (let e : length m.above + 1 ≡ 1 + length m.above = omega arith in e)),
+            (ap (λ (p : TableParts). p.file) source_parts ∙ source_of.number ∙ next_is (length m.above)),
             (
-              (target_made.of.number ∙ (let e : length m.above + 1 + 1 ≡ 1 + length m.above + 1 = omega arith in e)),
-              subst (λ (n : ℕ). CountFrom n room.below.items) (let e : length m.above + 1 + 1 + 1 ≡ 1 + length m.above + 1 + 1 = omega arith in e) (count_read (target_place m + 1) m.below room.below.items for.below),
+              (target_made.of.number ∙ second_is (length m.above)),
+              subst (λ (n : ℕ). CountFrom n room.below.items) (third_is (length m.above)) (count_read (target_place m + 1) m.below room.below.items for.below),
             ),
           ))
         where
@@ -395,13 +396,13 @@ module _ (m : MergeFiles) (merge : Merge) (d : Disk) (can : CanStart (chain_file
           front_counts (f ∷ files) reads None of is made = absurd (leaf_only (length files) is)
           front_counts (f ∷ files) reads (Some l) of is made =
               count_both 1 reads (Session l ∷ []) (count_read 1 files reads of)
-              ((made.of.number ∙ (let many : length reads ≡ length files = read_count 1 files reads of in let e : suc (length files) ≡ 1 + length reads = omega (arith, many) in e)), tt)
+              ((made.of.number ∙ suc_is (length reads) (length files) (read_count 1 files reads of)), tt)
 
       made_all : AllByRecursion (IsMade g b) below
       made_all =
           all_append (IsMade g b) (room.above.items ++ session_of child) (Read source ∷ Session target ∷ room.below.items)
           (all_append (IsMade g b) room.above.items (session_of child)
-          (made_read g b 1 (behind_first m.above) room.above.items for.above (above_there m.above (omega (arith, many_files, b_files))) (all_behind (λ (f : LinkedFile). f.parts.geometry ≡ g) m.above above_geometry)) (child_in child child_made)) (
+          (made_read g b 1 (behind_first m.above) room.above.items for.above (above_there m.above (three_above (length m.above) (length m.below) d.files b.files many_files b_files)) (all_behind (λ (f : LinkedFile). f.parts.geometry ≡ g) m.above above_geometry)) (child_in child child_made)) (
             (
               (can_read.there, can_read.sizes),
               (
@@ -411,7 +412,7 @@ module _ (m : MergeFiles) (merge : Merge) (d : Disk) (can : CanStart (chain_file
             ),
             (
               made_session m.target (target_place m) target target_made four_geometry.1.1.0,
-              made_read g b (target_place m + 1) m.below room.below.items for.below (let t : length m.above + 1 + 1 + 1 + length m.below ≤ b.files = omega (arith, many_files, b_files) in t) four_geometry.1.1.1,
+              made_read g b (target_place m + 1) m.below room.below.items for.below (all_there (length m.above) (length m.below) d.files b.files many_files b_files) four_geometry.1.1.1,
             ),
           )
         where
@@ -419,14 +420,14 @@ module _ (m : MergeFiles) (merge : Merge) (d : Disk) (can : CanStart (chain_file
           b_files = ap (λ (x : Disk). x.files) counts
 
           above_there : (files : List LinkedFile) → length files + 3 ≤ b.files → 1 + length (behind_first files) ≤ b.files
-          above_there [] many = omega (arith, many)
-          above_there (f ∷ files) many = omega (arith, many)
+          above_there [] many = some_there b.files many
+          above_there (f ∷ files) many = less_there (length files) b.files many
 
       low_all : Low below
       low_all =
           low_two (room.above.items ++ session_of child) (Read source ∷ Session target ∷ room.below.items)
           (low_two room.above.items (session_of child) (none_logged 1 1 (behind_first m.above) room.above.items for.above) (low_child child child_made))
-          (tt, ((let one : target.log.number ≡ 1 = target_made.of.first in omega (arith, one)), none_logged (target_place m + 1) 1 m.below room.below.items for.below))
+          (tt, (one_low target.log.number target_made.of.first, none_logged (target_place m + 1) 1 m.below room.below.items for.below))
 
       module _ (layers : Layers) (u : Underway) (geometry : layers.geometry ≡ g) (leaf_is : layers.leaf ≡ Some leaf) (merge_is : layers.merge ≡ Some u) (none_now : layers.retiring ≡ None) (below_is : layers.below.items ≡ below) (place : u.source ≡ length m.above)
           (marks : u.marks ≡ room.marks) (relink_is : u.relink ≡ merge.relink) (serving : StartsMerge m merge layers d.told b.told) where
@@ -444,7 +445,7 @@ module _ (m : MergeFiles) (merge : Merge) (d : Disk) (can : CanStart (chain_file
           ready = ready_still leaf leaf_made.old b leaf_made.was (same_files leaf_made.old leaf_made.counts) (λ t told. (held_now t told).0);
           sector = leaf_made.of.sector;
           sectors = leaf_made.of.sectors;
-          apart = subst (λ (n : ℕ). AreOthers n below) (sym leaf_made.of.number) (counted_others 1 below (omega arith) counted);
+          apart = subst (λ (n : ℕ). AreOthers n below) (sym leaf_made.of.number) (counted_others 1 below zero_one counted);
         }
 
         merge_ready : IsMergeOf g (Some leaf) below u
@@ -464,7 +465,7 @@ module _ (m : MergeFiles) (merge : Merge) (d : Disk) (can : CanStart (chain_file
 
         relinks_ready : CanRelink (Some leaf) below b u
         relinks_ready = record {
-          few = let some_pages : length merge.relink ≤ 22 = plan.relink.has.few in let same : length u.relink ≡ length merge.relink = ap (λ (ps : List Page). length ps) relink_is in omega (arith, some_pages, same);
+          few = few_pages (length merge.relink) (length u.relink) plan.relink.has.few (ap (λ (ps : List Page). length ps) relink_is);
           turns = some_told b.told (child_layer (Some leaf) below u.source) (λ l t. FileTurns l u.relink t)
               (told_last (λ trace now. IsServing layers (started_merge trace now m ids pages) now) (λ t. IfSome (child_layer (Some leaf) below u.source) (λ l. FileTurns l u.relink t)) child_turns d.told b.told serving);
         }
@@ -490,7 +491,7 @@ module _ (m : MergeFiles) (merge : Merge) (d : Disk) (can : CanStart (chain_file
         are_low : IsLow 1 layers
         are_low =
             subst (λ (o : Option Layer). AllByRecursion (λ number. IfSome number (λ n. n ≤ 1)) (option_map (λ (l : Layer). l.log.number) o ∷ map log_number layers.below.items)) (sym leaf_is)
-            ((let one : leaf.log.number ≡ 1 = leaf_made.of.first in omega (arith, one)), subst (λ (x : List FileLayer). AllByRecursion (λ number. IfSome number (λ n. n ≤ 1)) (map log_number x)) (sym below_is) low_all)
+            (one_low leaf.log.number leaf_made.of.first, subst (λ (x : List FileLayer). AllByRecursion (λ number. IfSome number (λ n. n ≤ 1)) (map log_number x)) (sym below_is) low_all)
 
         begun : HasBegunMerge m merge d b layers
         begun = record {

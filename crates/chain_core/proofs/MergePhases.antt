@@ -21,6 +21,7 @@ use Rattle.merge_plan.specs.declared.drawing.LogIds.{LogIds}
 use Rattle.merge_plan.specs.declared.drawing.MergeIds.{MergeIds}
 use Rattle.chain_core.specs.MergeStarting.{between_in, chain_files, data_session, inner_parts, leaf_of, log_session, source_begun, source_in, target_in, target_place, top_in, twice_ties}
 use Rattle.chain_core.specs.Starting.{opening_disk, placed_from}
+use Rattle.chain_core.proofs.Numbers.{next_not_same, next_not_zero, same_not_next, same_not_second, second_not_same, suc_not_zero, zero_not_next, zero_not_suc}
 use Rattle.chain_core.proofs.MergeFound.{AreFound, between_found, reached_none, rest_found, source_found, target_found, target_opened, top_found}
 use Rattle.chain_core.proofs.Phases.{Opened, Pair, Reached, chain_below, chain_top, chain_with, same_first, with_pairs}
 use Rattle.chain_core.proofs.Stages.{begin_opens, begin_reaches, close_opens, close_reaches, update_opens, update_reaches}
@@ -93,10 +94,10 @@ module _ (t0 : Trace) (m : MergeFiles) (ids : MergeIds) (pages : List Page) wher
         (same_first (source_found t0 m).member (source_begun t0 m ids).member (members_of (target_found t0 m ∷ rest)) refl refl refl)
 
     source_apart : AllByRecursion (λ k. sp ≢ k) (0 ∷ [])
-    source_apart = ((λ e. let never : length m.above + 1 ≡ 0 = e in absurd (omega arith)), tt)
+    source_apart = (next_not_zero (length m.above), tt)
 
     leaf_apart : AllByRecursion (λ (p : Pair). p.file.number ≢ sp) (pair leaf (top_in t0 m ids) ∷ [])
-    leaf_apart = ((λ e. let never : 0 ≡ length m.above + 1 = e in absurd (omega arith)), tt)
+    leaf_apart = (zero_not_next (length m.above), tt)
 
     pub source_opens : Opened opening name (sp ∷ 0 ∷ []) t0 now
     source_opens =
@@ -125,7 +126,7 @@ module _ (t0 : Trace) (m : MergeFiles) (ids : MergeIds) (pages : List Page) wher
     pub locator_reaches : (next : Layer) → HasUpdated source next pages old now → AtLocator leaf next now
     locator_reaches next updated =
         update_reaches z opening name t0 (top_in t0 m ids ∷ found) (target_found t0 m ∷ rest) source (source_begun t0 m ids) (twice_ties m ids (source_begun t0 m ids)) (laid_region (source_begun t0 m ids) pages (seen (file_of t0 sp))) pages
-        (sp ∷ 0 ∷ []) (pair leaf (top_in t0 m ids) ∷ []) old now r into locator_linked over next ((λ e. let never : 0 ≡ length m.above + 1 = e in absurd (omega arith)), tt) updated
+        (sp ∷ 0 ∷ []) (pair leaf (top_in t0 m ids) ∷ []) old now r into locator_linked over next (zero_not_next (length m.above), tt) updated
 
   -- ---- the target's session begins
 
@@ -156,10 +157,10 @@ module _ (t0 : Trace) (m : MergeFiles) (ids : MergeIds) (pages : List Page) wher
 
     target_apart : AllByRecursion (λ k. tp ≢ k) (sp ∷ sp ∷ 0 ∷ [])
     target_apart = (
-      (λ e. let never : length m.above + 1 + 1 ≡ length m.above + 1 = e in absurd (omega arith)),
+      next_not_same (length m.above + 1),
       (
-        (λ e. let never : length m.above + 1 + 1 ≡ length m.above + 1 = e in absurd (omega arith)),
-        ((λ e. let never : length m.above + 1 + 1 ≡ 0 = e in absurd (omega arith)), tt),
+        next_not_same (length m.above + 1),
+        (next_not_zero (length m.above + 1), tt),
       ),
     )
 
@@ -171,7 +172,7 @@ module _ (t0 : Trace) (m : MergeFiles) (ids : MergeIds) (pages : List Page) wher
     target_reaches target begun =
         subst (R (tp ∷ sp ∷ sp ∷ 0 ∷ []) (pair target (target_in t0 m ids) ∷ pair source (source_in t0 m ids pages) ∷ pair leaf (top_in t0 m ids) ∷ []) now) (parted (target_in t0 m ids))
         (begin_reaches z opening name t0 front rest tp m.target.parts (data_session ids.target) (sp ∷ sp ∷ 0 ∷ []) (pair source (source_in t0 m ids pages) ∷ pair leaf (top_in t0 m ids) ∷ []) old now r' target_apart target_linked over target
-        ((λ e. let never : length m.above + 1 ≡ length m.above + 1 + 1 = e in absurd (omega arith)), ((λ e. let never : 0 ≡ length m.above + 1 + 1 = e in absurd (omega arith)), tt)) begun)
+        (same_not_next (length m.above + 1), (zero_not_next (length m.above + 1), tt)) begun)
 
   -- ---- the child's session begins, if it isn't the leaf
 
@@ -199,10 +200,10 @@ module _ (t0 : Trace) (m : MergeFiles) (ids : MergeIds) (pages : List Page) wher
     parts_of (Some l) all = (all.1.1.0, (all.0, (all.1.0, (all.1.1.1.0, tt))))
 
     all_apart : (o : Option Layer) → AllByRecursion (λ (p : Pair). p.file.number ≢ sp) (child_pairs inner o ++ pair target (target_in t0 m ids) ∷ pair leaf (top_in t0 m ids) ∷ [])
-    all_apart None = ((λ e. let never : length m.above + 1 + 1 ≡ length m.above + 1 = e in absurd (omega arith)), ((λ e. let never : 0 ≡ length m.above + 1 = e in absurd (omega arith)), tt))
+    all_apart None = (next_not_same (length m.above + 1), (zero_not_next (length m.above), tt))
     all_apart (Some l) = (
-      (λ e. let never : length m.above ≡ length m.above + 1 = e in absurd (omega arith)),
-      ((λ e. let never : length m.above + 1 + 1 ≡ length m.above + 1 = e in absurd (omega arith)), ((λ e. let never : 0 ≡ length m.above + 1 = e in absurd (omega arith)), tt)),
+      same_not_next (length m.above),
+      (next_not_same (length m.above + 1), (zero_not_next (length m.above), tt)),
     )
 
     abbrev chain_end : List Placed
@@ -275,12 +276,12 @@ module _ (t0 : Trace) (first : LinkedFile) (above : List LinkedFile) (child sour
 
     inner_apart : AllByRecursion (λ k. cp ≢ k) numbers_of
     inner_apart = (
-      (λ e. let never : cp ≡ cp + 1 + 1 = e in absurd (omega arith)),
+      same_not_second cp,
       (
-        (λ e. let never : cp ≡ cp + 1 = e in absurd (omega arith)),
+        same_not_next cp,
         (
-          (λ e. let never : cp ≡ cp + 1 = e in absurd (omega arith)),
-          ((λ e. let never : suc (length above) ≡ 0 = e in absurd (omega arith)), tt),
+          same_not_next cp,
+          (suc_not_zero (length above), tt),
         ),
       ),
     )
@@ -292,4 +293,4 @@ module _ (t0 : Trace) (first : LinkedFile) (above : List LinkedFile) (child sour
     child_reaches l begun =
         subst (Q (cp ∷ numbers_of) (record { layer = l; file = child_begun } ∷ pairs_of) now) (inner_parted child_begun)
         (begin_reaches (leaf_of files).parts.geometry.sector (opening_disk t0 (chain_files files)) (leaf_of files).name t0 front_of back_of cp child.parts (log_session inner) numbers_of pairs_of old now q inner_apart inner_linked over l
-        ((λ e. let never : cp + 1 + 1 ≡ cp = e in absurd (omega arith)), ((λ e. let never : cp + 1 ≡ cp = e in absurd (omega arith)), ((λ e. let never : 0 ≡ suc (length above) = e in absurd (omega arith)), tt))) begun)
+        (second_not_same cp, (next_not_same cp, (zero_not_suc (length above), tt))) begun)

@@ -23,6 +23,7 @@ use Rattle.merge_plan.specs.Attached.{CanStart}
 use Rattle.chain_core.specs.States.{IsServing}
 use Rattle.chain_core.specs.declared.layers.Layers.{Layers}
 use Rattle.chain_core.specs.declared.layers.Underway.{Underway}
+use Rattle.chain_core.proofs.Numbers.{from_one, up_to_last, up_to_next, up_to_second}
 use Rattle.chain_core.proofs.MergeChild.{leaf_only}
 use Rattle.chain_core.proofs.MergeFound.{AreFound}
 use Rattle.chain_core.proofs.MergePhases.{AtEnd}
@@ -55,12 +56,12 @@ front_is (f ∷ above) child source target below ids pages relink (Some inner) l
 front_is (f ∷ above) child source target below ids pages relink (Some inner) leaf target_layer (Some l) reads t0 now is some both has links are table tables of e =
     front_inner t0 now f above child source target below ids pages relink inner is leaf l reads has.found of
     (λ k from to. e.left k (
-      (λ x. let never : k ≡ suc (length above) + 1 = x in absurd (omega (arith, to))),
+      up_to_next k (length above) to,
       (
-        (λ x. let never : k ≡ suc (length above) = x in absurd (omega (arith, to))),
+        up_to_last k (length above) to,
         (
-          (λ x. let never : k ≡ suc (length above) + 1 + 1 = x in absurd (omega (arith, to))),
-          ((λ x. let never : k ≡ suc (length above) + 1 = x in absurd (omega (arith, to))), ((λ x. let never : k ≡ suc (length above) + 1 = x in absurd (omega (arith, to))), ((λ x. let never : k ≡ 0 = x in absurd (omega (arith, from))), tt))),
+          up_to_second k (length above) to,
+          (up_to_next k (length above) to, (up_to_next k (length above) to, (from_one k from, tt))),
         ),
       ),
     ))

@@ -42,6 +42,7 @@ use Rattle.merge_plan.specs.Attached.{AreAsOpened}
 use Rattle.chain_core.specs.States.{AreHeld, AreWritten, IsCourse, IsRetiring, IsServing, IsUnder, Relinks, WasSynced, child_of, child_parts, is_session, seen_in}
 use Rattle.chain_core.specs.declared.layers.Layers.{Layers}
 use Rattle.chain_core.specs.declared.layers.Underway.{Underway}
+use Rattle.chain_core.proofs.Numbers.{before_suc, from_one, from_third_first, from_third_last, from_third_second, from_third_zero, next_not_same, next_not_zero, next_suc, same_not_next, suc_not_zero, up_to_last, up_to_second}
 use Rattle.chain_core.proofs.MergeFound.{AreFound, between_found, child_opened, opened_above, rest_found, rest_opened, source_found, target_found, target_opened, whole_found}
 use Rattle.chain_core.proofs.MergePhases.{AtEnd, child_pairs}
 use Rattle.merge_plan.proofs.Opened.{lie_within}
@@ -221,13 +222,13 @@ module _ (t0 now : Trace) (first : LinkedFile) (above : List LinkedFile) (child 
 
     unwritten_above : Each (λ k. is_written files k ≡ false) 1 above
     unwritten_above k from to =
-        unwritten files k (λ e. absurd (omega (arith, e, from))) (λ e. let never : k ≡ suc (length above) = e in absurd (omega (arith, to)))
-        (λ e. let never : k ≡ suc (length above) + 1 + 1 = e in absurd (omega (arith, to)))
+        unwritten files k (from_one k from) (up_to_last k (length above) to)
+        (up_to_second k (length above) to)
 
     goes_by_child : (rest : List FileLayer) → child_parts (Some leaf) (layers_in ++ rest) (suc (length above)) ≡ Some layer.tables.parts
     goes_by_child rest =
-        let some : (suc (length above) == 0) ≡ false = ne_eqb (suc (length above)) 0 (λ e. absurd (omega arith)) in
-        let less : suc (length above) - 1 ≡ length reads = omega (arith, read_count 1 above reads of) in
+        let some : (suc (length above) == 0) ≡ false = ne_eqb (suc (length above)) 0 (suc_not_zero (length above)) in
+        let less : suc (length above) - 1 ≡ length reads = before_suc (length reads) (length above) (read_count 1 above reads of) in
         ap (λ (b : Bool). cond b (Some leaf.tables.parts) (slice_index_or (map (λ l. Some (table_parts l)) (layers_in ++ rest)) (suc (length above) - 1) None)) some
         ∙ ap (λ (n : ℕ). slice_index_or (map (λ l. Some (table_parts l)) (layers_in ++ rest)) n None) less ∙ at_end reads (Session layer) rest
 
@@ -248,7 +249,7 @@ module _ (t0 now : Trace) (first : LinkedFile) (above : List LinkedFile) (child 
       child = subst (λ (ps : List Placed). is_written files (child_of (top_in t0 files ids) ps).number ≡ true) mid_is (ap (λ (p : Placed). is_written files p.number) child_is ∙ child_is_written);
       relinks = subst (λ (ps : List Placed). Relinks layer.tables.parts.bat_len relink (child_of (top_in t0 files ids) ps) (target_in t0 files ids)) mid_is
           (subst (λ (p : Placed). Relinks layer.tables.parts.bat_len relink p (target_in t0 files ids)) (sym child_is) relinks);
-      count = subst (λ (ps : List Placed). length ps ≡ suc (length above)) mid_is (length-append (placed_from t0 1 above) (begun ∷ []) ∙ (let n : length (placed_from t0 1 above) ≡ length above = placed_length t0 1 above in omega (arith, n)));
+      count = subst (λ (ps : List Placed). length ps ≡ suc (length above)) mid_is (length-append (placed_from t0 1 above) (begun ∷ []) ∙ next_suc (length (placed_from t0 1 above)) (length above) (placed_length t0 1 above));
       seen = λ b s. subst (λ (ps : List Placed). seen_in (between_found t0 (first ∷ above) child ++ b) s ≡ seen_in (ps ++ b) s) mid_is (
           ap (λ (c : List Placed). seen_in c s) (append_assoc (placed_from t0 1 above) (as_found t0 (length (first ∷ above)) child.parts ∷ []) b)
           ∙ seen_with (placed_from t0 1 above) (as_found t0 (length (first ∷ above)) child.parts) begun b s refl
@@ -283,24 +284,23 @@ module _ (t0 now : Trace) (m : MergeFiles) (ids : MergeIds) (pages relink : List
   beside_rest : Each (λ k. IsBeside k t0 now) (target_place m + 1) m.below
   beside_rest k from to =
       e.left k (
-        (λ x. let never : k ≡ length m.above + 1 = x in absurd (omega (arith, from))),
+        from_third_second k (length m.above) from,
         (
-          (λ x. let never : k ≡ length m.above = x in absurd (omega (arith, from))),
+          from_third_first k (length m.above) from,
           (
-            (λ x. let never : k ≡ length m.above + 1 + 1 = x in absurd (omega (arith, from))),
-            ((λ x. let never : k ≡ length m.above + 1 = x in absurd (omega (arith, from))), ((λ x. let never : k ≡ length m.above + 1 = x in absurd (omega (arith, from))), ((λ x. let never : k ≡ 0 = x in absurd (omega (arith, from))), tt))),
+            from_third_last k (length m.above) from,
+            (from_third_second k (length m.above) from, (from_third_second k (length m.above) from, (from_third_zero k (length m.above) from, tt))),
           ),
         ),
       )
 
   unwritten_rest : Each (λ k. is_written m k ≡ false) (target_place m + 1) m.below
   unwritten_rest k from to =
-      unwritten m k (λ x. let never : k ≡ 0 = x in absurd (omega (arith, from))) (λ x. let never : k ≡ length m.above = x in absurd (omega (arith, from))) (λ x. let never : k ≡ length m.above + 1 + 1 = x in absurd (omega (arith, from)))
+      unwritten m k (from_third_zero k (length m.above) from) (from_third_first k (length m.above) from) (from_third_last k (length m.above) from)
 
   unwritten_source : is_written m (source_place m) ≡ false
   unwritten_source =
-      unwritten m (source_place m) (λ x. let never : length m.above + 1 ≡ 0 = x in absurd (omega arith)) (λ x. let never : length m.above + 1 ≡ length m.above = x in absurd (omega arith))
-      (λ x. let never : length m.above + 1 ≡ length m.above + 1 + 1 = x in absurd (omega arith))
+      unwritten m (source_place m) (next_not_zero (length m.above)) (next_not_same (length m.above)) (same_not_next (length m.above + 1))
 
   number_of_target : target.tables.parts.file ≡ target_place m
   number_of_target = sym serves.0.number

@@ -24,6 +24,7 @@ use Rattle.merge_plan.specs.declared.drawing.MergeIds.{MergeIds}
 use Rattle.chain_core.specs.MergeStarting.{LeavesAllBut, LeavesRest, chain_files, data_session, is_changed, leaf_of, log_session, source_begun, source_in, target_place, twice_ties}
 use Rattle.chain_core.specs.Starting.{EachOpensAlike, opening_disk}
 use Rattle.merge_plan.specs.Attached.{CanStart}
+use Rattle.chain_core.proofs.Numbers.{next_not_same, next_not_zero}
 use Rattle.chain_core.proofs.MergeFound.{AreFound, files_split, lower_files, source_opened}
 use Rattle.chain_core.proofs.MergePhases.{AtChild, AtEnd, AtLeaf, AtLocator, AtSource, AtTarget, end_opens, end_reaches, end_serves, leaf_opens, leaf_reaches, locator_opens, locator_reaches, source_opens, source_reaches, target_opens, target_reaches}
 use Rattle.chain_core.proofs.MergeTold.{are_found, told_from, told_last}
@@ -83,7 +84,7 @@ module _ (m : MergeFiles) (ids : MergeIds) (twice : List Page) (d : Disk) (can :
   module _ (leaf : Layer) (o : Option Trace) (at : WhereBothTold (λ t. AtLeaf t m ids twice leaf) d.told o) where
     pub source_serves : WhereTold d.told (CanServe m.source.parts ids.source.log (source_place m)) → WhereTold o (CanServe m.source.parts ids.source.log (source_place m))
     source_serves = serve_on d.told m.source.parts ids.source.log (source_place m) (λ t. AtLeaf t m ids twice leaf)
-        (λ a b r. r.left (source_place m) ((λ e. let never : length m.above + 1 ≡ 0 = e in absurd (omega arith)), tt)) o at
+        (λ a b r. r.left (source_place m) (next_not_zero (length m.above), tt)) o at
 
     pub source_told : (p : Option Trace) → WhereBothTold (BeginsOver m.source.parts (log_session ids.source) (source_place m)) o p → WhereBothTold (OpenedBy m (source_place m ∷ 0 ∷ [])) d.told p
     source_told p over =
@@ -138,7 +139,7 @@ module _ (m : MergeFiles) (ids : MergeIds) (twice : List Page) (d : Disk) (can :
     pub target_serves : WhereTold d.told (CanServe m.target.parts ids.target.log (target_place m)) → WhereTold o (CanServe m.target.parts ids.target.log (target_place m))
     target_serves = serve_on d.told m.target.parts ids.target.log (target_place m) (λ t. AtLocator t m ids twice leaf source)
         (λ a b r. r.left (target_place m)
-        ((λ e. let never : length m.above + 1 + 1 ≡ length m.above + 1 = e in absurd (omega arith)), ((λ e. let never : length m.above + 1 + 1 ≡ length m.above + 1 = e in absurd (omega arith)), ((λ e. let never : length m.above + 1 + 1 ≡ 0 = e in absurd (omega arith)), tt)))) o at
+        (next_not_same (length m.above + 1), (next_not_same (length m.above + 1), (next_not_zero (length m.above + 1), tt)))) o at
 
     both : WhereBothTold (λ a b. AreFound a m × AtLocator a m ids twice leaf source b) d.told o
     both = told_from (λ t. AreFound t m) (λ t. AtLocator t m ids twice leaf source) (λ a b. AreFound a m × AtLocator a m ids twice leaf source b) (λ a b k r. (k, r)) d.told o found at

@@ -1,5 +1,5 @@
 -- What a call that reached the layers leaves of the history, and of a session, by the answer of its layers.
-use Rattle.std.proofs.Common.{◌≡◌, ℕ, ◌+◌, ◌-◌, ◌≤◌, ◌^◌, List, [], ◌∷◌, ◌++◌, length, take, refl, sym, ap, subst, ◌∙◌, arith, length-append, Bool, true, is_some, ◌||◌, map}
+use Rattle.std.proofs.Common.{◌≡◌, ℕ, ◌+◌, ◌-◌, ◌≤◌, ◌^◌, List, [], ◌∷◌, ◌++◌, length, take, refl, sym, ap, subst, ◌∙◌, arith, length-append, Bool, true, false, is_some, ◌||◌, map}
 use Rattle.std.proofs.lemmas.List.{take_at}
 use Rattle.std.specs.Prelude.{Option, Some, None, option_map, Result, Ok, Err, IfErr, IfSome, IsErrAnd, OnOk, OnErr}
 use Rattle.std.specs.List.{AllByRecursion}
@@ -66,6 +66,20 @@ sound_looked s t old new before after done sound whole one few noted first then 
     sound_behind s t done sound whole one few noted r.geometry (has_merge_same s.layers t.layers (r.merge, r.retiring)) (always done _ r.ready)
     (always done ((most : ℕ) → IsLow most s.layers → IsLow (most + 1) t.layers)
     (λ most low. low_on most (most + 1) t.layers (omega arith) (subst (AllByRecursion (λ number. IfSome number (λ n. n ≤ most))) (sym r.numbers) low))) fault
+
+-- with no merge, and no event yet
+pub sound_fresh : (s : Session) → s.events ≡ 0 → s.noted ≡ 0 → AreReady s.layers s.disk → IsLow 1 s.layers → IsSound s
+sound_fresh s none empty ready low = record {
+  sector = ready.sector;
+  noted = omega (arith, none, empty);
+  few = omega (arith, none);
+  ready = λ _. ready;
+  low = λ _. low_on 1 (s.events + slack (has_merge s.layers)) s.layers (some_slack s.events (has_merge s.layers)) low;
+}
+  where
+    some_slack : (n : ℕ) (merge : Bool) → 1 ≤ n + slack merge
+    some_slack n true = omega arith
+    some_slack n false = omega arith
 
 -- with a merge of the leaf, and no event yet
 pub sound_leaf_started : (s : Session) → s.events ≡ 0 → s.noted ≡ 0 → AreReady s.layers s.disk → s.layers.merge ≡ None → is_some s.layers.retiring ≡ true → IsLow 2 s.layers → IsSound s

@@ -1,5 +1,5 @@
 -- A file at its place among others.
-use Rattle.std.proofs.Common.{◌≡◌, ℕ, zero, suc, ◌<◌, List, [], ◌∷◌, ◌++◌, length, map, get_or, set, refl, sym, ap, subst, ◌∙◌, arith, is_some, false, true}
+use Rattle.std.proofs.Common.{◌≡◌, ℕ, zero, suc, ◌<◌, List, [], ◌∷◌, ◌++◌, length, map, get_or, set, refl, sym, ap, subst, ◌∙◌, arith, is_some, false, true, ◌||◌}
 use Rattle.std.specs.Prelude.{Option, Some, None, Result, Ok, Err, IfErr, IfSome, OnErr, OnOk}
 use Rattle.std.specs.List.{AllByRecursion}
 use Rattle.layer_session.proofs.Handing.{file_there}
@@ -22,13 +22,16 @@ use Rattle.layer_session.proofs.FileLayers.{others_stand}
 use Rattle.layer_session.specs.FileLayers.{AreReadableFiles, AreReadyFiles, AreSameFiles, FileCanBeRead, HasFile, HaveFiles, HaveSameNumbers, Hold, IsReadableFile, IsReadyFile, IsSameFile, file_numbers, log_number, number_of, table_parts, log_header}
 use Rattle.merge_core.specs.Pieces.{IsTaken, piece_of}
 use Rattle.merge_core.specs.declared.piece.Piece.{Piece as KeptPiece}
+use Rattle.chain_core.specs.declared.layers.Retiring.{Retiring}
+use Rattle.layer_session.specs.declared.read_layer.ReadLayer.{ReadLayer}
 use Rattle.chain_core.specs.declared.layers.Layers.{Layers}
 use Rattle.chain_core.specs.declared.layers.Underway.{Underway}
 use Rattle.chain_core.specs.Copying.{FitsDisk, Takes, TakesStripe, number_at_source, source_number, stamp_in}
 use Rattle.chain_core.specs.Merging.{IsTruePiece}
 use Rattle.chain_core.specs.Reading.{HasOnlyRead}
-use Rattle.chain_core.specs.Sessions.{AreReady, AtMostOne, IsMergeOf}
+use Rattle.chain_core.specs.Sessions.{AreReady, AtMostOne, IsMergeOf, has_merge, IsRetiringOf, is_session_at}
 use Rattle.chain_core.specs.States.{AreHeld, IsCourse, IsServing, IsUnder, Rest, State, merging, plain, retiring, sector_of}
+use Rattle.chain_core.proofs.Numbers.{before_next, stripe_of_512}
 use Rattle.chain_core.proofs.Finding.{below_reads}
 use Rattle.chain_core.proofs.Putting.{have_parts}
 use Rattle.layer_session.proofs.Equal.{false_true}
@@ -108,7 +111,7 @@ merge_of layers u disk merge_is ready = subst (λ o. IfSome o (IsMergeOf layers.
 
 pub source_at : (layers : Layers) (u : Underway) (disk : Disk) (x d : FileLayer) → layers.merge ≡ Some u → AreReady layers disk → x ≡ get_or layers.below.items u.source d → IsAt layers.below.items u.source x
 source_at layers u disk x d merge_is ready is =
-    subst (IsAt layers.below.items u.source) (sym is) (at_place layers.below.items u.source d (omega (arith, (merge_of layers u disk merge_is ready).there)))
+    subst (IsAt layers.below.items u.source) (sym is) (at_place layers.below.items u.source d (before_next u.source (length layers.below.items) (merge_of layers u disk merge_is ready).there))
 
 pub one_of : (P : FileLayer → Type 0) (a : List FileLayer) (x : FileLayer) (b : List FileLayer) → AllByRecursion P (a ++ x ∷ b) → P x
 one_of P [] x b all = all.0
@@ -162,6 +165,20 @@ source_taken v (merging above source target below m) layers leaf u x trace piece
     let t = taken source own in
     true_pieces.taken z m.first [] source.member.layer piece stripes (λ s. under.under_way.source_is s) (stamp ∙ sym (stamps_by_call.none z piece.stripe)) t.within t.taken
 
+-- what isn't some is none
+pub is_none : {A : Type 0} (o : Option A) → ((x : A) → o ≡ Some x → ⊥) → o ≡ None
+is_none None not = refl
+is_none (Some x) not = absurd (not x refl)
+
+-- where no merge below the leaf is under way it is the leaf's
+pub leaf_merge : (layers : Layers) → layers.merge ≡ None → has_merge layers ≡ true → is_some layers.retiring ≡ true
+leaf_merge layers none merge = sym (ap (λ m. is_some m || is_some layers.retiring) none) ∙ merge
+
+-- what is none isn't some
+pub none_left : {A : Type 0} (o : Option A) → ((x : A) → o ≡ Some x → ⊥) → is_some o ≡ true → ⊥
+none_left None not some = false_true some
+none_left (Some x) not some = not x refl
+
 pub some_leaf : (o : Option Layer) → is_some o ≡ true → (leaf : Layer) × (o ≡ Some leaf)
 some_leaf None some = absurd (false_true some)
 some_leaf (Some leaf) some = (leaf, refl)
@@ -173,7 +190,7 @@ takes layers u x disk (Ok done) piece merge_is at ready stamp taken = λ trace t
     let merge : IsMergeOf layers.geometry layers.leaf layers.below.items u = subst (λ o. IfSome o (IsMergeOf layers.geometry layers.leaf layers.below.items)) merge_is ready.merge in
     let leaf = some_leaf layers.leaf merge.session in
     let size : layers.geometry.sector ≡ sector_of v = ap (λ (k : Geometry). k.sector) serving.geometry in
-    let stripes : 0 < per_stripe (sector_of v) = subst (λ (z : ℕ). 0 < per_stripe z) (sym ready.sector ∙ size) (omega arith) in
+    let stripes : 0 < per_stripe (sector_of v) = stripe_of_512 (sector_of v) (sym ready.sector ∙ size) in
     source_taken v v.rest layers leaf.0 u x trace piece leaf.1 merge_is at serving stripes stamp (λ file own. subst (λ (z : ℕ). IsTaken z file.member.layer piece) size (taken file trace told own))
 
 -- all that a take of the source says
@@ -193,3 +210,28 @@ below_takes old new u x next before after answer piece stripe is ready at g l m 
   err = some_failed x before after answer (readable_of old u before x ready at).can failed;
   whose = whose old u x before after answer is at failed;
 }
+
+-- ---- layers of files in a session
+
+read_at : (a : List FileLayer) (l : ReadLayer) (b : List FileLayer) → is_session_at (a ++ Read l ∷ b) (length a) ≡ false
+read_at [] l b = refl
+read_at (x ∷ a) l b = read_at a l b
+
+pub never_read : (layers : List FileLayer) (place : ℕ) (l : ReadLayer) → IsAt layers place (Read l) → is_session_at layers place ≡ true → ⊥
+never_read layers place l at session =
+    let never : false ≡ true = sym (read_at at.before l at.behind) ∙ ap (λ (n : ℕ). is_session_at (at.before ++ Read l ∷ at.behind) n) at.long ∙ ap (λ (c : List FileLayer). is_session_at c place) (sym at.parts) ∙ session in false_true never
+
+pub first_session : (x : FileLayer) (rest : List FileLayer) → is_session_at (x ∷ rest) 0 ≡ true → ((l : Layer) → x ≡ Session l → ⊥) → ⊥
+first_session (Session l) rest session not = not l refl
+first_session (Read l) rest session not = false_true session
+
+-- the leaf is in a session while it is merged
+pub retiring_session : (layers : Layers) (disk : Disk) → is_some layers.retiring ≡ true → AreReady layers disk → is_some layers.leaf ≡ true
+retiring_session layers disk some ready = by_kept layers.retiring some ready.retiring
+  where
+    by_kept : (o : Option Retiring) → is_some o ≡ true → IfSome o (IsRetiringOf layers.geometry layers.leaf layers.below.items) → is_some layers.leaf ≡ true
+    by_kept None some of = absurd (false_true some)
+    by_kept (Some r) some of = of.session
+
+pub leaf_not_none : (layers : Layers) → layers.leaf ≡ None → is_some layers.leaf ≡ true → ⊥
+leaf_not_none layers none some = (let never : false ≡ true = sym (ap is_some none) ∙ some in false_true never)

@@ -19,6 +19,7 @@ use Rattle.chain_core.specs.Copying.{number_below}
 use Rattle.chain_core.specs.Ending.{AreAllReady, SomeChangeFailed}
 use Rattle.chain_core.specs.Finished.{CanBeRetired, CanEnd, ChangesFile, Clears, Finishes, HandsOver, Identifies, IsAllMarked, IsSessionOf, IsTargetOrChild, Settles, UpdatesBy, leaf_left, number_above, numbers_left}
 use Rattle.chain_core.specs.Sessions.{AreReady, AtMostOne, CanRelink, CanRetire, IsLow, IsMergeOf, IsReadyLeaf, IsRetiringOf, KeepsMerge, first_layer, header_at, is_session_at, number_of_leaf}
+use Rattle.chain_core.proofs.Numbers.{far_below, five_of_five, four_of_five, one_far_below, one_up, same_low, three_more, three_of_five, zero_suc}
 use Rattle.chain_core.proofs.Copied.{low_on}
 use Rattle.chain_core.proofs.Ending.{failed_later}
 use Rattle.chain_core.proofs.Exchanged.{change_failed, exchanged_low, relinking_leaves, turns_of}
@@ -63,7 +64,7 @@ module _ (L0 : Layers) (r : Retiring) (d0 : Disk) (none : L0.merge ≡ None) (ke
   target_session = of_retiring.target
 
   pub target_low : IsLow (2 ^ 63 + 3) L0 → IsLow (2 ^ 63 + 5) L0
-  target_low low = low_on (2 ^ 63 + 3) (2 ^ 63 + 5) L0 (omega arith) low
+  target_low low = low_on (2 ^ 63 + 3) (2 ^ 63 + 5) L0 three_of_five low
 
   module _ (L1 : Layers) (d1 : Disk) where
     pub stopped_first : (fault : StoreFault) → ChangesFile Settles 1 L0 L1 d0 d1 (Err fault) → Finishes L0 L1 d0 d1 (Err fault)
@@ -82,7 +83,7 @@ module _ (L0 : Layers) (r : Retiring) (d0 : Disk) (none : L0.merge ≡ None) (ke
       first_low = exchanged_low 1 c1.was c1.now L0 L1 c1.exchanged c1.changed.parts c1.changed.number
 
       pub settle_low : IsLow (2 ^ 63 + 3) L0 → IsLow (2 ^ 63 + 5) L1
-      settle_low low = low_on (2 ^ 63 + 3 + 1) (2 ^ 63 + 5) L1 (omega arith) (first_low (2 ^ 63 + 3) low)
+      settle_low low = low_on (2 ^ 63 + 3 + 1) (2 ^ 63 + 5) L1 four_of_five (first_low (2 ^ 63 + 3) low)
 
       s1 : Stays L0 L1 d0 d1
       s1 = stays_target L0 L0 d0 d0 s0 L1 d1 Settles (Ok tt) t1 t1.changed.parts (others_stand.kept t1.was d0 d1 (target_was_ready L0 L0 d0 d0 s0 L1 d1 Settles (Ok tt) t1) t1.changed.moments) t1.changed.counts t1.changed.ready
@@ -116,7 +117,7 @@ module _ (L0 : Layers) (r : Retiring) (d0 : Disk) (none : L0.merge ≡ None) (ke
           second_low most low = exchanged_low 0 c2.was c2.now L1 L2 c2.exchanged c2.changed.parts c2.changed.number (most + 1) (first_low most low)
 
           pub clear_low : IsLow (2 ^ 63 + 3) L0 → IsLow (2 ^ 63 + 5) L2
-          clear_low low = low_on (2 ^ 63 + 3 + 1 + 1) (2 ^ 63 + 5) L2 (omega arith) (second_low (2 ^ 63 + 3) low)
+          clear_low low = low_on (2 ^ 63 + 3 + 1 + 1) (2 ^ 63 + 5) L2 five_of_five (second_low (2 ^ 63 + 3) low)
 
           s2 : Stays L0 L2 d0 d2
           s2 = stays_leaf L0 L1 d0 d1 s1 L2 d2 Settles (Ok tt) t2 t2.changed.parts (others_stand.kept t2.was d1 d2 (leaf_was_ready L0 L1 d0 d1 s1 L2 d2 Settles (Ok tt) t2) t2.changed.moments) t2.changed.counts t2.changed.ready
@@ -172,7 +173,7 @@ module _ (L0 : Layers) (r : Retiring) (d0 : Disk) (none : L0.merge ≡ None) (ke
               stays = subst (λ (l : Layers). Stays L0 l d0 d3) (sym c.1) (subst (λ (d : Disk). Stays L0 L2 d0 d) (sym c.2) s2);
               header = ap (λ (l : Layers). header_at l.below.items 0) c.1;
               leaf = ap (λ (l : Layers). l.leaf) c.1 ∙ t2.now_there;
-              low = λ most low. subst (λ (l : Layers). IsLow (most + 1) l) (sym c.1) (low_on most (most + 1) L2 (omega arith) low);
+              low = λ most low. subst (λ (l : Layers). IsLow (most + 1) l) (sym c.1) (low_on most (most + 1) L2 (one_up most) low);
               turns = subst (λ (d : Disk). WhereTold d.told (FileTurns (Session t2.now) r.retire)) (sym c.2) turns2;
               first = t1.now;
               items = ap (λ (l : Layers). l.below.items) c.1 ∙ items2;
@@ -202,20 +203,20 @@ module _ (L0 : Layers) (r : Retiring) (d0 : Disk) (none : L0.merge ≡ None) (ke
               retiring3 = t3.stays.retiring ∙ kept_is
 
               third_low : (most : ℕ) → IsLow most L0 → IsLow (most + 3) L3
-              third_low most low = subst (λ (n : ℕ). IsLow n L3) (let sum : most + 1 + 1 + 1 ≡ most + 3 = omega arith in sum) (t3.low (most + 1 + 1) (second_low most low))
+              third_low most low = subst (λ (n : ℕ). IsLow n L3) (three_more most) (t3.low (most + 1 + 1) (second_low most low))
 
               leaf_low : IsLow (2 ^ 63 + 3) L0 → t2.now.log.number ≤ 2 ^ 63 + 6
               leaf_low low =
                   let all : IsLow (2 ^ 63 + 3 + 3) L3 = third_low (2 ^ 63 + 3) low in
                   let own : t2.now.log.number ≤ 2 ^ 63 + 3 + 3 = subst (λ (o : Option Layer). IfSome (option_map (λ (l : Layer). l.log.number) o) (λ n. n ≤ 2 ^ 63 + 3 + 3)) t3.leaf all.0 in
-                  omega (arith, own)
+                  own
 
               pub retire_can : IsLow (2 ^ 63 + 3) L0 → IfSome L3.retiring (λ k. IfSome L3.leaf (CanBeRetired k.retire d3))
               retire_can low =
                   let can : CanBeRetired r.retire d3 t2.now = record {
                     ready = (subst (λ o. IfSome o (IsReadyLeaf L3.geometry L3.below.items d3)) t3.leaf t3.stays.parts.leaf).ready;
                     waits = t2.changed.empty;
-                    number = (let own = leaf_low low in omega (arith, own));
+                    number = far_below t2.now.log.number (leaf_low low);
                     few = can_retire.few;
                     turns = turns_of t2.now r.retire d3.told t3.turns;
                   } in
@@ -260,7 +261,7 @@ module _ (L0 : Layers) (r : Retiring) (d0 : Disk) (none : L0.merge ≡ None) (ke
                   items4 = ap (λ b. b.items) t4.below ∙ t3.items
 
                   pub identify_there : 0 < length L4.below.items
-                  identify_there = subst (λ (b : List FileLayer). 0 < length b) (sym items4) (omega arith)
+                  identify_there = subst (λ (b : List FileLayer). 0 < length b) (sym items4) (zero_suc (length t1.rest))
 
                   pub identify_session : is_session_at L4.below.items 0 ≡ true
                   identify_session = ap (λ (b : List FileLayer). is_session_at b 0) items4
@@ -303,12 +304,12 @@ module _ (L0 : Layers) (r : Retiring) (d0 : Disk) (none : L0.merge ≡ None) (ke
                           let leaf : L5.leaf ≡ Some t4.now = t5.leaf ∙ t4.now_there in
                           let can : CanEnd d5 t4.now = record {
                             ready = (subst (λ o. IfSome o (IsReadyLeaf L5.geometry L5.below.items d5)) leaf s5.parts.leaf).ready;
-                            number = (let own = leaf_low low in let one = t4.changed.number in let was : t2.now.log.number ≡ t4.was.log.number = ap (λ (l : Layer). l.log.number) same_leaf in omega (arith, own, one, was));
+                            number = one_far_below t2.now.log.number t4.was.log.number t4.now.log.number (leaf_low low) (ap (λ (l : Layer). l.log.number) same_leaf) t4.changed.number;
                           } in
                           subst (λ o. IfSome o (CanEnd d5)) (sym leaf) can
 
                       pub hand_there : 0 < length L5.below.items
-                      hand_there = subst (λ (b : List FileLayer). 0 < length b) (sym t5.now_there) (omega arith)
+                      hand_there = subst (λ (b : List FileLayer). 0 < length b) (sym t5.now_there) (zero_suc (length t5.rest))
 
                       pub hand_target : is_session_at L5.below.items 0 ≡ true
                       hand_target = ap (λ (b : List FileLayer). is_session_at b 0) t5.now_there
@@ -354,7 +355,7 @@ module _ (L0 : Layers) (r : Retiring) (d0 : Disk) (none : L0.merge ≡ None) (ke
                               let all3 = (third_low most low).1 in
                               let all4 : AllByRecursion (λ number. IfSome number (λ n. n ≤ most + 3)) (map log_number (Session t5.was ∷ t5.rest)) =
                               subst (λ (b : List FileLayer). AllByRecursion (λ number. IfSome number (λ n. n ≤ most + 3)) (map log_number b)) (sym (ap (λ b. b.items) t4.below) ∙ t5.was_there) all3 in
-                              let own : t5.now.log.number ≤ most + 3 = (let was : t5.was.log.number ≤ most + 3 = all4.0 in let same = t5.changed.number in omega (arith, was, same)) in
+                              let own : t5.now.log.number ≤ most + 3 = same_low t5.was.log.number t5.now.log.number most all4.0 t5.changed.number in
                               let all5 : AllByRecursion (λ number. IfSome number (λ n. n ≤ most + 3)) (map log_number (Session h.target ∷ h.rest)) =
                               subst (λ (b : List FileLayer). AllByRecursion (λ number. IfSome number (λ n. n ≤ most + 3)) (map log_number b)) (sym t5.now_there ∙ h.was_there) (own, all4.1) in (
                                 subst (λ (o : Option Layer). IfSome (option_map (λ (l : Layer). l.log.number) o) (λ n. n ≤ most + 3)) (sym leaf7) all5.0,

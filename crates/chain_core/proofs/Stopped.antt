@@ -13,7 +13,8 @@ use Rattle.chain_core.specs.Answering.{as_change, breaks}
 use Rattle.chain_core.specs.Copying.{IfStopped, PutCause, PutsInTarget, refused_by}
 use Rattle.chain_core.specs.Finished.{FinishCause, Finishes, IsAllCopied, IsAllMarked, IsJudged}
 use Rattle.chain_core.specs.Refusing.{or_else}
-use Rattle.chain_core.specs.Sessions.{Session}
+use Rattle.chain_core.specs.Sessions.{Session, marks_in}
+use Rattle.chain_core.specs.declared.layers.Retiring.{Retiring}
 use Rattle.chain_core.specs.declared.layers.Layers.{Layers}
 use Rattle.layer_session.proofs.Equal.{some_none}
 
@@ -73,3 +74,11 @@ module _ (s t : Session) (layers1 layers2 : Layers) (disk1 disk2 : Disk) (l1 : l
 pub judged_copied : (o : Option Marks) → IsJudged o (Ok tt) → IfSome o IsAllMarked
 judged_copied None judged = tt
 judged_copied (Some m) judged = judged
+
+-- all marks of the merge of the leaf, where no other is under way
+pub leaf_copied : (layers : Layers) → layers.merge ≡ None → IsAllCopied layers → IfSome layers.retiring (λ (r : Retiring). IsAllMarked r.marks)
+leaf_copied layers none copied = by_kept layers.retiring (subst (λ m. IfSome (marks_in m layers.retiring) IsAllMarked) none copied)
+  where
+    by_kept : (o : Option Retiring) → IfSome (marks_in None o) IsAllMarked → IfSome o (λ (r : Retiring). IsAllMarked r.marks)
+    by_kept None h = tt
+    by_kept (Some r) h = h

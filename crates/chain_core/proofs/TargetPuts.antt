@@ -31,6 +31,7 @@ use Rattle.chain_core.specs.Copying.{HasMarked, IsMarked, stamp_in, stamp_of, Ma
 use Rattle.chain_core.specs.Merging.{IsTruePiece, PutAnswers}
 use Rattle.chain_core.specs.Sessions.{AreReady, IsLow, IsMergeOf, number_of_leaf}
 use Rattle.chain_core.specs.States.{AreWritten, IsCourse, IsServing, IsUnder, Rest, State, merging, plain, retiring, sector_of}
+use Rattle.chain_core.proofs.Numbers.{stripe_of_512}
 use Rattle.chain_core.proofs.Places.{alone, merge_of, some_leaf}
 use Rattle.chain_core.proofs.Putting.{copied, put_failed, put_refused, serves_target}
 use Rattle.chain_core.proofs.Standing.{same_files}
@@ -85,7 +86,7 @@ module _ (old new : Layers) (u : Underway) (piece : KeptPiece) (before after : D
         serves = serves_target v v.top above source target below m old leaf x serving the_leaf.1 a l b was at
 
         stripes : 0 < per_stripe (sector_of here)
-        stripes = subst (λ (z : ℕ). 0 < per_stripe z) (sym ready.sector ∙ ap (λ (k : Geometry). k.sector) serving.geometry) (omega arith)
+        stripes = stripe_of_512 (sector_of here) (sym ready.sector ∙ ap (λ (k : Geometry). k.sector) serving.geometry)
 
         all_written : AreWritten v.writes new.below.items
         all_written =

@@ -1,6 +1,6 @@
 //! The session of a chain.
 
-ghost use Rattle.std.specs.Prelude.{◌≡◌, ◌+◌, ◌-◌, ◌*◌, ◌/◌, ◌%◌, ◌^◌, ◌<◌, ◌≤◌, ◌++◌, ◌∷◌, [], Ok, Err, true, false, None, Some, length, take, is_some, option_map, IfErr, IfNone, IfOk, IfSome, IsTrue, OnErr, OnOk};
+ghost use Rattle.std.specs.Prelude.{◌≡◌, ◌+◌, ◌-◌, ◌*◌, ◌/◌, ◌%◌, ◌^◌, ◌<◌, ◌≤◌, ◌++◌, ◌∷◌, ◌||◌, if◌then◌else◌, [], Ok, Err, true, false, None, Some, length, take, is_some, option_map, IfErr, IfNone, IfOk, IfSome, IsTrue, OnErr, OnOk};
 ghost use Rattle.guest_model.specs.declared.call.Call.TheVariants as calls;
 ghost use Rattle.guest_model.specs.Calls.{call_of, entry_of};
 ghost use Rattle.chain_core.specs.Answering.{AnswersTold, ClosesTold, EndsTold, HasCause, HasReadCause, HasRoom, IsDurable, Notes, answer_of, as_read, breaking, breaks, refusal_of};
@@ -183,15 +183,34 @@ impl<S: Store, R: Recorder> Chain<S, R> {
         fit
     }
 
-    // Refuses a call that asks for a session of the leaf, where there is none.
-    fn permit(&self) -> Result<(), ChainRefusal>
-        ensures ok { OnOk result (is_some self.now.layers.leaf ≡ true) }
-        ensures err { IfErr result (λ e. (e ≡ ChainRefusal.ReadOnly) × (is_some self.now.layers.leaf ≡ false)) }
+    // Refuses a call, unless it is a read, where the leaf has no session.
+    fn permit(&self, is_read: bool) -> Result<(), ChainRefusal>
+        ensures { result ≡ if is_read || is_some self.now.layers.leaf then Ok tt else Err ChainRefusal.ReadOnly }
     {
+        if is_read {
+            return Ok(());
+        }
         if !self.layers.has_session() {
             return Err(ChainRefusal::ReadOnly);
         }
         Ok(())
+    }
+
+    // Refuses a call whose range is none of the disk; a flush names none.
+    fn check_place(&self, call: CallRef<'_>) -> Result<(), ChainRefusal>
+        requires { 0 < self.now.layers.geometry.sector }
+        ensures { result ≡ range_of self.now.layers.geometry (call_of call.entry) }
+    {
+        let Geometry { sector, sectors } = self.layers.geometry;
+        match call {
+            CallRef::Read { first, count } => check_range(first, count, MOST_MOVED, sectors),
+            CallRef::Write { first, bytes } => {
+                let count = bytes.len() as u64 / u64::from(sector);
+                check_range(first, count, MOST_MOVED, sectors)
+            }
+            CallRef::Trim { first, count } => check_range(first, count, MOST_TRIMMED, sectors),
+            CallRef::Flush => Ok(()),
+        }
     }
 
     // Refuses a call whose range is none of the disk, and then one that asks for a session where there is none.
@@ -202,20 +221,8 @@ impl<S: Store, R: Recorder> Chain<S, R> {
         ensures session { OnOk result (is_read (call_of call.entry) ≡ false → is_some self.now.layers.leaf ≡ true) }
         ensures err { IfErr result (λ e. misplaced (call_of call.entry) self.now.layers ≡ Some e) }
     {
-        let Geometry { sector, sectors } = self.layers.geometry;
-        match call {
-            CallRef::Read { first, count } => check_range(first, count, MOST_MOVED, sectors),
-            CallRef::Write { first, bytes } => {
-                let count = bytes.len() as u64 / u64::from(sector);
-                check_range(first, count, MOST_MOVED, sectors)?;
-                self.permit()
-            }
-            CallRef::Trim { first, count } => {
-                check_range(first, count, MOST_TRIMMED, sectors)?;
-                self.permit()
-            }
-            CallRef::Flush => self.permit(),
-        }
+        self.check_place(call)?;
+        self.permit(only_reads(call))
     }
 
     // Notes a call, unless it is refused before it reaches the files.
@@ -630,6 +637,18 @@ impl<S: Store, R: Recorder> Chain<S, R> {
         } = self;
         let done = end_unbroken(layers, &mut store, broken);
         (store, recorder, done)
+    }
+}
+
+// Whether a call is a read.
+fn only_reads(call: CallRef<'_>) -> bool
+    ensures { result ≡ is_read (call_of call.entry) }
+{
+    match call {
+        CallRef::Read { .. } => true,
+        CallRef::Write { .. } => false,
+        CallRef::Trim { .. } => false,
+        CallRef::Flush => false,
     }
 }
 

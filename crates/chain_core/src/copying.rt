@@ -25,32 +25,14 @@ impl Layers {
         requires stripe { stripe < stripe_count self.old.geometry.sector self.old.geometry.sectors }
         ensures { TakesStripe stripe self.old self.new (S.disk store.old) (S.disk store.new) piece.new result }
     {
-        match &self.merge {
-            Some(_) => self.take_below(store, stripe, piece),
-            None => self.take_leaf(store, stripe, piece),
-        }
-    }
-
-    // The same of a merge below the leaf.
-    fn take_below<S: Store>(
-        &mut self,
-        store: &mut S,
-        stripe: u32,
-        piece: &mut Piece,
-    ) -> Result<(), StoreFault>
-        requires ready { AreReady self.old (S.disk store.old) }
-        requires merge { is_some self.old.merge ≡ true }
-        requires stripe { stripe < stripe_count self.old.geometry.sector self.old.geometry.sectors }
-        ensures { TakesStripe stripe self.old self.new (S.disk store.old) (S.disk store.new) piece.new result }
-    {
         let Some(merge) = &self.merge else {
-            return Ok(());
+            return self.take_leaf(store, stripe, piece);
         };
         let source = &mut self.below[merge.source];
         piece.take(store, source, self.geometry, stripe, 0)
     }
 
-    // And of the merge of the leaf.
+    // The same of the merge of the leaf.
     fn take_leaf<S: Store>(
         &mut self,
         store: &mut S,
@@ -84,24 +66,8 @@ impl Layers {
         requires stamp { piece.now.stamp ≡ stamp_of self.old piece.now.stripe }
         ensures { PutsInTarget piece.now self.old self.new (S.disk store.old) (S.disk store.new) result }
     {
-        match &self.merge {
-            Some(_) => self.put_below(store, piece),
-            None => self.put_behind(store, piece),
-        }
-    }
-
-    // The same of a merge below the leaf.
-    fn put_below<S: Store>(&mut self, store: &mut S, piece: &Piece) -> Result<(), LayerFault>
-        requires ready { AreReady self.old (S.disk store.old) }
-        requires low { IsLow (2 ^ 63 + 3) self.old }
-        requires merge { is_some self.old.merge ≡ true }
-        requires fits { FitsDisk self.old.geometry piece.now }
-        requires stripe { piece.now.stripe < stripe_count self.old.geometry.sector self.old.geometry.sectors }
-        requires stamp { piece.now.stamp ≡ stamp_of self.old piece.now.stripe }
-        ensures { PutsInTarget piece.now self.old self.new (S.disk store.old) (S.disk store.new) result }
-    {
         let Some(merge) = &self.merge else {
-            return Ok(());
+            return self.put_behind(store, piece);
         };
         let target = merge.source + 1;
         let below = self.below.as_mut_slice();
@@ -112,7 +78,7 @@ impl Layers {
         done
     }
 
-    // And of the merge of the leaf, whose target is the file behind it.
+    // The same of the merge of the leaf, whose target is the file behind it.
     fn put_behind<S: Store>(&mut self, store: &mut S, piece: &Piece) -> Result<(), LayerFault>
         requires ready { AreReady self.old (S.disk store.old) }
         requires low { IsLow (2 ^ 63 + 3) self.old }

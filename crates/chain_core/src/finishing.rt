@@ -55,7 +55,9 @@ impl Layers {
         }
     }
 
-    /// Finishes the merge, whose stripes are all copied. After a fault the files are to be written no more.
+    /// Finishes the merge, whose stripes are all copied. After a fault the files are to be written no more. Of a file below the leaf: the
+    /// target is committed, and then the file directly above the source, the child; the child gets the target for its parent, and the
+    /// source leaves the chain.
     pub(crate) fn finish<S: Store>(&mut self, store: &mut S) -> Result<(), StoreFault>
         requires ready { AreReady self.old (S.disk store.old) }
         requires low { IsLow (2 ^ 63 + 3) self.old }
@@ -63,23 +65,8 @@ impl Layers {
         requires copied { IsAllCopied self.old }
         ensures { Finishes self.old self.new (S.disk store.old) (S.disk store.new) result }
     {
-        match &self.merge {
-            Some(_) => self.drop_source(store),
-            None => self.retire_leaf(store),
-        }
-    }
-
-    // Finishes the merge of a file below the leaf: the target is committed, and then the file directly above the source, the child; the
-    // child gets the target for its parent, and the source leaves the chain.
-    fn drop_source<S: Store>(&mut self, store: &mut S) -> Result<(), StoreFault>
-        requires ready { AreReady self.old (S.disk store.old) }
-        requires low { IsLow (2 ^ 63 + 3) self.old }
-        requires merge { is_some self.old.merge ≡ true }
-        requires copied { IfSome self.old.merge (λ u. IsAllMarked u.marks) }
-        ensures { Finishes self.old self.new (S.disk store.old) (S.disk store.new) result }
-    {
         let Some(merge) = &self.merge else {
-            return Ok(());
+            return self.retire_leaf(store);
         };
         let source = merge.source;
         self.settle(store, source + 2)?;

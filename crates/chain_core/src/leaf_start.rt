@@ -55,7 +55,10 @@ fn high_of_two(files: &[LinkedFile]) -> Option<u64>
 }
 
 // The layers of the target and of the files below it.
-fn with_target(target: Layer, mut below: Vec<FileLayer>) -> Result<Vec<FileLayer>, NoRoom>
+pub(crate) fn with_target(
+    target: Layer,
+    mut below: Vec<FileLayer>,
+) -> Result<Vec<FileLayer>, NoRoom>
     ensures { IfOk result (λ all. all.items ≡ kind.Session target ∷ below.items) }
 {
     below.insert(0, FileLayer::Session(target))?;

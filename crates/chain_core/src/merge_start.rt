@@ -25,6 +25,7 @@ ghost use Rattle.chain_core.specs.Starting.{AreReadOf};
 ghost use Rattle.merge_plan.specs.Attached.{CanStart};
 
 use crate::layers::{Layers, Underway};
+use crate::leaf_start::with_target;
 use crate::starting::{LEAF_PAGES, MOST_NUMBER, OTHER_PAGES, layers_of};
 use layer_session::{FileLayer, Layer, ReadLayer};
 use link_rules::LinkedFile;
@@ -130,18 +131,45 @@ fn assemble(
     child: Option<Layer>,
     source: ReadLayer,
     target: Layer,
-    mut below: Vec<FileLayer>,
+    below: Vec<FileLayer>,
 ) -> Result<Vec<FileLayer>, NoRoom>
     ensures { IfOk result (λ all. all.items ≡ (above.items ++ session_of child) ++ kind.Read source ∷ kind.Session target ∷ below.items) }
 {
-    let mut all = above;
-    if let Some(child) = child {
-        all.push(FileLayer::Session(child))?;
-    }
-    all.push(FileLayer::Read(source))?;
-    all.push(FileLayer::Session(target))?;
-    all.append(&mut below)?;
-    Ok(all)
+    let above = with_child(above, child)?;
+    let lower = with_source(source, target, below)?;
+    joined(above, lower)
+}
+
+// The files above the child, and the child, if it isn't the leaf.
+fn with_child(mut above: Vec<FileLayer>, child: Option<Layer>) -> Result<Vec<FileLayer>, NoRoom>
+    ensures { IfOk result (λ all. all.items ≡ above.items ++ session_of child) }
+{
+    let Some(child) = child else {
+        return Ok(above);
+    };
+    above.push(FileLayer::Session(child))?;
+    Ok(above)
+}
+
+// The source, the target, and the files below them.
+fn with_source(
+    source: ReadLayer,
+    target: Layer,
+    below: Vec<FileLayer>,
+) -> Result<Vec<FileLayer>, NoRoom>
+    ensures { IfOk result (λ all. all.items ≡ kind.Read source ∷ kind.Session target ∷ below.items) }
+{
+    let mut lower = with_target(target, below)?;
+    lower.insert(0, FileLayer::Read(source))?;
+    Ok(lower)
+}
+
+// Files, and those below them.
+fn joined(mut above: Vec<FileLayer>, mut lower: Vec<FileLayer>) -> Result<Vec<FileLayer>, NoRoom>
+    ensures { IfOk result (λ all. all.items ≡ above.items ++ lower.items) }
+{
+    above.append(&mut lower)?;
+    Ok(above)
 }
 
 // What is taken of memory before anything is written: marks of the disk's stripes, and layers of the files that are only read.

@@ -1,6 +1,6 @@
 use Rattle.std.proofs.Common.{subst}
 use Rattle.layer_session.specs.declared.file_layer.FileLayer.TheVariants.{Session}
-use Rattle.chain_core.proofs.Places.{IsAt, at_place, ready_there}
+use Rattle.chain_core.proofs.Places.{IsAt, at_place, ready_there, never_read}
 use Rattle.chain_core.proofs.TargetPuts.{put_room}
 use Rattle.chain_core.proofs.copying.put_at.Goals as goal
 
@@ -36,3 +36,6 @@ returns-in-Session g c =
         room = put_room c.args.piece.now c.in-Session.target (g.S.Store.disk c.args.store.now) c.put_piece.result c.put_piece.ensures.full c.put_piece.ensures.room;
       };
     }
+
+pub returns-in-Read : goal.returns-in-Read
+returns-in-Read g c = absurd (never_read c.args.layers.now c.args.at _ (subst (IsAt c.args.layers.now c.args.at) c.in-Read.is (at_place c.args.layers.now c.args.at c.index-layers-at.result c.requires.there)) c.requires.session)

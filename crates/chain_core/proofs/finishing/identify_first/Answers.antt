@@ -1,7 +1,7 @@
 use Rattle.std.proofs.Common.{ap, subst}
 use Rattle.layer_session.specs.declared.file_layer.FileLayer.TheVariants.{Session}
 use Rattle.table_pages.specs.declared.tables.Tables.{Tables}
-use Rattle.chain_core.proofs.Places.{IsAt, at_place}
+use Rattle.chain_core.proofs.Places.{IsAt, at_place, never_read}
 use Rattle.chain_core.proofs.finishing.identify_first.Goals as goal
 
 pub returns-in-Session : goal.returns-in-Session
@@ -21,3 +21,6 @@ returns-in-Session g c =
         err = c.identify.ensures.err;
       };
     }
+
+pub returns-in-Read : goal.returns-in-Read
+returns-in-Read g c = absurd (never_read c.args.layers.now 0 _ (subst (IsAt c.args.layers.now 0) c.in-Read.is (at_place c.args.layers.now 0 c.index-layers-0.result c.requires.there)) c.requires.session)

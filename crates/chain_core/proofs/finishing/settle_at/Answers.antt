@@ -1,6 +1,6 @@
 use Rattle.std.proofs.Common.{subst}
 use Rattle.layer_session.specs.declared.file_layer.FileLayer.TheVariants.{Session}
-use Rattle.chain_core.proofs.Places.{IsAt, at_place}
+use Rattle.chain_core.proofs.Places.{IsAt, at_place, never_read}
 use Rattle.chain_core.proofs.finishing.settle_at.Goals as goal
 
 pub returns-in-Session : goal.returns-in-Session
@@ -22,3 +22,6 @@ returns-in-Session g c =
         err = c.commit.ensures.err;
       };
     }
+
+pub returns-in-Read : goal.returns-in-Read
+returns-in-Read g c = absurd (never_read c.args.layers.now c.args.at _ (subst (IsAt c.args.layers.now c.args.at) c.in-Read.is (at_place c.args.layers.now c.args.at c.index-layers-at.result c.requires.there)) c.requires.session)

@@ -4,7 +4,7 @@ use Rattle.store_model.specs.Disk.{WhereTold}
 use Rattle.layer_session.specs.FileLayers.{FileTurns}
 use Rattle.layer_session.specs.declared.file_layer.FileLayer.TheVariants.{Session}
 use Rattle.chain_core.proofs.Exchanged.{layer_at, turns_of}
-use Rattle.chain_core.proofs.Places.{IsAt, at_place}
+use Rattle.chain_core.proofs.Places.{IsAt, at_place, never_read}
 use Rattle.chain_core.proofs.finishing.update_at.Goals as goal
 
 pub update-requires-clause-turns : goal.update-requires-clause-turns
@@ -32,3 +32,6 @@ returns-in-Session g c =
         err = c.update.ensures.err;
       };
     }
+
+pub returns-in-Read : goal.returns-in-Read
+returns-in-Read g c = absurd (never_read c.args.layers.now c.args.at _ (subst (IsAt c.args.layers.now c.args.at) c.in-Read.is (at_place c.args.layers.now c.args.at c.index-layers-at.result c.requires.there)) c.requires.session)

@@ -4,7 +4,7 @@ use Rattle.std.proofs.Common.{ap, ◌∙◌}
 use Rattle.table_pages.specs.declared.tables.TableParts.{TableParts}
 use Rattle.chain_core.specs.MergeStarting.{BeginsMerge, files_in}
 use Rattle.chain_core.proofs.MergeAsked.{child_numbers, target_numbers}
-use Rattle.chain_core.proofs.MergeBegun.{begins_merge, behind_child, behind_target, behind_upper, child_ready, child_stops, close_stops, made_of_child, no_layers, source_still, target_ready, target_stops}
+use Rattle.chain_core.proofs.MergeBegun.{begins_merge, behind_child, behind_target, behind_upper, child_ready, child_stops, child_within, close_stops, made_of_child, no_layers, source_still, target_ready, target_stops, target_within}
 use Rattle.vx_base.proofs.Handed.{handed, not_if_ok}
 use Rattle.chain_core.proofs.merge_start.begin_all.Goals as goal
 
@@ -23,6 +23,17 @@ begin-requires-clause-numbers g c =
     let m = files_in c.args.of in
     let d = g.S.Store.disk c.args.store.now in
     target_numbers m c.args.merge.now d c.requires.files c.requires.plan
+
+pub begin-requires-clause-there : goal.begin-requires-clause-there
+begin-requires-clause-there g c =
+    let m = files_in c.args.of in
+    let d = g.S.Store.disk c.args.store.now in
+    let e = g.S.Store.disk c.begin_upper.new.store in
+    let upper = c.in_ok-upper.upper in
+    let leaf = upper.leaf in
+    let twice = upper.source in
+    let r3 = behind_upper m c.args.merge.now d c.requires.files c.requires.plan leaf twice e c.in_ok-upper.ensures.begun in
+    target_within m c.args.merge.now d c.requires.files c.requires.plan leaf twice e r3 c.data_session-target_ids.result c.data_session-target_ids.ensures
 
 pub begin-requires-clause-ready : goal.begin-requires-clause-ready
 begin-requires-clause-ready g c =
@@ -56,6 +67,20 @@ begin_child-requires-clause-numbers g c =
     let m = files_in c.args.of in
     let d = g.S.Store.disk c.args.store.now in
     child_numbers m c.args.merge.now d c.requires.files c.requires.plan
+
+pub begin_child-requires-clause-there : goal.begin_child-requires-clause-there
+begin_child-requires-clause-there g c =
+    let m = files_in c.args.of in
+    let d = g.S.Store.disk c.args.store.now in
+    let e = g.S.Store.disk c.begin_upper.new.store in
+    let upper = c.in_ok-upper.upper in
+    let leaf = upper.leaf in
+    let twice = upper.source in
+    let r3 = behind_upper m c.args.merge.now d c.requires.files c.requires.plan leaf twice e c.in_ok-upper.ensures.begun in
+    let f = g.S.Store.disk c.begin.new.store in
+    let target = c.in_ok-target.target in
+    let r4 = behind_target m c.args.merge.now d c.requires.files c.requires.plan leaf twice e r3 c.data_session-target_ids.result c.data_session-target_ids.ensures f c.begin.ensures.moments target c.in_ok-target.ensures.served c.in_ok-target.ensures.counts in
+    child_within m c.args.merge.now d c.requires.files c.requires.plan c.requires.child leaf twice target f r4
 
 pub begin_child-requires-clause-ready : goal.begin_child-requires-clause-ready
 begin_child-requires-clause-ready g c =
@@ -158,3 +183,9 @@ returns g c =
       };
       err = tt;
     }
+
+pub begin-requires-clause-low : goal.begin-requires-clause-low
+begin-requires-clause-low g c = c.requires.low.target
+
+pub begin_child-requires-clause-low : goal.begin_child-requires-clause-low
+begin_child-requires-clause-low g c = c.requires.low.child

@@ -2,8 +2,12 @@ use Rattle.std.specs.Prelude.{Err, IfErr}
 use Rattle.store_model.specs.declared.fault.SealFault.{SealFault}
 use Rattle.chain_core.specs.MergeStarting.{BeginsMerge, files_in}
 use Rattle.chain_core.proofs.MergeAsked.{source_numbers}
-use Rattle.chain_core.proofs.MergeBegun.{begun_upper, behind_source, behind_top, leaf_numbered, leaf_ready, locator_stops, source_ready, source_stops, top_stops, twice_turns}
+use Rattle.chain_core.proofs.MergeBegun.{begun_upper, behind_source, behind_top, leaf_numbered, leaf_ready, locator_stops, source_ready, source_stops, source_within, top_stops, twice_turns, many_files}
 use Rattle.vx_base.proofs.Handed.{handed, not_if_ok}
+use Rattle.chain_core.proofs.Numbers.{few_pages, first_low, some_files}
+use Rattle.std.proofs.Common.{◌≤◌, ◌-◌, ◌^◌, ap, length, subst, sym}
+use Rattle.link_rules.specs.declared.linked.LinkedFile.{LinkedFile}
+use Rattle.log_format.specs.PendingPages.{HasOnePageEach}
 use Rattle.chain_core.proofs.merge_start.begin_upper.Goals as goal
 
 pub begin-requires-clause-numbers : goal.begin-requires-clause-numbers
@@ -34,6 +38,15 @@ begin-requires-2-clause-numbers g c =
     let m = files_in c.args.of in
     let d = g.S.Store.disk c.args.store.now in
     source_numbers m c.args.merge.now d c.requires.files c.requires.plan
+
+pub begin-requires-2-clause-there : goal.begin-requires-2-clause-there
+begin-requires-2-clause-there g c =
+    let m = files_in c.args.of in
+    let d = g.S.Store.disk c.args.store.now in
+    let a = g.S.Store.disk c.begin.new.store in
+    let leaf = c.in_ok-leaf.leaf in
+    let r1 = behind_top m c.args.merge.now d c.requires.files c.requires.plan c.leaf_of-top.result.now c.data_session-leaf_ids.result c.leaf_of-top.ensures c.data_session-leaf_ids.ensures a c.begin.ensures.moments leaf c.in_ok-leaf.ensures.served c.in_ok-leaf.ensures.counts in
+    source_within m c.args.merge.now d c.requires.files c.requires.plan leaf a r1 c.log_session-source_ids.result c.log_session-source_ids.ensures
 
 pub begin-requires-2-clause-ready : goal.begin-requires-2-clause-ready
 begin-requires-2-clause-ready g c =
@@ -99,3 +112,30 @@ returns g c =
           c.in_ok-link_twice.ensures.ready c.link_twice.ensures.parts c.link_twice.ensures.number c.in_ok-link_twice.ensures.counts;
       err = tt;
     }
+
+pub begin-requires-clause-there : goal.begin-requires-clause-there
+begin-requires-clause-there g c =
+    let m = files_in c.args.of in
+    let d = g.S.Store.disk c.args.store.now in
+    some_files (length m.above) (length m.below) d.files (many_files m c.args.merge.now d c.requires.files c.requires.plan)
+
+pub begin-requires-clause-low : goal.begin-requires-clause-low
+begin-requires-clause-low g c = subst (λ (f : LinkedFile). f.parts.header.number ≤ 2 ^ 64 - 2 ^ 32) (sym c.leaf_of-top.ensures) c.requires.low.leaf
+
+pub begin-requires-2-clause-low : goal.begin-requires-2-clause-low
+begin-requires-2-clause-low g c = c.requires.low.source
+
+pub link_twice-requires-clause-ready : goal.link_twice-requires-clause-ready
+link_twice-requires-clause-ready g c = c.in_ok-source.ensures.ready
+
+pub link_twice-requires-clause-empty : goal.link_twice-requires-clause-empty
+link_twice-requires-clause-empty g c = c.in_ok-source.ensures.empty
+
+pub link_twice-requires-clause-numbers : goal.link_twice-requires-clause-numbers
+link_twice-requires-clause-numbers g c = first_low c.in_ok-source.source.log.number c.in_ok-source.ensures.parts.first
+
+pub link_twice-requires-clause-few : goal.link_twice-requires-clause-few
+link_twice-requires-clause-few g c = few_pages (length c.args.merge.now.twice) (length c.as_slice.result.now) c.requires.plan.twice.has.few (ap length c.as_slice.ensures.pages)
+
+pub link_twice-requires-clause-apart : goal.link_twice-requires-clause-apart
+link_twice-requires-clause-apart g c = subst HasOnePageEach (sym c.as_slice.ensures.pages) c.as_slice.ensures.apart

@@ -1,4 +1,4 @@
-use Rattle.std.proofs.Common.{◌≡◌, sym, ap, ◌∙◌, subst, ◌<◌, ◌++◌, ◌∷◌, [], is_some, arith}
+use Rattle.std.proofs.Common.{◌≡◌, sym, ap, ◌∙◌, subst, ◌<◌, ◌++◌, ◌∷◌, [], is_some}
 use Rattle.std.specs.Prelude.{None, option_map}
 use Rattle.guest_model.specs.Calls.{call_of, entry_of}
 use Rattle.guest_model.specs.Counts.{one_more}
@@ -9,6 +9,7 @@ use Rattle.chain_core.specs.declared.layers.Layers.{Layers}
 use Rattle.chain_core.proofs.Accepted.{err_is, fit_asks_none, on_err_any, one_noted, place_asks_none}
 use Rattle.vx_base.proofs.Handed.{not_ok}
 use Rattle.chain_core.proofs.Stopped.{never_first, never_second, not_stopped, stopped_first, stopped_second}
+use Rattle.chain_core.proofs.Numbers.{some_512}
 use Rattle.chain_core.proofs.chain.Chain.accept.Goals as goal
 use Rattle.layer_session.proofs.Equal.{false_true, ok_err}
 
@@ -44,7 +45,7 @@ returns-in_err-admit g c =
 pub check-requires : goal.check-requires
 check-requires g c =
     let sector = ap (λ k. k.layers.geometry.sector) c.admit.ensures.only ∙ c.requires.sector in
-    subst (λ n. 0 < n) (sym sector) (omega arith)
+    subst (λ n. 0 < n) (sym sector) some_512
 
 pub returns-in_err-check : goal.returns-in_err-check
 returns-in_err-check g c =

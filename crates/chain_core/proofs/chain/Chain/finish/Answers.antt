@@ -7,7 +7,7 @@ use Rattle.chain_core.specs.Refusing.{unfit}
 use Rattle.chain_core.specs.Finished.{Finishes}
 use Rattle.chain_core.specs.declared.layers.Layers.{Layers}
 use Rattle.chain_core.specs.Finished.{FinishTold}
-use Rattle.chain_core.specs.Sessions.{IsCounted, IsSound, Session, has_merge, kept_marks, seen}
+use Rattle.chain_core.specs.Sessions.{IsCounted, IsSound, Session, has_merge, kept_marks, seen, AreReady}
 use Rattle.chain_core.proofs.Copied.{finish_rested, finish_told, judged_has, merging_low, room_counted, sound_counted, sound_finished, sound_refused}
 use Rattle.chain_core.proofs.Called.{still_whole}
 use Rattle.chain_core.proofs.Stopped.{finish_caused, judged_copied, never_first, not_stopped, stopped_first}
@@ -101,3 +101,12 @@ returns g c =
           (finish_told before mid after c.finish.result (ap (λ k. k.layers) c.admit.ensures.only) (ap (λ k. g.S.Store.disk k.store) c.admit.ensures.only) c.finish.ensures))
           );
     }
+
+pub finish-requires-clause-ready : goal.finish-requires-clause-ready
+finish-requires-clause-ready g c = subst (λ k. AreReady k.layers (g.S.Store.disk k.store)) (sym c.admit.ensures.only) (c.requires.sound.ready c.in_ok-admit.ensures.whole)
+
+pub finish-requires-clause-merge : goal.finish-requires-clause-merge
+finish-requires-clause-merge g c = judged_has c.admit.new.self.layers.merge c.admit.new.self.layers.retiring (Ok tt) c.in_ok-judge_marks.ensures
+
+pub finish-requires-clause-copied : goal.finish-requires-clause-copied
+finish-requires-clause-copied g c = judged_copied (kept_marks c.admit.new.self.layers) c.in_ok-judge_marks.ensures

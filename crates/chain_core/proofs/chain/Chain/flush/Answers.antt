@@ -91,3 +91,12 @@ returns g c =
       told = answered c.args.who call (before.noted + 1) place before.layers mid.layers new after.layers before.disk disk1 disk2 after.disk done r layers_is disk_is layers_then disk_then e.answer
           (p.told (before.noted + 1));
     }
+
+pub accept-requires : goal.accept-requires
+accept-requires g c = c.requires.sound
+
+pub commit-done-requires-clause-session : goal.commit-done-requires-clause-session
+commit-done-requires-clause-session g c = ap (λ k. is_some k.layers.leaf) c.in_ok-accept.ensures.only ∙ c.in_ok-accept.ensures.session refl
+
+pub commit-done-requires-clause-ready : goal.commit-done-requires-clause-ready
+commit-done-requires-clause-ready g c = subst (λ k. AreReady k.layers (g.S.Store.disk k.store)) (sym c.in_ok-accept.ensures.only) (c.requires.sound.ready c.in_ok-accept.ensures.whole)

@@ -1,4 +1,4 @@
-use Rattle.std.proofs.Common.{ap, arith, is_some, sym, subst, ℕ, ◌+◌, ◌≡◌, ◌∙◌}
+use Rattle.std.proofs.Common.{ap, is_some, sym, subst, ℕ, ◌+◌, ◌≡◌, ◌∙◌}
 use Rattle.chain_core.specs.Answering.{UnlessBroken}
 use Rattle.chain_core.specs.Sessions.{AreReady, IsLow, IsSound, Session, has_merge, leaf_number, seen}
 use Rattle.chain_core.specs.declared.layers.Layers.{Layers}
@@ -7,6 +7,7 @@ use Rattle.chain_core.specs.Refusing.{unfit}
 use Rattle.chain_core.proofs.Copied.{always, marked_slack, merging_low, piece_merge, piece_told, put_stopped, room_counted, room_told, sound_behind, sound_counted, sound_refused}
 use Rattle.chain_core.proofs.Called.{still_whole}
 use Rattle.chain_core.proofs.Stopped.{never_first, never_second, not_stopped, put_caused, stopped_first, stopped_second}
+use Rattle.chain_core.proofs.Numbers.{same_up}
 use Rattle.chain_core.proofs.chain.Chain.put.Goals as goal
 
 pub put_piece-done-requires-clause-low : goal.put_piece-done-requires-clause-low
@@ -94,7 +95,7 @@ returns g c =
     let done = c.put_piece-done.result in
     let piece = c.args.piece.now in
     record {
-      sound = sound_behind before after done c.requires.sound f.whole events (room_counted before.events after.events before.broken f.ok events) (omega (arith, noted))
+      sound = sound_behind before after done c.requires.sound f.whole events (room_counted before.events after.events before.broken f.ok events) (same_up after.noted before.noted noted)
           (ap (λ (l : Layers). l.geometry) layers_then ∙ p.geometry ∙ ap (λ (l : Layers). l.geometry) layers_is) (ap has_merge layers_then ∙ marked_slack piece.stripe mid.layers new done p.marked ∙ ap has_merge layers_is)
           (subst (λ (k : Session). UnlessBroken done (AreReady k.layers k.disk)) (sym (ap (λ k. seen g.S.Store.disk g.R.Recorder.noted g.R.Recorder.told k) e.only)) p.ready)
           (subst (λ (l : Layers). UnlessBroken done ((most : ℕ) → IsLow most l → IsLow (most + 1) after.layers)) layers_is
@@ -115,3 +116,9 @@ returns g c =
           (ap (λ k. k.layers) c.admit.ensures.only) (ap (λ k. g.S.Store.disk k.store) c.admit.ensures.only) c.args.piece.now c.put_piece-done.result c.put_piece-done.ensures.told))
           );
     }
+
+pub put_piece-done-requires-clause-ready : goal.put_piece-done-requires-clause-ready
+put_piece-done-requires-clause-ready g c = subst (λ k. AreReady k.layers (g.S.Store.disk k.store)) (sym c.admit.ensures.only) (c.requires.sound.ready c.in_ok-admit.ensures.whole)
+
+pub put_piece-done-requires-clause-merge : goal.put_piece-done-requires-clause-merge
+put_piece-done-requires-clause-merge g c = piece_merge c.args.piece.now c.admit.new.self.layers c.in_ok-judge_piece.ensures.ok

@@ -1,4 +1,4 @@
-use Rattle.std.proofs.Common.{ap, is_some, refl, rules, subst, ℕ, ◌+◌, ◌∙◌, ◌≡◌}
+use Rattle.std.proofs.Common.{ap, is_some, refl, rules, subst, ℕ, ◌+◌, ◌∙◌, ◌≡◌, sym, ◌≤◌}
 use Rattle.std.specs.Prelude.{IfNone, Result}
 use Rattle.std.proofs.lemmas.List.{places, with_items_is}
 use Rattle.std.specs.Vec.{with_items}
@@ -7,7 +7,7 @@ use Rattle.guest_model.specs.declared.call.Call.TheVariants as calls
 use Rattle.layer_session.specs.declared.file.LayerFault.{LayerFault}
 use Rattle.chain_core.specs.declared.layers.Layers.{Layers}
 use Rattle.chain_core.specs.Answering.{answer_of, as_read, breaks}
-use Rattle.chain_core.specs.Sessions.{IsCounted, Session, leaf_number, seen}
+use Rattle.chain_core.specs.Sessions.{IsCounted, Session, leaf_number, seen, AreReady}
 use Rattle.chain_core.specs.States.{entry}
 use Rattle.chain_core.proofs.Called.{declined, not_refused, out_of_memory, read_caused, read_followed, read_session, read_whole}
 use Rattle.vx_base.proofs.Handed.{not_ok, ok_then}
@@ -15,6 +15,7 @@ use Rattle.chain_core.proofs.Concluding.{answered}
 use Rattle.chain_core.proofs.Copied.{noted_most, room_accepted}
 use Rattle.chain_core.proofs.Looking.{found_before, looked}
 use Rattle.chain_core.proofs.Noting.{back, count_back, notes_so, refused_first, sound_looked}
+use Rattle.chain_core.proofs.Accepted.{range_within}
 use Rattle.chain_core.proofs.chain.Chain.read_count.Goals as goal
 
 pub returns-in_err-accept : goal.returns-in_err-accept
@@ -106,3 +107,18 @@ returns g c =
       told = answered c.args.who call (before.noted + 1) place before.layers mid.layers new after.layers before.disk disk1 disk2 after.disk (as_read found) r layers_is disk_is layers_then disk_then answer
           (looked c.args.first count mid.layers new disk1 disk2 found p.reads (before.noted + 1));
     }
+
+pub accept-requires : goal.accept-requires
+accept-requires g c = c.requires.sound
+
+pub find-requires-clause-ready : goal.find-requires-clause-ready
+find-requires-clause-ready g c = subst (λ k. AreReady k.layers (g.S.Store.disk k.store)) (sym c.in_ok-accept.ensures.only) (c.requires.sound.ready c.in_ok-accept.ensures.whole)
+
+pub find-requires-clause-on_disk : goal.find-requires-clause-on_disk
+find-requires-clause-on_disk g c =
+    let old : Layers = c.args.self.now.layers in
+    subst (λ (l : Layers). c.args.first + c.args.count ≤ l.geometry.sectors) (sym (ap (λ k. k.layers) c.in_ok-accept.ensures.only))
+    (range_within c.args.first c.args.count 2048 old.geometry.sectors c.in_ok-accept.ensures.range).0
+
+pub find-requires-clause-few : goal.find-requires-clause-few
+find-requires-clause-few g c = (range_within c.args.first c.args.count 2048 c.args.self.now.layers.geometry.sectors c.in_ok-accept.ensures.range).1

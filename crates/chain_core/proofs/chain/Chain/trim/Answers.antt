@@ -1,4 +1,4 @@
-use Rattle.std.proofs.Common.{ap, is_some, not, refl, subst, sym, ℕ, ◌+◌, ◌^◌, ◌∙◌, ◌≡◌}
+use Rattle.std.proofs.Common.{ap, is_some, not, refl, subst, sym, ℕ, ◌+◌, ◌^◌, ◌∙◌, ◌≡◌, ◌≤◌}
 use Rattle.vx_base.proofs.Handed.{ok_then}
 use Rattle.guest_model.specs.declared.call.Call.{Call}
 use Rattle.guest_model.specs.declared.call.Call.TheVariants as calls
@@ -12,6 +12,7 @@ use Rattle.chain_core.proofs.Called.{caused, declined, followed, never_no_room, 
 use Rattle.chain_core.proofs.Concluding.{answered, room_told}
 use Rattle.chain_core.proofs.Copied.{always, follows_has, noted_most, room_accepted, sound_behind, sound_low}
 use Rattle.chain_core.proofs.Noting.{notes_so, refused_first}
+use Rattle.chain_core.proofs.Accepted.{range_within}
 use Rattle.chain_core.proofs.chain.Chain.trim.Goals as goal
 
 pub returns-in_err-accept : goal.returns-in_err-accept
@@ -88,3 +89,21 @@ returns g c =
       told = answered c.args.who call (before.noted + 1) place before.layers mid.layers new after.layers before.disk disk1 disk2 after.disk done r layers_is disk_is layers_then disk_then e.answer
           (subst (λ (n : ℕ). LayerTold n call mid.layers new disk1 disk2 done) (c.len.ensures ∙ a.noted) p.told);
     }
+
+pub accept-requires : goal.accept-requires
+accept-requires g c = c.requires.sound
+
+pub zero-done-requires-clause-session : goal.zero-done-requires-clause-session
+zero-done-requires-clause-session g c = ap (λ k. is_some k.layers.leaf) c.in_ok-accept.ensures.only ∙ c.in_ok-accept.ensures.session refl
+
+pub zero-done-requires-clause-ready : goal.zero-done-requires-clause-ready
+zero-done-requires-clause-ready g c = subst (λ k. AreReady k.layers (g.S.Store.disk k.store)) (sym c.in_ok-accept.ensures.only) (c.requires.sound.ready c.in_ok-accept.ensures.whole)
+
+pub zero-done-requires-clause-on_disk : goal.zero-done-requires-clause-on_disk
+zero-done-requires-clause-on_disk g c =
+    let old : Layers = c.args.self.now.layers in
+    subst (λ (l : Layers). c.args.first + c.args.count ≤ l.geometry.sectors) (sym (ap (λ k. k.layers) c.in_ok-accept.ensures.only))
+    (range_within c.args.first c.args.count 524288 old.geometry.sectors c.in_ok-accept.ensures.range).0
+
+pub zero-done-requires-clause-few : goal.zero-done-requires-clause-few
+zero-done-requires-clause-few g c = (range_within c.args.first c.args.count 524288 c.args.self.now.layers.geometry.sectors c.in_ok-accept.ensures.range).1

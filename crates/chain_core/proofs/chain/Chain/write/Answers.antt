@@ -1,4 +1,4 @@
-use Rattle.std.proofs.Common.{ap, false, is_some, length, refl, subst, sym, ℕ, ◌+◌, ◌/◌, ◌^◌, ◌∙◌, ◌≡◌}
+use Rattle.std.proofs.Common.{ap, false, is_some, length, refl, subst, sym, ℕ, ◌+◌, ◌/◌, ◌^◌, ◌∙◌, ◌≡◌, ◌%◌, ◌≤◌}
 use Rattle.vx_base.proofs.Handed.{ok_then}
 use Rattle.guest_model.specs.declared.call.Call.{Call}
 use Rattle.guest_model.specs.declared.call.Call.TheVariants as calls
@@ -11,6 +11,7 @@ use Rattle.chain_core.proofs.Called.{caused, declined, followed, never_no_room, 
 use Rattle.chain_core.proofs.Concluding.{answered, room_told}
 use Rattle.chain_core.proofs.Copied.{always, follows_has, noted_most, room_accepted, sound_behind, sound_low}
 use Rattle.chain_core.proofs.Noting.{notes_so, refused_first}
+use Rattle.chain_core.proofs.Accepted.{range_within}
 use Rattle.chain_core.proofs.chain.Chain.write.Goals as goal
 
 pub returns-in_err-accept : goal.returns-in_err-accept
@@ -87,3 +88,27 @@ returns g c =
       told = answered c.args.who call (before.noted + 1) place before.layers mid.layers new after.layers before.disk disk1 disk2 after.disk done r layers_is disk_is layers_then disk_then e.answer
           (subst (λ (n : ℕ). LayerTold n call mid.layers new disk1 disk2 done) (c.len.ensures ∙ a.noted) p.told);
     }
+
+pub accept-requires : goal.accept-requires
+accept-requires g c = c.requires.sound
+
+pub put-done-requires-clause-session : goal.put-done-requires-clause-session
+put-done-requires-clause-session g c = ap (λ k. is_some k.layers.leaf) c.in_ok-accept.ensures.only ∙ c.in_ok-accept.ensures.session refl
+
+pub put-done-requires-clause-ready : goal.put-done-requires-clause-ready
+put-done-requires-clause-ready g c = subst (λ k. AreReady k.layers (g.S.Store.disk k.store)) (sym c.in_ok-accept.ensures.only) (c.requires.sound.ready c.in_ok-accept.ensures.whole)
+
+pub put-done-requires-clause-whole : goal.put-done-requires-clause-whole
+put-done-requires-clause-whole g c = ap (λ k. length c.args.bytes.now % k.layers.geometry.sector) c.in_ok-accept.ensures.only ∙ c.requires.whole
+
+pub put-done-requires-clause-on_disk : goal.put-done-requires-clause-on_disk
+put-done-requires-clause-on_disk g c =
+    let old : Layers = c.args.self.now.layers in
+    subst (λ (l : Layers). c.args.first + length c.args.bytes.now / l.geometry.sector ≤ l.geometry.sectors) (sym (ap (λ k. k.layers) c.in_ok-accept.ensures.only))
+    (range_within c.args.first (length c.args.bytes.now / old.geometry.sector) 2048 old.geometry.sectors c.in_ok-accept.ensures.range).0
+
+pub put-done-requires-clause-few : goal.put-done-requires-clause-few
+put-done-requires-clause-few g c =
+    let old : Layers = c.args.self.now.layers in
+    subst (λ (l : Layers). length c.args.bytes.now / l.geometry.sector ≤ 2048) (sym (ap (λ k. k.layers) c.in_ok-accept.ensures.only))
+    (range_within c.args.first (length c.args.bytes.now / old.geometry.sector) 2048 old.geometry.sectors c.in_ok-accept.ensures.range).1

@@ -1,4 +1,4 @@
-use Rattle.std.proofs.Common.{suc, arith, refl, subst}
+use Rattle.std.proofs.Common.{suc, length, refl, subst}
 use Rattle.std.specs.Prelude.{None, Some}
 use Rattle.log_write.specs.declared.ids.SessionIds.{SessionIds}
 use Rattle.layer_session.specs.Begins.{in_session}
@@ -6,6 +6,7 @@ use Rattle.chain_core.specs.declared.layers.Layers.{Layers}
 use Rattle.chain_core.specs.Starting.{StartsWith}
 use Rattle.std.specs.Prelude.{◌∷◌}
 use Rattle.chain_core.proofs.Beginning.{begun_moments, begun_ready, begun_serving, none_changed, none_logged, others_stay, rest_moments}
+use Rattle.chain_core.proofs.Numbers.{next_within, one_low, zero_suc}
 use Rattle.chain_core.proofs.layers.Layers.begin.Goals as goal
 
 pub returns-in_err-below-clause-moments : goal.returns-in_err-below-clause-moments
@@ -44,10 +45,10 @@ returns-clause-ready g c =
     c.begin.ensures.moments c.in_ok-session.ensures.ready c.in_ok-session.ensures.parts c.in_ok-session.ensures.counts
 
 pub layers_of-requires-clause-served : goal.layers_of-requires-clause-served
-layers_of-requires-clause-served g c = λ k d below. c.requires.files.served (suc k) d (omega arith)
+layers_of-requires-clause-served g c = λ k d below. c.requires.files.served (suc k) d (next_within k (length c.args.others.now) below)
 
 pub begin-requires-clause-numbers : goal.begin-requires-clause-numbers
-begin-requires-clause-numbers g c = (c.requires.files.served 0 c.args.leaf.now (omega arith)).numbers
+begin-requires-clause-numbers g c = (c.requires.files.served 0 c.args.leaf.now (zero_suc (length c.args.others.now))).numbers
 
 pub returns-clause-low : goal.returns-clause-low
-returns-clause-low g c = (omega (arith, c.in_ok-session.ensures.parts.first), none_logged 1 1 c.args.others.now c.in_ok-below.below.items c.in_ok-below.ensures)
+returns-clause-low g c = (one_low c.in_ok-session.session.log.number c.in_ok-session.ensures.parts.first, none_logged 1 1 c.args.others.now c.in_ok-below.below.items c.in_ok-below.ensures)

@@ -15,6 +15,7 @@ use Rattle.chain_core.proofs.Noting.{change_counts, change_fails, low_stepped}
 use Rattle.chain_core.proofs.Standing.{leaf_of, ready_committed}
 use Rattle.chain_core.proofs.Steps.{LeafStep}
 use Rattle.chain_core.proofs.Turning.{alike_same}
+use Rattle.layer_session.proofs.Equal.{false_true}
 use Rattle.chain_core.proofs.layers.Layers.commit.Goals as goal
 
 pub returns-in-Some : goal.returns-in-Some
@@ -47,4 +48,4 @@ returns-in-Some g c =
     }
 
 pub returns-in-None : goal.returns-in-None
-returns-in-None g c = absurd (let never : ◌≡◌ {A = Bool} false true = sym (ap is_some c.in-None.is) ∙ c.requires.session in cc)
+returns-in-None g c = absurd (let never : ◌≡◌ {A = Bool} false true = sym (ap is_some c.in-None.is) ∙ c.requires.session in false_true never)

@@ -1,4 +1,4 @@
-use Rattle.std.proofs.Common.{◌≡◌, ◌+◌, ◌*◌, ◌≤◌, ap, arith, length, subst, sym, ◌∙◌}
+use Rattle.std.proofs.Common.{◌≡◌, ◌+◌, ◌*◌, ◌≤◌, ap, length, subst, sym, ◌∙◌}
 use Rattle.std.specs.Prelude.{IfErr}
 use Rattle.layer_session.specs.ReadOnly.{SomeReadFailed}
 use Rattle.store_model.specs.Disk.{Disk}
@@ -6,6 +6,7 @@ use Rattle.vx_base.specs.declared.parts.Geometry.{Geometry}
 use Rattle.chain_core.proofs.Finding.{finds}
 use Rattle.vx_base.proofs.Handed.{failed_for, not_ok, ok_then}
 use Rattle.chain_core.proofs.Onward.{reads_on}
+use Rattle.chain_core.proofs.Numbers.{mask_holds}
 use Rattle.chain_core.proofs.layers.Layers.find.Goals as goal
 
 pub own_leaf-requires-clause-ready : goal.own_leaf-requires-clause-ready
@@ -42,7 +43,7 @@ pub own_below-requires-clause-out : goal.own_below-requires-clause-out
 own_below-requires-clause-out g c = c.own_leaf.auto.out ∙ c.requires.out ∙ ap (λ (x : Geometry). x.sector * c.args.count) (sym c.in_ok-own_leaf.ensures.reads.geometry)
 
 pub own_below-requires-clause-mask : goal.own_below-requires-clause-mask
-own_below-requires-clause-mask g c = let few = c.requires.few in let len : length c.own_leaf.new.mask ≡ 256 = c.own_leaf.auto.mask in omega (arith, few, len)
+own_below-requires-clause-mask g c = mask_holds c.args.count (length c.own_leaf.new.mask) c.requires.few c.own_leaf.auto.mask
 
 pub returns-clause-reads : goal.returns-clause-reads
 returns-clause-reads g c =

@@ -1,17 +1,18 @@
-use Rattle.std.proofs.Common.{refl, rules, subst, sym}
+use Rattle.std.proofs.Common.{refl, subst, sym, ap, length, ◌∙◌}
 use Rattle.layer_session.specs.FileLayers.{AreReadableFiles}
 use Rattle.layer_session.proofs.FileLayers.{others_stand}
-use Rattle.std.proofs.lemmas.List.{places, with_items_is}
+use Rattle.std.proofs.lemmas.List.{with_items_is}
 use Rattle.std.specs.Vec.{with_items}
 use Rattle.chain_core.specs.declared.layers.Layers.{Layers}
 use Rattle.chain_core.proofs.Finding.{below_adds, below_reads}
+use Rattle.chain_core.proofs.Numbers.{length_items}
 use Rattle.chain_core.proofs.layers.Layers.own_below.Goals as goal
 
 pub returns-clause-reads : goal.returns-clause-reads
 returns-clause-reads g c =
     let new : Layers = record c.args.self.now { below = with_items c.args.self.now.below c.own_files.new.layers } in
     below_reads c.args.self.now new c.as_mut_slice-below.result.now c.own_files.new.layers (g.S.Store.disk c.args.store.now) (g.S.Store.disk c.own_files.new.store) c.own_files.result
-    c.as_mut_slice-below.ensures.value refl refl refl refl (with_items_is c.args.self.now.below c.own_files.new.layers (search (rules, places))) c.own_files.ensures.same c.own_files.ensures.numbers c.own_files.ensures.headers c.own_files.ensures.stays c.own_files.ensures.err c.requires.ready
+    c.as_mut_slice-below.ensures.value refl refl refl refl (with_items_is c.args.self.now.below c.own_files.new.layers (c.own_files.auto.layers ∙ ap length c.as_mut_slice-below.ensures.value ∙ length_items c.args.self.now.below)) c.own_files.ensures.same c.own_files.ensures.numbers c.own_files.ensures.headers c.own_files.ensures.stays c.own_files.ensures.err c.requires.ready
 
 pub returns-clause-adds : goal.returns-clause-adds
 returns-clause-adds g c =

@@ -1,10 +1,11 @@
-use Rattle.std.proofs.Common.{refl, rules, sym, subst, ap, ◌∙◌, ℕ}
-use Rattle.std.proofs.lemmas.List.{places, with_items_is}
+use Rattle.std.proofs.Common.{refl, sym, subst, ap, length, ◌∙◌, ℕ}
+use Rattle.std.proofs.lemmas.List.{with_items_is}
 use Rattle.std.specs.Vec.{with_items}
 use Rattle.chain_core.specs.Copying.{MarksToo, PutsAt, stamp_in}
 use Rattle.chain_core.specs.declared.layers.Layers.{Layers}
 use Rattle.chain_core.proofs.LeafPuts.{behind_put, none_marked, some_kept}
 use Rattle.chain_core.proofs.TargetPuts.{marked_err, marked_ok}
+use Rattle.chain_core.proofs.Numbers.{length_items}
 use Rattle.chain_core.proofs.layers.Layers.put_behind.Goals as goal
 
 pub returns-then-is_ok : goal.returns-then-is_ok
@@ -17,7 +18,7 @@ returns-then-is_ok g c =
     let new : Layers = record old { below = with_items old.below c.put_at-done.new.layers; retiring = c.mark_too.new.retiring } in
     let kept = some_kept old.retiring c.requires.merge in
     let put : PutsAt 0 piece old.below.items new.below.items before after r =
-    subst (λ now. PutsAt 0 piece old.below.items now before after r) (sym (with_items_is old.below c.put_at-done.new.layers (search (rules, places))))
+    subst (λ now. PutsAt 0 piece old.below.items now before after r) (sym (with_items_is old.below c.put_at-done.new.layers (c.put_at-done.auto.layers ∙ ap length c.as_mut_slice-below.ensures.value ∙ length_items old.below)))
     (subst (λ was. PutsAt 0 piece was c.put_at-done.new.layers before after r) c.as_mut_slice-below.ensures.value c.put_at-done.ensures.put) in
     behind_put old new kept.0 piece before after r c.requires.none kept.1 c.requires.ready refl refl put c.requires.none (c.requires.stamp ∙ ap (λ o. stamp_in o piece.stripe) kept.1) c.requires.stripe
     (marked_ok piece.stripe old new r (sym c.is_ok.ensures.value ∙ c.if-is_ok.true) (none_marked piece.stripe old.merge c.requires.none) (subst (λ (n : ℕ). MarksToo n old.retiring c.mark_too.new.retiring) c.stripe.ensures c.mark_too.ensures.marks))
@@ -32,7 +33,7 @@ returns-else-is_ok g c =
     let new : Layers = record old { below = with_items old.below c.put_at-done.new.layers } in
     let kept = some_kept old.retiring c.requires.merge in
     let put : PutsAt 0 piece old.below.items new.below.items before after r =
-    subst (λ now. PutsAt 0 piece old.below.items now before after r) (sym (with_items_is old.below c.put_at-done.new.layers (search (rules, places))))
+    subst (λ now. PutsAt 0 piece old.below.items now before after r) (sym (with_items_is old.below c.put_at-done.new.layers (c.put_at-done.auto.layers ∙ ap length c.as_mut_slice-below.ensures.value ∙ length_items old.below)))
     (subst (λ was. PutsAt 0 piece was c.put_at-done.new.layers before after r) c.as_mut_slice-below.ensures.value c.put_at-done.ensures.put) in
     behind_put old new kept.0 piece before after r c.requires.none kept.1 c.requires.ready refl refl put c.requires.none (c.requires.stamp ∙ ap (λ o. stamp_in o piece.stripe) kept.1) c.requires.stripe
     (marked_err piece.stripe old new r (sym c.is_ok.ensures.value ∙ c.if-is_ok.false) refl refl)

@@ -2,6 +2,7 @@ use Rattle.std.proofs.Common.{refl, sym, subst}
 use Rattle.std.specs.Prelude.{IfSome, Some}
 use Rattle.chain_core.specs.Finished.{ChangesFile, UpdatesBy, at_leaf}
 use Rattle.chain_core.specs.declared.layers.Layers.{Layers}
+use Rattle.chain_core.proofs.Places.{none_left, leaf_not_none}
 use Rattle.chain_core.proofs.layers.Layers.retire.Goals as goal
 
 pub returns-in-Some-leaf : goal.returns-in-Some-leaf
@@ -34,3 +35,9 @@ returns-in-Some-leaf g c =
       changed = subst (λ pages. UpdatesBy pages was now before after c.update.result) c.as_slice.ensures.pages changed;
     } in
     subst (λ o. IfSome o (λ k. ChangesFile (UpdatesBy k.retire) 0 old new before after c.update.result)) (sym c.in-Some.is) done
+
+pub returns-in_default : goal.returns-in_default
+returns-in_default g c = absurd (none_left c.args.self.now.retiring c.in_default.not-Some c.requires.merge)
+
+pub returns-in-None : goal.returns-in-None
+returns-in-None g c = absurd (leaf_not_none c.args.self.now c.in-None.is c.requires.session)

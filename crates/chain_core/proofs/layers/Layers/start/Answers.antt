@@ -28,3 +28,18 @@ returns-in_ok-open-in-ReadOnly-clause-still g c = none_changed (g.S.Store.disk c
 pub returns-in_ok-open-in-ReadOnly-clause-low : goal.returns-in_ok-open-in-ReadOnly-clause-low
 returns-in_ok-open-in-ReadOnly-clause-low g c =
     low_read c.args.files.now c.in_ok-open-in-ReadOnly.field-0 c.in_ok-open-in-ReadOnly.ensures.leaf c.in_ok-open-in-ReadOnly.ensures.below
+
+pub returns-in-Guests-clause-moments : goal.returns-in-Guests-clause-moments
+returns-in-Guests-clause-moments g c = c.start_guests.ensures.moments
+
+pub returns-in-Guests-clause-still : goal.returns-in-Guests-clause-still
+returns-in-Guests-clause-still g c = c.start_guests.ensures.still
+
+pub returns-in-Guests-clause-ready : goal.returns-in-Guests-clause-ready
+returns-in-Guests-clause-ready g c = c.start_guests.ensures.ready
+
+pub returns-in-Guests-clause-low : goal.returns-in-Guests-clause-low
+returns-in-Guests-clause-low g c = c.start_guests.ensures.low
+
+pub returns-in-Guests-clause-geometry : goal.returns-in-Guests-clause-geometry
+returns-in-Guests-clause-geometry g c = c.start_guests.ensures.geometry

@@ -1,4 +1,4 @@
-use Rattle.std.proofs.Common.{◌≡◌, ℕ, ◌+◌, List, sym, ap, subst, ◌∙◌, arith}
+use Rattle.std.proofs.Common.{◌≡◌, ℕ, ◌+◌, List, sym, ap, subst, ◌∙◌}
 use Rattle.std.specs.Prelude.{None}
 use Rattle.store_model.specs.declared.fault.SealFault.TheVariants.{NoRoom}
 use Rattle.chain_model.specs.Stripes.{stripe_count}
@@ -10,6 +10,7 @@ use Rattle.chain_core.specs.declared.merge_start.MergeStartRefusal.TheVariants.{
 use Rattle.vx_base.proofs.Handed.{handed}
 use Rattle.chain_core.proofs.MergePlanned.{above_served, below_served, can_at, child_some, has_begun, leaf_numbers, low, no_room, none_of, not_begun, plan_at, spent_start, unplanned}
 use Rattle.chain_core.proofs.MergeSpots.{few_above, few_rest, not_first, not_last}
+use Rattle.chain_core.proofs.Numbers.{two_up}
 use Rattle.chain_core.proofs.layers.Layers.start_merge.Goals as goal
 
 pub returns-in-Some : goal.returns-in-Some
@@ -138,7 +139,7 @@ begin_merge-requires-clause-room g c =
       marks = c.in_ok-room.ensures.marks;
       stripes = c.in_ok-room.ensures.stripes ∙ ap (λ (f : LinkedFile). stripe_count f.parts.geometry.sector f.parts.geometry.sectors) c.leaf_of.ensures;
       above = subst (λ (fs : List LinkedFile). AreReadOf 1 fs c.in_ok-room.room.above.items) c.behind_first.ensures c.in_ok-room.ensures.above;
-      below = subst (λ (k : ℕ). AreReadOf k n.below c.in_ok-room.room.below.items) (let e : merge.source + 2 ≡ source_place n + 1 + 1 = omega (arith, place) in e) c.in_ok-room.ensures.below;
+      below = subst (λ (k : ℕ). AreReadOf k n.below c.in_ok-room.room.below.items) (two_up merge.source (source_place n) place) c.in_ok-room.ensures.below;
     }
 
 pub returns-in_err-layers : goal.returns-in_err-layers

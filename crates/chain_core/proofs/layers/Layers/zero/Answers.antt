@@ -1,5 +1,5 @@
-use Rattle.std.proofs.Common.{not, refl}
-use Rattle.std.specs.Prelude.{Some}
+use Rattle.std.proofs.Common.{not, refl, ap, sym, subst, ◌∙◌, ℕ}
+use Rattle.std.specs.Prelude.{Some, IfErr}
 use Rattle.guest_model.specs.declared.call.Call.TheVariants as calls
 use Rattle.layer_session.specs.declared.file.Layer.{Layer}
 use Rattle.layer_session.proofs.FileLayers.{others_stand}
@@ -8,6 +8,11 @@ use Rattle.chain_core.specs.declared.layers.Layers.{Layers}
 use Rattle.chain_core.proofs.Leafs.{follows_alike, follows_by, zero_told}
 use Rattle.chain_core.proofs.Standing.{leaf_of, ready_still, room_is}
 use Rattle.chain_core.proofs.Turning.{put_ties}
+use Rattle.table_pages.specs.declared.tables.TableParts.{TableParts}
+use Rattle.layer_session.specs.Calls.{Fails}
+use Rattle.chain_core.specs.Sessions.{number_of_leaf}
+use Rattle.chain_core.proofs.Places.{none_left}
+use Rattle.chain_core.proofs.Noting.{low_stepped}
 use Rattle.chain_core.proofs.layers.Layers.zero.Goals as goal
 
 pub returns-clause-told : goal.returns-clause-told
@@ -37,3 +42,28 @@ returns-clause-ready g c =
 pub returns-clause-room : goal.returns-clause-room
 returns-clause-room g c =
     room_is (λ (l : Layer). not l.leave) c.args.first c.args.count c.args.count c.args.self.now c.in-Some.leaf (g.S.Store.disk c.args.store.now) c.zero-done.result c.in-Some.is refl c.zero-done.ensures.full c.zero-done.ensures.room
+
+pub returns-clause-session : goal.returns-clause-session
+returns-clause-session g c = refl
+
+pub returns-clause-geometry : goal.returns-clause-geometry
+returns-clause-geometry g c = refl
+
+pub returns-clause-leaf : goal.returns-clause-leaf
+returns-clause-leaf g c = ap (λ (p : TableParts). p.file) c.zero-done.ensures.parts ∙ sym (ap number_of_leaf c.in-Some.is)
+
+pub returns-clause-counts : goal.returns-clause-counts
+returns-clause-counts g c = c.zero-done.ensures.counts
+
+pub returns-clause-err : goal.returns-clause-err
+returns-clause-err g c =
+    subst (λ (n : ℕ). IfErr c.zero-done.result (Fails n (g.S.Store.disk c.args.store.now) (g.S.Store.disk c.zero-done.new.store))) (sym (ap number_of_leaf c.in-Some.is)) c.zero-done.ensures.err
+
+pub returns-clause-low : goal.returns-clause-low
+returns-clause-low g c =
+    let old : Layers = c.args.self.now in
+    let new : Layers = record old { leaf = Some c.zero-done.new.self; retiring = c.touch.new.retiring } in
+    low_stepped old new c.in-Some.leaf c.zero-done.new.self c.in-Some.is refl refl c.zero-done.ensures.number
+
+pub returns-in_default : goal.returns-in_default
+returns-in_default g c = absurd (none_left c.args.self.now.leaf c.in_default.not-Some c.requires.session)

@@ -1,11 +1,12 @@
-use Rattle.std.proofs.Common.{refl, rules, sym, subst, ◌∙◌, ◌+◌, ℕ}
-use Rattle.std.proofs.lemmas.List.{places, with_items_is}
+use Rattle.std.proofs.Common.{refl, sym, subst, ap, length, ◌∙◌, ◌+◌, ℕ}
+use Rattle.std.proofs.lemmas.List.{with_items_is}
 use Rattle.std.specs.Vec.{with_items}
 use Rattle.chain_core.specs.Copying.{MarksIn, PutsAt}
 use Rattle.chain_core.specs.declared.layers.Layers.{Layers}
-use Rattle.chain_core.proofs.Places.{alone}
+use Rattle.chain_core.proofs.Places.{alone, is_none, leaf_merge}
 use Rattle.chain_core.proofs.TargetPuts.{marked_err, marked_ok, stamp_none, target_put, too_none}
-use Rattle.chain_core.proofs.layers.Layers.put_below.Goals as goal
+use Rattle.chain_core.proofs.Numbers.{length_items}
+use Rattle.chain_core.proofs.layers.Layers.put_piece.Goals as goal
 
 pub returns-then-is_ok : goal.returns-then-is_ok
 returns-then-is_ok g c =
@@ -17,7 +18,7 @@ returns-then-is_ok g c =
     let r = c.put_at-done.result in
     let new : Layers = record old { below = with_items old.below c.put_at-done.new.layers; merge = c.mark.new.merge } in
     let put : PutsAt (u.source + 1) piece old.below.items new.below.items before after r =
-    subst (λ now. PutsAt (u.source + 1) piece old.below.items now before after r) (sym (with_items_is old.below c.put_at-done.new.layers (search (rules, places))))
+    subst (λ now. PutsAt (u.source + 1) piece old.below.items now before after r) (sym (with_items_is old.below c.put_at-done.new.layers (c.put_at-done.auto.layers ∙ ap length c.as_mut_slice-below.ensures.value ∙ length_items old.below)))
     (subst (λ was. PutsAt (u.source + 1) piece was c.put_at-done.new.layers before after r) c.as_mut_slice-below.ensures.value c.put_at-done.ensures.put) in
     let single = alone old u before c.in-Some.is c.requires.ready in
     target_put old new u piece before after r c.in-Some.is c.requires.ready refl refl put (c.requires.stamp ∙ stamp_none old piece.stripe single)
@@ -33,7 +34,13 @@ returns-else-is_ok g c =
     let r = c.put_at-done.result in
     let new : Layers = record old { below = with_items old.below c.put_at-done.new.layers } in
     let put : PutsAt (u.source + 1) piece old.below.items new.below.items before after r =
-    subst (λ now. PutsAt (u.source + 1) piece old.below.items now before after r) (sym (with_items_is old.below c.put_at-done.new.layers (search (rules, places))))
+    subst (λ now. PutsAt (u.source + 1) piece old.below.items now before after r) (sym (with_items_is old.below c.put_at-done.new.layers (c.put_at-done.auto.layers ∙ ap length c.as_mut_slice-below.ensures.value ∙ length_items old.below)))
     (subst (λ was. PutsAt (u.source + 1) piece was c.put_at-done.new.layers before after r) c.as_mut_slice-below.ensures.value c.put_at-done.ensures.put) in
     target_put old new u piece before after r c.in-Some.is c.requires.ready refl refl put (c.requires.stamp ∙ stamp_none old piece.stripe (alone old u before c.in-Some.is c.requires.ready))
     (marked_err piece.stripe old new r (sym c.is_ok.ensures.value ∙ c.if-is_ok.false) refl refl)
+
+pub put_behind-requires-clause-none : goal.put_behind-requires-clause-none
+put_behind-requires-clause-none g c = is_none c.args.self.now.merge c.in_default.not-Some
+
+pub put_behind-requires-clause-merge : goal.put_behind-requires-clause-merge
+put_behind-requires-clause-merge g c = leaf_merge c.args.self.now (is_none c.args.self.now.merge c.in_default.not-Some) c.requires.merge

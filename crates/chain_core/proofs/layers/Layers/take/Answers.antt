@@ -1,8 +1,8 @@
 use Rattle.std.proofs.Common.{refl}
 use Rattle.std.specs.Vec.{with_item}
 use Rattle.chain_core.specs.declared.layers.Layers.{Layers}
-use Rattle.chain_core.proofs.Places.{below_takes, source_at}
-use Rattle.chain_core.proofs.layers.Layers.take_below.Goals as goal
+use Rattle.chain_core.proofs.Places.{below_takes, source_at, is_none, leaf_merge}
+use Rattle.chain_core.proofs.layers.Layers.take.Goals as goal
 
 pub returns : goal.returns
 returns g c =
@@ -15,3 +15,9 @@ returns g c =
     let e = c.take.ensures in
     below_takes old new u source next before (g.S.Store.disk c.take.new.store) c.take.result c.take.new.self c.args.stripe c.in-Some.is c.requires.ready (source_at old u before source _ c.in-Some.is c.requires.ready c.index_mut-source.ensures.value)
     refl refl refl refl refl e.filled e.empty e.fits e.stripe e.stamp e.taken e.same e.stays e.err
+
+pub take_leaf-requires-clause-none : goal.take_leaf-requires-clause-none
+take_leaf-requires-clause-none g c = is_none c.args.self.now.merge c.in_default.not-Some
+
+pub take_leaf-requires-clause-merge : goal.take_leaf-requires-clause-merge
+take_leaf-requires-clause-merge g c = leaf_merge c.args.self.now (is_none c.args.self.now.merge c.in_default.not-Some) c.requires.merge
