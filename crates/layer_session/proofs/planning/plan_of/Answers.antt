@@ -1,4 +1,4 @@
-use Rattle.std.proofs.Common.{◌≡◌, ◌⊎◌, Bool, ◌+◌, ◌*◌, ◌%◌, ◌<◌, ◌≤◌, ◌∙◌, true, false, inl, inr, sym, subst, arith}
+use Rattle.std.proofs.Common.{◌≡◌, ◌⊎◌, Bool, ◌+◌, ◌*◌, ◌<◌, ◌≤◌, ◌∙◌, true, false, inl, inr, sym, subst}
 use Rattle.layer_session.specs.SectorRanges.{LieInBlock}
 use Rattle.layer_session.specs.TablesRead.{HasRead}
 use Rattle.table_pages.specs.Held.{AreTablesIn, HasTables, held_file, shape_of}
