@@ -1,4 +1,4 @@
-use Rattle.std.proofs.Common.{not, refl, ap, sym, subst, ◌∙◌, ℕ, ◌≤◌, ◌+◌, ◌*◌, ◌^◌}
+use Rattle.std.proofs.Common.{not, refl, ap, sym, subst, ◌∙◌, ℕ, ◌≤◌, ◌+◌, ◌^◌}
 use Rattle.std.specs.Prelude.{Some, IfErr, IfSome, Option, option_map}
 use Rattle.guest_model.specs.declared.call.Call.TheVariants as calls
 use Rattle.layer_session.specs.declared.file.Layer.{Layer}
