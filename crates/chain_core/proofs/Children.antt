@@ -27,7 +27,7 @@ use Rattle.layer_session.proofs.Standing.{layers_stand}
 use Rattle.chain_core.specs.declared.layers.Layers.{Layers}
 use Rattle.chain_core.specs.declared.layers.Underway.{Underway}
 use Rattle.chain_core.specs.Answering.{EachOpensNow, HasEnded}
-use Rattle.chain_core.specs.States.{AreHeld, AreWritten, IsCourse, IsRetiring, IsServing, IsUnder, Merging, Relinks, State, WasSynced, child_of, child_parts, dirty_now, merging, sector_of}
+use Rattle.chain_core.specs.States.{AreHeld, AreWritten, IsCourse, IsRetiring, IsServing, IsUnder, Merging, Relinks, State, WasSynced, child_parts, dirty_now, merging, sector_of}
 use Rattle.chain_core.proofs.Putting.{apart_around, have_all, have_parts}
 use Rattle.chain_core.proofs.Replaced.{written_at}
 use Rattle.chain_core.proofs.Rests.{leaf_survives}

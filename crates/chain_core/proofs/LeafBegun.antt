@@ -1,6 +1,6 @@
 -- What the start of the planned merge of a leaf answers, phase by phase.
 use Rattle.std.proofs.Common.{◌≡◌, ℕ, ◌+◌, ◌^◌, ◌-◌, ◌<◌, ◌≤◌, true, false, List, [], ◌∷◌, length, map, refl, sym, ap, subst, ◌∙◌, arith}
-use Rattle.std.specs.Prelude.{Option, Some, None, IfSome, is_some, option_map, min, Err, Ok}
+use Rattle.std.specs.Prelude.{Option, Some, None, IfSome, is_some, option_map, Err, Ok}
 use Rattle.std.specs.List.{AllByRecursion}
 use Rattle.store_model.proofs.Told.{counts_join}
 use Rattle.vx_base.specs.declared.parts.Geometry.{Geometry}

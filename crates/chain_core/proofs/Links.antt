@@ -1,15 +1,14 @@
 -- Which files each image of a session's moment is linked by.
-use Rattle.std.proofs.Common.{ℕ, List, [], ◌∷◌, ◌++◌, sym, subst}
-use Rattle.std.specs.List.{AllByRecursion}
+use Rattle.std.proofs.Common.{ℕ, List, ◌++◌, sym, subst}
 use Rattle.chain_model.proofs.Serving.{all_shown}
-use Rattle.store_model.specs.Trace.{NamedBytes, Trace}
+use Rattle.store_model.specs.Trace.{Trace}
 use Rattle.guest_model.specs.Calls.{Disk}
 use Rattle.guest_model.specs.History.{History}
-use Rattle.chain_model.specs.Images.{IsCleanImage, IsShown, Placed, members_of}
+use Rattle.chain_model.specs.Images.{Placed, members_of}
 use Rattle.chain_model.specs.Members.{NoneTwice, names_of}
 use Rattle.chain_model.specs.PhaseLaws.{IsNamedOnce}
-use Rattle.chain_model.specs.Sessions.{IsKept, IsServed}
-use Rattle.chain_model.proofs.Showing.{each_shows, images_link_alike}
+use Rattle.chain_model.specs.Sessions.{IsServed}
+use Rattle.chain_model.proofs.Showing.{images_link_alike}
 use Rattle.chain_core.specs.Answering.{EachLinks}
 
 pub served_links : (z : ℕ) (opening : Disk) (h : History) (leaf : List ℕ) (retired chain : List Placed) (now : Trace) → IsNamedOnce now → IsServed z opening h leaf retired chain now → EachLinks leaf (names_of (members_of chain)) now

@@ -1,5 +1,5 @@
 -- Numbers that differ, and bounds and sums that the other files need, over plain variables: `omega` reads all that stands around it.
-use Rattle.std.proofs.Common.{◌≡◌, ◌≢◌, ◌<◌, ◌≤◌, ◌+◌, ◌-◌, ◌*◌, ◌^◌, ℕ, suc, min, length, subst, arith, rules}
+use Rattle.std.proofs.Common.{◌≡◌, ◌≢◌, ◌<◌, ◌≤◌, ◌+◌, ◌-◌, ◌*◌, ◌^◌, ℕ, suc, min, length, subst, arith, rules, ◌/◌, ◌%◌, sym}
 use Rattle.std.proofs.lemmas.List.{places}
 use Rattle.std.specs.Prelude.{Vec}
 use Rattle.chain_model.specs.Stripes.{per_stripe}
@@ -166,6 +166,23 @@ same_up a b same = omega (arith, same)
 pub within_len : (s n k l : ℕ) → s + 1 < n → k ≡ n → k ≡ l → s < l
 within_len s n k l room long len = omega (arith, room, long, len)
 
+-- so few files that their count fits
+pub fits_below : (n b : ℕ) → n + b ≤ 64 → n < 2 ^ 32
+fits_below n b few = omega (arith, few)
+
+pub fits_most : (n b : ℕ) → n + b ≤ 64 → n ≤ 2 ^ 32 - 1
+fits_most n b few = omega (arith, few)
+
+-- how much a call writes or trims at most
+pub few_bytes : (n z : ℕ) → 512 ≡ z → n % z ≡ 0 → n / z ≤ 2048 → n ≤ 2 ^ 20
+few_bytes n z is whole few =
+    let w : n % 512 ≡ 0 = subst (λ (k : ℕ). n % k ≡ 0) (sym is) whole in
+    let f : n / 512 ≤ 2048 = subst (λ (k : ℕ). n / k ≤ 2048) (sym is) few in
+    omega (arith, w, f)
+
+pub few_zeros : (z count : ℕ) → 512 ≡ z → count ≤ 524288 → z * count ≤ 2 ^ 28
+few_zeros z count is few = subst (λ (k : ℕ). k * count ≤ 2 ^ 28) is (let own : 512 * count ≤ 2 ^ 28 = omega (arith, few) in own)
+
 -- as many bits as a mask of 256 bytes has
 pub mask_holds : (n l : ℕ) → n ≤ 2048 → l ≡ 256 → n ≤ 8 * l
 mask_holds n l few len = omega (arith, few, len)
@@ -214,6 +231,9 @@ far_below n low = omega (arith, low)
 
 pub one_far_below : (a b c : ℕ) → a ≤ 2 ^ 63 + 6 → a ≡ b → c ≤ b + 1 → c ≤ 2 ^ 63 + 8
 one_far_below a b c low same next = omega (arith, low, same, next)
+
+pub far_next : (n : ℕ) → n ≤ 2 ^ 63 + 4 → n + 1 ≤ 2 ^ 64 - 2 ^ 32
+far_next n low = omega (arith, low)
 
 pub first_low : (n : ℕ) → n ≡ 1 → n ≤ 2 ^ 64 - 2 ^ 32
 first_low n first = omega (arith, first)

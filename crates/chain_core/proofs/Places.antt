@@ -235,3 +235,11 @@ retiring_session layers disk some ready = by_kept layers.retiring some ready.ret
 
 pub leaf_not_none : (layers : Layers) → layers.leaf ≡ None → is_some layers.leaf ≡ true → ⊥
 leaf_not_none layers none some = (let never : false ≡ true = sym (ap is_some none) ∙ some in false_true never)
+
+-- what is known of the merge of the leaf
+pub retiring_of : (layers : Layers) (disk : Disk) → is_some layers.retiring ≡ true → AreReady layers disk → (r : Retiring) × IsRetiringOf layers.geometry layers.leaf layers.below.items r
+retiring_of layers disk some ready = by_kept layers.retiring some ready.retiring
+  where
+    by_kept : (o : Option Retiring) → is_some o ≡ true → IfSome o (IsRetiringOf layers.geometry layers.leaf layers.below.items) → (r : Retiring) × IsRetiringOf layers.geometry layers.leaf layers.below.items r
+    by_kept None some of = absurd (false_true some)
+    by_kept (Some r) some of = (r, of)

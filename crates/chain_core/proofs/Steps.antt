@@ -1,11 +1,11 @@
 -- What the answer of the leaf's layer makes of a session.
-use Rattle.std.proofs.Common.{◌≡◌, ◌≢◌, ◌⊎◌, ℕ, Bool, true, false, cond, List, [], ◌∷◌, ◌++◌, map, refl, sym, ap, subst, ◌∙◌, arith, inl, ◌<◌, is_some, ◌==◌, ◌-◌, ◌+◌, ◌&&◌, get_or, length}
+use Rattle.std.proofs.Common.{◌≡◌, ◌≢◌, ◌⊎◌, ℕ, Bool, true, false, cond, List, [], ◌∷◌, ◌++◌, map, refl, sym, ap, subst, ◌∙◌, inl, ◌<◌, is_some, ◌==◌, ◌-◌, ◌+◌, ◌&&◌, get_or, length}
 use Rattle.std.specs.Prelude.{Option, Some, None, Result, Ok, Err, IfSome, option_map, not, All}
 use Rattle.std.specs.List.{AllByRecursion}
 use Rattle.std.specs.Option.{option_or}
 use Rattle.std.proofs.lemmas.Bool.{or_parts, or_from}
-use Rattle.store_model.specs.Trace.{NamedBytes, Trace, file_of, moment, at_moment}
-use Rattle.store_model.proofs.Spans.{EachMoment-now, EachMoment-weaken, at_moment-now}
+use Rattle.store_model.specs.Trace.{NamedBytes, Trace}
+use Rattle.store_model.proofs.Spans.{EachMoment-now, EachMoment-weaken}
 use Rattle.guest_model.specs.declared.call.Entry.{Entry}
 use Rattle.guest_model.specs.declared.call.Call.{Call}
 use Rattle.guest_model.specs.Calls.{is_named, content}

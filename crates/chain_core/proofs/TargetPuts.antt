@@ -1,5 +1,5 @@
 -- A piece is put into the target: what the session keeps of it.
-use Rattle.std.proofs.Common.{◌≡◌, ℕ, ◌+◌, ◌<◌, true, false, List, [], ◌∷◌, ◌++◌, length, map, get_or, is_some, refl, sym, ap, subst, ◌∙◌, arith}
+use Rattle.std.proofs.Common.{◌≡◌, ℕ, ◌+◌, ◌<◌, true, false, List, [], ◌∷◌, ◌++◌, length, map, get_or, is_some, refl, sym, ap, subst, ◌∙◌}
 use Rattle.std.specs.Prelude.{Option, Some, None, slice_index_or, Result, Ok, Err, IfErr, IfSome, OnOk}
 use Rattle.std.specs.Result.{is_ok}
 use Rattle.vx_base.specs.declared.parts.Geometry.{Geometry}

@@ -507,13 +507,8 @@ impl Layers {
         let merge = prepare(alloc, store, files, source, ids)?;
         let of = split(files, merge.source as usize);
         let geometry = leaf_of(of.above, of.child).parts.geometry;
-        let room = Room::new(
-            alloc,
-            geometry,
-            behind_first(of.above),
-            merge.source + 2,
-            of.below,
-        )?;
+        let rest = merge.source + 2;
+        let room = Room::new(alloc, geometry, behind_first(of.above), rest, of.below)?;
         let layers = Layers::begin_merge(alloc, store, of, merge, room)?;
         Ok(layers)
     }

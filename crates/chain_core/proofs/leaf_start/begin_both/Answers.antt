@@ -3,6 +3,9 @@ use Rattle.store_model.specs.declared.fault.SealFault.{SealFault}
 use Rattle.chain_core.specs.LeafStarting.{BeginsLeafMerge, leaf_files_in}
 use Rattle.chain_core.proofs.LeafBegun.{behind_begun, behind_heir, behind_linked, begins_with, begun_stops, has_begun, heir_stops, linked_stops, no_layers, source_numbers, source_ready, target_numbers, target_ready, twice_turns}
 use Rattle.vx_base.proofs.Handed.{handed, not_if_ok}
+use Rattle.std.proofs.Common.{ap, length, subst, sym}
+use Rattle.chain_core.proofs.Numbers.{few_pages, first_low}
+use Rattle.log_format.specs.PendingPages.{HasOnePageEach}
 use Rattle.chain_core.proofs.leaf_start.begin_both.Goals as goal
 
 pub begin-requires-clause-numbers : goal.begin-requires-clause-numbers
@@ -103,3 +106,24 @@ returns g c =
       };
       err = tt;
     }
+
+pub begin-requires-clause-low : goal.begin-requires-clause-low
+begin-requires-clause-low g c = c.requires.low.leaf
+
+pub begin-requires-2-clause-low : goal.begin-requires-2-clause-low
+begin-requires-2-clause-low g c = c.requires.low.target
+
+pub link_twice-requires-clause-ready : goal.link_twice-requires-clause-ready
+link_twice-requires-clause-ready g c = c.in_ok-leaf.ensures.ready
+
+pub link_twice-requires-clause-empty : goal.link_twice-requires-clause-empty
+link_twice-requires-clause-empty g c = c.in_ok-leaf.ensures.empty
+
+pub link_twice-requires-clause-numbers : goal.link_twice-requires-clause-numbers
+link_twice-requires-clause-numbers g c = first_low c.in_ok-leaf.leaf.log.number c.in_ok-leaf.ensures.parts.first
+
+pub link_twice-requires-clause-few : goal.link_twice-requires-clause-few
+link_twice-requires-clause-few g c = few_pages (length c.args.merge.now.twice) (length c.as_slice.result.now) c.requires.plan.twice.has.few (ap length c.as_slice.ensures.pages)
+
+pub link_twice-requires-clause-apart : goal.link_twice-requires-clause-apart
+link_twice-requires-clause-apart g c = subst HasOnePageEach (sym c.as_slice.ensures.pages) c.as_slice.ensures.apart

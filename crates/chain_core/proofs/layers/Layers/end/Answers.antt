@@ -1,4 +1,4 @@
-use Rattle.std.proofs.Common.{List, ap, subst, sym, ◌∙◌}
+use Rattle.std.proofs.Common.{List, ap, subst, sym, ◌∙◌, refl}
 use Rattle.std.specs.Prelude.{Err, Ok}
 use Rattle.store_model.specs.Disk.{Disk}
 use Rattle.layer_session.specs.FileLayers.{AreOthers, file_numbers}
@@ -7,9 +7,10 @@ use Rattle.chain_core.specs.Answering.{EndsTold}
 use Rattle.chain_core.specs.Ending.{AreAllReady, AreNumbered, EndsOnTold}
 use Rattle.chain_core.specs.Sessions.{AreApart}
 use Rattle.chain_core.proofs.Ending.{below_failed, below_numbered, ends_told, leaf_apart, leaf_ready}
-use Rattle.vx_base.proofs.Handed.{handed}
+use Rattle.vx_base.proofs.Handed.{handed, not_ok}
 use Rattle.chain_core.proofs.Holding.{rest_told}
 use Rattle.chain_core.proofs.RetireStays.{all_ready}
+use Rattle.layer_session.proofs.Equal.{some_none}
 use Rattle.chain_core.proofs.layers.Layers.end.Goals as goal
 
 pub end_files-requires-clause-ready : goal.end_files-requires-clause-ready
@@ -54,3 +55,21 @@ returns-in_ok-end_files-in-Some-clause-told g c =
 
 pub returns-in-None-clause-told : goal.returns-in-None-clause-told
 returns-in-None-clause-told g c = rest_told c.args.self (g.S.Store.disk c.args.store.now) (sym c.into_files-leaf.ensures.leaf ∙ c.in-None.is)
+
+pub returns-in_err-end_files-in-Some-clause-read : goal.returns-in_err-end_files-in-Some-clause-read
+returns-in_err-end_files-in-Some-clause-read g c none = absurd (some_none (sym (sym c.into_files-leaf.ensures.leaf ∙ c.in-Some.is) ∙ none))
+
+pub returns-in_err-end_files-in-Some-clause-counts : goal.returns-in_err-end_files-in-Some-clause-counts
+returns-in_err-end_files-in-Some-clause-counts g c = not_ok c.from_residual.result _ c.from_residual.ensures.1 _
+
+pub returns-in_ok-end_files-in-Some-clause-read : goal.returns-in_ok-end_files-in-Some-clause-read
+returns-in_ok-end_files-in-Some-clause-read g c none = absurd (some_none (sym (sym c.into_files-leaf.ensures.leaf ∙ c.in-Some.is) ∙ none))
+
+pub returns-in-None-clause-read : goal.returns-in-None-clause-read
+returns-in-None-clause-read g c none = (refl, refl)
+
+pub returns-in-None-clause-counts : goal.returns-in-None-clause-counts
+returns-in-None-clause-counts g c = refl
+
+pub returns-in-None-clause-err : goal.returns-in-None-clause-err
+returns-in-None-clause-err g c = tt

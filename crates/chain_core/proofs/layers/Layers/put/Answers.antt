@@ -1,5 +1,5 @@
-use Rattle.std.proofs.Common.{◌/◌, ℕ, false, length, refl, ap, sym, subst, ◌∙◌}
-use Rattle.std.specs.Prelude.{Some, IfErr}
+use Rattle.std.proofs.Common.{◌/◌, ℕ, false, length, refl, ap, sym, subst, ◌∙◌, ◌≡◌, ◌≤◌, ◌+◌, ◌%◌, ◌^◌}
+use Rattle.std.specs.Prelude.{Some, IfErr, IfSome, Option, option_map}
 use Rattle.guest_model.specs.declared.call.Call.TheVariants as calls
 use Rattle.layer_session.proofs.FileLayers.{others_stand}
 use Rattle.chain_core.specs.Copying.{LayerFollows}
@@ -12,6 +12,8 @@ use Rattle.table_pages.specs.declared.tables.TableParts.{TableParts}
 use Rattle.layer_session.specs.Calls.{Fails}
 use Rattle.chain_core.specs.Sessions.{number_of_leaf}
 use Rattle.chain_core.proofs.Places.{none_left}
+use Rattle.chain_core.proofs.Numbers.{far_next, few_bytes}
+use Rattle.layer_session.specs.declared.file.Layer.{Layer}
 use Rattle.chain_core.proofs.layers.Layers.put.Goals as goal
 
 pub returns-clause-told : goal.returns-clause-told
@@ -68,3 +70,24 @@ returns-clause-err g c =
 
 pub returns-in_default : goal.returns-in_default
 returns-in_default g c = absurd (none_left c.args.self.now.leaf c.in_default.not-Some c.requires.session)
+
+pub put-done-requires-clause-ready : goal.put-done-requires-clause-ready
+put-done-requires-clause-ready g c = (leaf_of c.args.self.now c.in-Some.leaf (g.S.Store.disk c.args.store.now) c.in-Some.is c.requires.ready).ready
+
+pub put-done-requires-clause-numbers : goal.put-done-requires-clause-numbers
+put-done-requires-clause-numbers g c =
+    far_next c.in-Some.leaf.log.number (subst (λ (o : Option Layer). IfSome (option_map (λ (l : Layer). l.log.number) o) (λ n. n ≤ 2 ^ 63 + 4)) c.in-Some.is c.requires.low.0)
+
+pub put-done-requires-clause-whole : goal.put-done-requires-clause-whole
+put-done-requires-clause-whole g c =
+    let leaf = leaf_of c.args.self.now c.in-Some.leaf (g.S.Store.disk c.args.store.now) c.in-Some.is c.requires.ready in
+    subst (λ (z : ℕ). length c.args.bytes.now % z ≡ 0) (sym leaf.sector) c.requires.whole
+
+pub put-done-requires-clause-on_disk : goal.put-done-requires-clause-on_disk
+put-done-requires-clause-on_disk g c =
+    let leaf = leaf_of c.args.self.now c.in-Some.leaf (g.S.Store.disk c.args.store.now) c.in-Some.is c.requires.ready in
+    subst (λ (z : ℕ). c.args.first + length c.args.bytes.now / z ≤ c.in-Some.leaf.tables.parts.sectors) (sym leaf.sector)
+    (subst (λ (n : ℕ). c.args.first + length c.args.bytes.now / c.args.self.now.geometry.sector ≤ n) (sym leaf.sectors) c.requires.on_disk)
+
+pub put-done-requires-clause-few : goal.put-done-requires-clause-few
+put-done-requires-clause-few g c = few_bytes (length c.args.bytes.now) c.args.self.now.geometry.sector (sym c.requires.ready.sector) c.requires.whole c.requires.few

@@ -1,11 +1,14 @@
-use Rattle.std.proofs.Common.{refl, sym, subst, ap, length, ◌∙◌, ◌+◌, ℕ}
+use Rattle.std.proofs.Common.{refl, sym, subst, ap, length, ◌∙◌, ◌+◌, ℕ, List, true, ◌≡◌, ◌<◌, ◌^◌, map}
 use Rattle.std.proofs.lemmas.List.{with_items_is}
 use Rattle.std.specs.Vec.{with_items}
-use Rattle.chain_core.specs.Copying.{MarksIn, PutsAt}
+use Rattle.chain_core.specs.Copying.{MarksIn, PutsAt, AreLow}
 use Rattle.chain_core.specs.declared.layers.Layers.{Layers}
-use Rattle.chain_core.proofs.Places.{alone, is_none, leaf_merge}
+use Rattle.chain_core.proofs.Places.{alone, is_none, leaf_merge, merge_of}
 use Rattle.chain_core.proofs.TargetPuts.{marked_err, marked_ok, stamp_none, target_put, too_none}
 use Rattle.chain_core.proofs.Numbers.{length_items}
+use Rattle.layer_session.specs.declared.file_layer.FileLayer.{FileLayer}
+use Rattle.layer_session.specs.FileLayers.{AreReadyFiles, log_number}
+use Rattle.chain_core.specs.Sessions.{is_session_at}
 use Rattle.chain_core.proofs.layers.Layers.put_piece.Goals as goal
 
 pub returns-then-is_ok : goal.returns-then-is_ok
@@ -44,3 +47,18 @@ put_behind-requires-clause-none g c = is_none c.args.self.now.merge c.in_default
 
 pub put_behind-requires-clause-merge : goal.put_behind-requires-clause-merge
 put_behind-requires-clause-merge g c = leaf_merge c.args.self.now (is_none c.args.self.now.merge c.in_default.not-Some) c.requires.merge
+
+pub put_at-done-requires-clause-session : goal.put_at-done-requires-clause-session
+put_at-done-requires-clause-session g c = subst (λ (b : List FileLayer). is_session_at b (c.in-Some.merge.source + 1) ≡ true) (sym c.as_mut_slice-below.ensures.value) (merge_of c.args.self.now c.in-Some.merge (g.S.Store.disk c.args.store.now) c.in-Some.is c.requires.ready).target
+
+pub put_at-done-requires-clause-there : goal.put_at-done-requires-clause-there
+put_at-done-requires-clause-there g c = subst (λ (b : List FileLayer). c.in-Some.merge.source + 1 < length b) (sym c.as_mut_slice-below.ensures.value) (merge_of c.args.self.now c.in-Some.merge (g.S.Store.disk c.args.store.now) c.in-Some.is c.requires.ready).there
+
+pub put_at-done-requires-clause-ready : goal.put_at-done-requires-clause-ready
+put_at-done-requires-clause-ready g c = subst (λ (b : List FileLayer). AreReadyFiles c.args.self.now.geometry (g.S.Store.disk c.args.store.now) b) (sym c.as_mut_slice-below.ensures.value) c.requires.ready.below
+
+pub put_at-done-requires-clause-low : goal.put_at-done-requires-clause-low
+put_at-done-requires-clause-low g c = subst (λ (b : List FileLayer). AreLow (2 ^ 63 + 3) (map log_number b)) (sym c.as_mut_slice-below.ensures.value) c.requires.low.1
+
+pub put_at-done-requires-clause-fits : goal.put_at-done-requires-clause-fits
+put_at-done-requires-clause-fits g c = c.requires.fits

@@ -1,4 +1,4 @@
-use Rattle.std.proofs.Common.{◌≡◌, ℕ, ◌+◌, List, sym, ap, subst, ◌∙◌}
+use Rattle.std.proofs.Common.{◌≡◌, ℕ, ◌+◌, List, sym, ap, subst, ◌∙◌, ◌<◌, ◌≤◌, ◌-◌, ◌^◌, length}
 use Rattle.std.specs.Prelude.{None}
 use Rattle.store_model.specs.declared.fault.SealFault.TheVariants.{NoRoom}
 use Rattle.chain_model.specs.Stripes.{stripe_count}
@@ -10,7 +10,7 @@ use Rattle.chain_core.specs.declared.merge_start.MergeStartRefusal.TheVariants.{
 use Rattle.vx_base.proofs.Handed.{handed}
 use Rattle.chain_core.proofs.MergePlanned.{above_served, below_served, can_at, child_some, has_begun, leaf_numbers, low, no_room, none_of, not_begun, plan_at, spent_start, unplanned}
 use Rattle.chain_core.proofs.MergeSpots.{few_above, few_rest, not_first, not_last}
-use Rattle.chain_core.proofs.Numbers.{two_up}
+use Rattle.chain_core.proofs.Numbers.{two_up, fits_below, fits_most}
 use Rattle.chain_core.proofs.layers.Layers.start_merge.Goals as goal
 
 pub returns-in-Some : goal.returns-in-Some
@@ -210,3 +210,11 @@ begin_merge-requires-clause-child g c =
     let merge = c.in_ok-merge.merge in
     let n = files_in c.split-of.result in
     child_some files name old before now merge c.requires none c.in_ok-merge.ensures.planned n c.split-of.ensures.files c.split-of.ensures.place
+
+pub overflow_add-rest : goal.overflow_add-rest
+overflow_add-rest g c =
+    let n = files_in c.split-of.result in
+    let few = few_rest n c.args.files.now c.in_ok-merge.merge.source c.split-of.ensures.files c.split-of.ensures.place c.requires.few in
+    let below : c.in_ok-merge.merge.source + 2 < 2 ^ 32 = fits_below (c.in_ok-merge.merge.source + 2) (length n.below) few in
+    let most : c.in_ok-merge.merge.source + 2 ≤ 2 ^ 32 - 1 = fits_most (c.in_ok-merge.merge.source + 2) (length n.below) few in
+    assumption (below, most)

@@ -1,7 +1,8 @@
-use Rattle.std.proofs.Common.{refl}
+use Rattle.std.proofs.Common.{refl, length}
 use Rattle.std.specs.Vec.{with_item}
 use Rattle.chain_core.specs.declared.layers.Layers.{Layers}
-use Rattle.chain_core.proofs.Places.{below_takes, source_at, is_none, leaf_merge}
+use Rattle.chain_core.proofs.Places.{below_takes, source_at, is_none, leaf_merge, merge_of, readable_of}
+use Rattle.chain_core.proofs.Numbers.{length_items, within_len}
 use Rattle.chain_core.proofs.layers.Layers.take.Goals as goal
 
 pub returns : goal.returns
@@ -21,3 +22,18 @@ take_leaf-requires-clause-none g c = is_none c.args.self.now.merge c.in_default.
 
 pub take_leaf-requires-clause-merge : goal.take_leaf-requires-clause-merge
 take_leaf-requires-clause-merge g c = leaf_merge c.args.self.now (is_none c.args.self.now.merge c.in_default.not-Some) c.requires.merge
+
+pub index_mut-source-requires : goal.index_mut-source-requires
+index_mut-source-requires g c =
+    let items = c.args.self.now.below.items in
+    within_len c.in-Some.merge.source (length items) (length items) c.args.self.now.below.len (merge_of c.args.self.now c.in-Some.merge (g.S.Store.disk c.args.store.now) c.in-Some.is c.requires.ready).there refl (length_items c.args.self.now.below)
+
+pub take-requires-clause-readable : goal.take-requires-clause-readable
+take-requires-clause-readable g c =
+    let old : Layers = c.args.self.now in
+    let u = c.in-Some.merge in
+    let before = g.S.Store.disk c.args.store.now in
+    readable_of old u before c.index_mut-source.result.now c.requires.ready (source_at old u before c.index_mut-source.result.now _ c.in-Some.is c.requires.ready c.index_mut-source.ensures.value)
+
+pub take-requires-clause-stripe : goal.take-requires-clause-stripe
+take-requires-clause-stripe g c = c.requires.stripe

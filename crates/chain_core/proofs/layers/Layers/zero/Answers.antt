@@ -1,5 +1,5 @@
-use Rattle.std.proofs.Common.{not, refl, ap, sym, subst, ◌∙◌, ℕ}
-use Rattle.std.specs.Prelude.{Some, IfErr}
+use Rattle.std.proofs.Common.{not, refl, ap, sym, subst, ◌∙◌, ℕ, ◌≤◌, ◌+◌, ◌^◌}
+use Rattle.std.specs.Prelude.{Some, IfErr, IfSome, Option, option_map}
 use Rattle.guest_model.specs.declared.call.Call.TheVariants as calls
 use Rattle.layer_session.specs.declared.file.Layer.{Layer}
 use Rattle.layer_session.proofs.FileLayers.{others_stand}
@@ -13,6 +13,7 @@ use Rattle.layer_session.specs.Calls.{Fails}
 use Rattle.chain_core.specs.Sessions.{number_of_leaf}
 use Rattle.chain_core.proofs.Places.{none_left}
 use Rattle.chain_core.proofs.Noting.{low_stepped}
+use Rattle.chain_core.proofs.Numbers.{far_next, few_zeros}
 use Rattle.chain_core.proofs.layers.Layers.zero.Goals as goal
 
 pub returns-clause-told : goal.returns-clause-told
@@ -67,3 +68,20 @@ returns-clause-low g c =
 
 pub returns-in_default : goal.returns-in_default
 returns-in_default g c = absurd (none_left c.args.self.now.leaf c.in_default.not-Some c.requires.session)
+
+pub zero-done-requires-clause-ready : goal.zero-done-requires-clause-ready
+zero-done-requires-clause-ready g c = (leaf_of c.args.self.now c.in-Some.leaf (g.S.Store.disk c.args.store.now) c.in-Some.is c.requires.ready).ready
+
+pub zero-done-requires-clause-numbers : goal.zero-done-requires-clause-numbers
+zero-done-requires-clause-numbers g c =
+    far_next c.in-Some.leaf.log.number (subst (λ (o : Option Layer). IfSome (option_map (λ (l : Layer). l.log.number) o) (λ n. n ≤ 2 ^ 63 + 4)) c.in-Some.is c.requires.low.0)
+
+pub zero-done-requires-clause-on_disk : goal.zero-done-requires-clause-on_disk
+zero-done-requires-clause-on_disk g c =
+    let leaf = leaf_of c.args.self.now c.in-Some.leaf (g.S.Store.disk c.args.store.now) c.in-Some.is c.requires.ready in
+    subst (λ (n : ℕ). c.args.first + c.args.count ≤ n) (sym leaf.sectors) c.requires.on_disk
+
+pub zero-done-requires-clause-few : goal.zero-done-requires-clause-few
+zero-done-requires-clause-few g c =
+    let leaf = leaf_of c.args.self.now c.in-Some.leaf (g.S.Store.disk c.args.store.now) c.in-Some.is c.requires.ready in
+    few_zeros c.in-Some.leaf.tables.parts.sector c.args.count (sym (leaf.sector ∙ c.requires.ready.sector)) c.requires.few
