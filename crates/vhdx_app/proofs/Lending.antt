@@ -1,6 +1,6 @@
 -- The files of a chain that are lent can be started.
 use Rattle.std.proofs.Common.{◌≡◌, ℕ, ◌+◌, ◌≤◌, true, false, List, [], ◌∷◌, length, Option, Some, None, refl, sym, ap, subst, ◌∙◌, arith}
-use Rattle.std.specs.Prelude.{All, option_map}
+use Rattle.std.specs.Prelude.{option_map}
 use Rattle.std.proofs.lemmas.Option.{same_Some}
 use Rattle.store_model.specs.Disk.{Disk, WhereTold}
 use Rattle.store_model.specs.File.{is_sealed, is_synced}
@@ -9,15 +9,15 @@ use Rattle.store_model.specs.Trace.{Trace, file_of}
 use Rattle.std.proofs.lemmas.List.{length-map}
 use Rattle.chain_model.specs.Files.{HasParts, at_rest}
 use Rattle.chain_model.specs.Members.{NoneTwice}
-use Rattle.link_rules.specs.Chains.{most_files, names_of}
-use Rattle.link_rules.specs.Effects.{IsServed}
-use Rattle.link_rules.specs.Lines.{IsLine}
+use Rattle.link_rules.specs.Chains.{names_of}
 use Rattle.link_rules.specs.Folders.{contents}
+use Rattle.link_rules.specs.declared.linked.Linked.{Linked}
 use Rattle.link_rules.specs.declared.linked.LinkedFile.{LinkedFile}
 use Rattle.merge_plan.specs.Attached.{AreAsOpened, AreAttached, BeginsInUse, CanStart}
 use Rattle.vhdx_app.specs.Commands.{AreOpened, AreShort, Lends}
-use Rattle.vhdx_app.specs.Sessions.{AreLent, AreLentFrom}
+use Rattle.vhdx_app.specs.Sessions.{AreLent, AreLentFrom, IsLentChain, IsLinkedChain}
 use Rattle.vhdx_app.proofs.Back.{attached_as, bytes_there}
+use Rattle.vhdx_app.proofs.Followed.{last_once}
 use Rattle.vhdx_app.proofs.Lent.{AreAt, each_at, names_attached}
 
 fresh_synced : (names : List (List ℕ)) (folder : List Held) (i : ℕ) → is_synced (file_of (attached_trace names folder) i) ≡ true
@@ -68,21 +68,20 @@ are_attached files trace lent short = record {
   each = as_opened trace (length files) 0 files lent.each (omega (arith, lent.all)) (omega arith) short;
 }
 
-pub can_start : (files : List LinkedFile) (lent now : Disk) → now ≡ lent → lent.files ≡ length files → length files ≤ most_files → NoneTwice (names_of files) → All IsServed files → IsLine files → WhereTold lent.told (AreLent files)
-    → WhereTold lent.told (AreShort (length files)) → CanStart files now
-can_start files lent now same all few once served line is_lent short =
-    let count : now.files ≡ length files = ap (λ (d : Disk). d.files) same ∙ all in
+pub can_start : (files : List LinkedFile) (lent now : Disk) → now ≡ lent → IsLentChain files lent → WhereTold lent.told (AreShort (length files)) → CanStart files now
+can_start files lent now same chain short =
+    let count : now.files ≡ length files = ap (λ (d : Disk). d.files) same ∙ chain.all in
     record {
-      few = few;
+      few = chain.few;
       there = omega (arith, count);
-      line = line;
-      once = once;
-      served = served;
-      told = λ t told. let was = sym (ap (λ (d : Disk). d.told) same) ∙ told in are_attached files t (is_lent t was) (short t was);
+      line = chain.line;
+      once = chain.once;
+      served = chain.served;
+      told = λ t told. let was = sym (ap (λ (d : Disk). d.told) same) ∙ told in are_attached files t (chain.lent t was) (short t was);
     }
 
 -- what a folder lends tells them
-pub lent_here : (files : List LinkedFile) (old mid : Hosted) (lent : Disk) → NoneTwice (names_of files) → WhereTold old.folder (λ f. BeginsInUse files × AreOpened (contents f) files) → Lends (names_of files) old mid lent
+lent_here : (files : List LinkedFile) (old mid : Hosted) (lent : Disk) → NoneTwice (names_of files) → WhereTold old.folder (λ f. BeginsInUse files × AreOpened (contents f) files) → Lends (names_of files) old mid lent
     → WhereTold lent.told (AreLent files)
 lent_here files old mid lent once opened lends t told = by_folder old.folder refl
   where
@@ -94,3 +93,20 @@ lent_here files old mid lent once opened lends t told = by_folder old.folder ref
     by_folder (Some f) e =
         let same : attached_trace (names_of files) f ≡ t = same_Some (attached_trace (names_of files) f) t (sym (told_is ∙ ap (option_map (attached_trace (names_of files))) e) ∙ told) in
         subst (AreLent files) same (are_lent files f once (opened f e).0 (opened f e).1)
+
+linked_lent : (linked : Linked) (old mid : Hosted) (lent : Disk) → IsLinkedChain linked old → Lends (names_of linked.files) old mid lent → IsLentChain linked.files lent
+linked_lent linked old mid lent chain lends =
+    let once : NoneTwice (names_of linked.files) = last_once linked.retired (names_of linked.files) chain.once in
+    record {
+      all = ap (λ (d : Disk). d.files) lends.disk_is ∙ length-map linked.files (λ (f : LinkedFile). f.name);
+      few = chain.few;
+      once = once;
+      served = chain.served;
+      line = chain.line;
+      lent = lent_here linked.files old mid lent once (λ f told. ((chain.chain f told).in_use, (chain.chain f told).opened)) lends;
+    }
+
+-- the files of what was linked, as a host lends them
+pub lent_chain : (linked : Linked) (files : List LinkedFile) (old mid : Hosted) (lent : Disk) → files ≡ linked.files → IsLinkedChain linked old → Lends (names_of files) old mid lent → IsLentChain files lent
+lent_chain linked files old mid lent same chain lends =
+    subst (λ fs. IsLentChain fs lent) (sym same) (linked_lent linked old mid lent chain (subst (λ fs. Lends (names_of fs) old mid lent) same lends))

@@ -33,7 +33,7 @@ use Rattle.vhdx_app.specs.Causes.{LeavesStoreBy, meaning_of_chain}
 use Rattle.vhdx_app.specs.Commands.{Lends}
 use Rattle.vhdx_app.specs.Refusals.{Refusal}
 use Rattle.link_rules.specs.declared.linked.Linked.{Linked}
-use Rattle.vhdx_app.specs.Sessions.{CanMerge, HasNotMerged, HasNotRunWith, HasRunMergeOf, HasRunWith, IsBarredMerge, IsChainIn, IsMergeRefusal, NotRunOver, PlanHasFile, RefusesMergeOf, RunOver, StartHasFile, not_started, unread}
+use Rattle.vhdx_app.specs.Sessions.{CanMerge, HasNotMerged, HasNotRunWith, HasRunMergeOf, HasRunWith, IsBarredMerge, IsChainIn, IsLinkedChain, IsMergeRefusal, NotRunOver, PlanHasFile, RefusesMergeOf, RunOver, StartHasFile, not_started, unread}
 use Rattle.vhdx_app.specs.Starts.{is_leaf}
 use Rattle.vhdx_app.specs.Steps.{leaf_left_names}
 use Rattle.vhdx_app.specs.declared.refusal.StepsRefusal.{StepsRefusal}
@@ -89,7 +89,7 @@ module _ (mode : Mode) (retired : List (List ℕ)) (old mid : Hosted) (lent disk
   abbrev Away : Type 0
   Away = WhereTold mid.folder (λ folder. WhereTold disk.told (λ trace. AreAway trace folder))
 
-  pub back_all : (merge : Option (List ℕ)) (files : List LinkedFile) (names : List (List ℕ)) (result : Result ScriptRun StepsRefusal) → names ≡ names_of files → IsLine files → NoneTwice (retired ++ names_of files)
+  back_all : (merge : Option (List ℕ)) (files : List LinkedFile) (names : List (List ℕ)) (result : Result ScriptRun StepsRefusal) → names ≡ names_of files → IsLine files → NoneTwice (retired ++ names_of files)
       → WhereTold old.folder (IsChainIn (record { retired = retired; files = files })) → Lends (names_of files) old mid lent → IfOk result (λ run. HasRunWith mode merge files names lines run lent disk before after)
       → IfErr result (HasNotRunWith mode merge files lent disk before after) → Away
   back_all None files names result same line once chain lends ran none =
@@ -105,7 +105,7 @@ module _ (mode : Mode) (retired : List (List ℕ)) (old mid : Hosted) (lent disk
 -- ---- and then
 
 module _ (mode : Mode) (retired : List (List ℕ)) (old mid now : Hosted) (lent disk : StoreDisk) (before after : Option (List (List ℕ))) (lines : List Line) (idle : WhereTold old.folder AllIdle) where
-  pub run_all : (merge : Option (List ℕ)) (files : List LinkedFile) (names : List (List ℕ)) (result : Result ScriptRun StepsRefusal) → CanMerge mode merge → names ≡ names_of files → IsLine files → All IsServed files
+  run_all : (merge : Option (List ℕ)) (files : List LinkedFile) (names : List (List ℕ)) (result : Result ScriptRun StepsRefusal) → CanMerge mode merge → names ≡ names_of files → IsLine files → All IsServed files
       → NoneTwice (retired ++ names_of files) → WhereTold old.folder (IsChainIn (record { retired = retired; files = files })) → Lends (names_of files) old mid lent
       → WhereTold disk.told (λ trace. now.folder ≡ option_map (given_back trace) mid.folder) → KeepsStore disk mid now → RoseWhere (HasFailed disk) mid.faults now.faults
       → IfOk result (λ run. HasRunWith mode merge files names lines run lent disk before after) → IfErr result (HasNotRunWith mode merge files lent disk before after)
@@ -131,7 +131,7 @@ module _ (mode : Mode) (retired : List (List ℕ)) (old mid now : Hosted) (lent 
               h.counted h.ended h.quiet (merge.drawn retired leaf others old mid lent disk chain lends before after name is lines run h)
       by_mode ReadOnly can = absurd can
 
-  pub not_run_all : (merge : Option (List ℕ)) (files : List LinkedFile) (names : List (List ℕ)) (result : Result ScriptRun StepsRefusal) → CanMerge mode merge → names ≡ names_of files → IsLine files → All IsServed files
+  not_run_all : (merge : Option (List ℕ)) (files : List LinkedFile) (names : List (List ℕ)) (result : Result ScriptRun StepsRefusal) → CanMerge mode merge → names ≡ names_of files → IsLine files → All IsServed files
       → NoneTwice (retired ++ names_of files) → WhereTold old.folder (IsChainIn (record { retired = retired; files = files })) → Lends (names_of files) old mid lent
       → WhereTold disk.told (λ trace. now.folder ≡ option_map (given_back trace) mid.folder) → KeepsStore disk mid now → RoseWhere (HasFailed disk) mid.faults now.faults
       → IfOk result (λ run. HasRunWith mode merge files names lines run lent disk before after) → IfErr result (HasNotRunWith mode merge files lent disk before after)
@@ -146,6 +146,37 @@ module _ (mode : Mode) (retired : List (List ℕ)) (old mid now : Hosted) (lent 
       by_mode Guests can =
           not_merged retired leaf others old mid now lent disk idle served once chain lends back_is past_is count before after name x (leaves_all retired leaf others old mid lent disk chain lends before after name x none)
       by_mode ReadOnly can = absurd can
+
+-- ---- of what was linked, whose files are these
+
+module _ (mode : Mode) (merge : Option (List ℕ)) (linked : Linked) (files : List LinkedFile) (names : List (List ℕ)) (lines : List Line) (result : Result ScriptRun StepsRefusal) (old mid : Hosted) (lent disk : StoreDisk) (before after : Option (List (List ℕ)))
+    (same : files ≡ linked.files) (named : names ≡ names_of files) (chain : IsLinkedChain linked old) (lends : Lends (names_of files) old mid lent) (ran : IfOk result (λ run. HasRunWith mode merge files names lines run lent disk before after))
+    (none : IfErr result (HasNotRunWith mode merge files lent disk before after)) where
+  line : IsLine files
+  line = subst IsLine (sym same) chain.line
+
+  served : All IsServed files
+  served = subst (All IsServed) (sym same) chain.served
+
+  once : NoneTwice (linked.retired ++ names_of files)
+  once = subst (λ fs. NoneTwice (linked.retired ++ names_of fs)) (sym same) chain.once
+
+  is_chain : WhereTold old.folder (IsChainIn (record { retired = linked.retired; files = files }))
+  is_chain = subst (λ fs. WhereTold old.folder (IsChainIn (record { retired = linked.retired; files = fs }))) (sym same) chain.chain
+
+  pub linked_back : WhereTold mid.folder (λ folder. WhereTold disk.told (λ trace. AreAway trace folder))
+  linked_back = back_all mode linked.retired old mid lent disk before after lines chain.idle merge files names result named line once is_chain lends ran none
+
+  module _ (now : Hosted) (can : CanMerge mode merge) (back_is : WhereTold disk.told (λ trace. now.folder ≡ option_map (given_back trace) mid.folder)) (past_is : KeepsStore disk mid now) (count : RoseWhere (HasFailed disk) mid.faults now.faults) where
+    pub linked_ran : IfOk result (λ run. RunOver mode merge linked lines run old now before after)
+    linked_ran =
+        subst (λ fs. IfOk result (λ run. RunOver mode merge (record { retired = linked.retired; files = fs }) lines run old now before after)) same
+        (run_all mode linked.retired old mid now lent disk before after lines chain.idle merge files names result can named line served once is_chain lends back_is past_is count ran none)
+
+    pub linked_not_run : IfErr result (NotRunOver mode merge linked old now before after)
+    linked_not_run =
+        subst (λ fs. IfErr result (NotRunOver mode merge (record { retired = linked.retired; files = fs }) old now before after)) same
+        (not_run_all mode linked.retired old mid now lent disk before after lines chain.idle merge files names result can named line served once is_chain lends back_is past_is count ran none)
 
 -- ---- a merge where files are only read
 

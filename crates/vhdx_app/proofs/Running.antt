@@ -16,7 +16,7 @@ use Rattle.link_rules.specs.Touches.{IsOnWay, TouchesSafely}
 use Rattle.link_rules.proofs.Safe.{none_safely}
 use Rattle.vhdx_app.specs.Folders.{IsReplayedIn, OnlyFollows}
 use Rattle.printing.specs.Sent.{Sent, cut, whole}
-use Rattle.vhdx_app.specs.Runs.{AskMerge, Ends, HasMerge, FollowsFirst, Runs}
+use Rattle.vhdx_app.specs.Runs.{AskMerge, Ends, HasMerge, FollowsFirst, IsRun, Runs, no_memory, usage}
 use Rattle.vhdx_app.specs.Worlds.{World, world}
 use Rattle.printing.specs.declared.status.Status.{Status}
 use Rattle.printing.specs.declared.status.Status.TheVariants.{Done, Refused, Usage, Fault, NoMemory}
@@ -45,6 +45,22 @@ module _ (words : List (List ℕ)) (told : Option Request) (h : MatchOption told
     quiet = ends.quiet;
     home = ends.home;
     idle = λ fault none. ends.idle fault (λ memory has. none memory (wish.steps leaf merge read_only, subst (Asks words) same (asked words told request is h), has));
+  }
+
+  -- what was told is done, and nothing else is asked for
+  pub told_is_run : (request : Request) → told ≡ Some request → (before now : World) (status : Status) → Runs (plain request) before now status → Ends (AskMerge words) before now status → IsRun words before now status
+  told_is_run request is before now status runs ends = record {
+    asked = runs_for request is before now status runs;
+    nothing = λ nothing. absurd (some_asked request is nothing);
+    ends = ends;
+  }
+
+  -- nothing was told, and nothing is done
+  pub none_is_run : told ≡ None → (before : World) (status : Status) → status ≡ Usage → Ends (AskMerge words) before before status → IsRun words before before status
+  none_is_run is before status ended ends = record {
+    asked = λ w asks. absurd (none_asked is w asks);
+    nothing = λ nothing. usage ended refl;
+    ends = ends;
   }
 
 -- ---- the commands
@@ -91,6 +107,14 @@ module _ (host : Hosted) (drawn : Option (List (List ℕ))) (left : Option (List
   no_memory_runs sent (wish.steps leaf merge read_only) = unread_runs leaf merge read_only (world host drawn left rises sunk old) (world host drawn left rises after new) status idle refl refl NoMemory (codes "no memory\n") sent refl (none_taken left)
   no_memory_runs sent wish.help = record { printed = record { meant = NoMemory; text = codes "no memory\n"; said = refl; sent = sent }; stays = refl }
   no_memory_runs sent wish.version = record { printed = record { meant = NoMemory; text = codes "no memory\n"; said = refl; sent = sent }; stays = refl }
+
+  -- memory ran out for the words
+  pub no_memory_is_run : (words : List (List ℕ)) → Sent sunk after old new NoMemory (codes "no memory\n") status → IsRun words (world host drawn left rises sunk old) (world host drawn left rises after new) status
+  no_memory_is_run words sent = record {
+    asked = λ w asks. no_memory_runs sent w;
+    nothing = λ nothing. no_memory refl sent;
+    ends = sent_ends NoMemory (codes "no memory\n") (λ e. cc) sent;
+  }
 
 pub usage_ends : (host : Hosted) (drawn : Option (List (List ℕ))) (left : Option (List ℕ)) (rises : ℕ) (sunk : Option (List ℕ)) (old : ℕ) (status : Status) → WhereTold host.folder AllIdle → status ≡ Usage → {merges : Type 0} → Ends merges (world host drawn left rises sunk old) (world host drawn left rises sunk old) status
 usage_ends host drawn left rises sunk old status idle is = record { rose = λ fault. let e : Usage ≡ Fault = sym is ∙ fault in cc; quiet = λ fault. (refl, refl, refl); home = home_still host.folder host.folder idle refl; idle = λ fault none f told. idle }

@@ -1,7 +1,7 @@
--- What a run does, by what the words ask for.
+-- What a run does, by what the words ask for; and, at the end, all that is promised of one (`IsRun`).
 use Rattle.std.specs.Prelude.{◌≡◌, ◌≢◌, ◌⊎◌, ⊤, ℕ, List, Option, Some, None, codes}
 use Rattle.command_line.specs.Requests.{File as NewFile, Wish, dump, help, info, make, steps, version}
-use Rattle.command_line.specs.Words.{Asks, help_text, version_text}
+use Rattle.command_line.specs.Words.{Asks, AsksNothing, help_text, version_text}
 use Rattle.make_file.specs.Makes.{Outside, outside}
 use Rattle.store_model.specs.Cause.{Rose}
 use Rattle.store_model.specs.Disk.{WhereTold}
@@ -86,3 +86,17 @@ pub record Ends (merges : Type 0) (before now : World) (status : Status) : Type 
       → (now.host.faults ≡ before.host.faults) × (now.source_faults ≡ before.source_faults) × (now.sink_faults ≡ before.sink_faults)
   pub home : WhereTold before.host.folder (λ folder. WhereTold now.host.folder AllHome)
   pub idle : status ≢ Fault → (status ≡ NoMemory → ¬ merges) → WhereTold before.host.folder (λ folder. WhereTold now.host.folder AllIdle)
+
+-- ---- the promise
+
+-- All that the program promises of a run: by the words that it was given, what is outside of it `before` and `now`, when it has ended, and
+-- the status with which it ended.
+pub record IsRun (words : List (List ℕ)) (before now : World) (status : Status) : Type 0 where
+  -- Where the words ask for something, the run is one of that command: what is printed under which status, and what becomes of the files,
+  -- at the end and at each moment, whatever a crash leaves of them then.
+  pub asked : (wish : Wish) → Asks words wish → Runs wish before now status
+  -- Where they ask for nothing, nothing is done: the status says so, or it is told that memory ran out.
+  pub nothing : AsksNothing words → RunsNothing before now status
+  -- However it ends: a fault is answered where one was met, and only there; no file is away, and nothing of any is unsynced, but after a
+  -- fault, and where memory ran out and a merge was to start.
+  pub ends : Ends (AskMerge words) before now status

@@ -1,5 +1,5 @@
 -- What the functions of `steps` say of themselves; what a run promises doesn't rest on these.
-use Rattle.std.specs.Prelude.{◌≡◌, ◌≢◌, ◌⊎◌, ⊤, ◌<◌, ◌+◌, ◌++◌, ℕ, length, Bool, true, false, List, [], ◌∷◌, take, codes, Option, Some, None, Result, Ok, Err, IfErr, IfOk, IfSome, OnOk, String, string_bytes, slice_index_or}
+use Rattle.std.specs.Prelude.{◌≡◌, ◌≢◌, ◌⊎◌, ⊤, ◌<◌, ◌≤◌, ◌+◌, ◌++◌, ℕ, All, length, Bool, true, false, List, [], ◌∷◌, take, codes, Option, Some, None, Result, Ok, Err, IfErr, IfOk, IfSome, OnOk, String, string_bytes, slice_index_or}
 use Rattle.file_open.specs.Causes.{Meaning, refuses, host_failed, store_failed, no_memory}
 use Rattle.make_file.specs.Identifiers.{Draws, first_unfit}
 use Rattle.store_model.specs.Cause.{Rose}
@@ -18,14 +18,15 @@ use Rattle.guest_model.specs.History.{History, replay}
 use Rattle.guest_model.specs.declared.refusal.ChainRefusal.TheVariants as calls
 use Rattle.chain_model.specs.Files.{HasParts, OpensTo, at_rest}
 use Rattle.chain_model.specs.Images.{name_of}
+use Rattle.chain_model.specs.Members.{NoneTwice}
 use Rattle.chain_model.specs.PhaseLaws.{IsNamedOnce}
 use Rattle.link_rules.specs.Causes.{AnswersLinking}
-use Rattle.link_rules.specs.Chains.{Links, names_of}
-use Rattle.link_rules.specs.Effects.{HasReplayed, LeavesBy, StaysIdle, linked_names}
+use Rattle.link_rules.specs.Chains.{Links, most_files, names_of}
+use Rattle.link_rules.specs.Effects.{HasReplayed, IsServed, LeavesBy, StaysIdle, linked_names}
 use Rattle.link_rules.specs.Causes as link
-use Rattle.link_rules.specs.Folders.{ReturnsHealthy, contents}
+use Rattle.link_rules.specs.Folders.{AllIdle, ReturnsHealthy, contents}
 use Rattle.link_rules.specs.Laws.{IsTheChain}
-use Rattle.link_rules.specs.Lines.{IsLinkedUp}
+use Rattle.link_rules.specs.Lines.{IsLine, IsLinkedUp}
 use Rattle.link_rules.specs.Touches.{IsOnWay, TouchesSafely}
 use Rattle.link_rules.specs.declared.linked.Linked.{Linked}
 use Rattle.link_rules.specs.declared.linked.LinkedFile.{LinkedFile}
@@ -182,6 +183,16 @@ pub record AreLent (files : List LinkedFile) (trace : Trace) : Type 0 where
   pub in_use : BeginsInUse files
   pub each : AreLentFrom trace 0 files
 
+-- The files of a chain are lent as this store, and no other is, whether it tells what they hold or not: at most 64 with names that differ,
+-- each followed by its parent.
+pub record IsLentChain (files : List LinkedFile) (disk : Disk) : Type 0 where
+  pub all : disk.files ≡ length files
+  pub few : length files ≤ most_files
+  pub once : NoneTwice (names_of files)
+  pub served : All IsServed files
+  pub line : IsLine files
+  pub lent : WhereTold disk.told (AreLent files)
+
 -- what a script that wasn't run leaves of the store's counts
 abbrev pub LeavesLent : {R : Type 0} → Disk → Disk → Meaning R → Type 0
 LeavesLent old new (refuses refusal) = new ≡ old
@@ -255,6 +266,16 @@ pub record IsChainIn (linked : Linked) (folder : List Held) : Type 0 where
   pub opened : AreOpened (contents folder) linked.files
   pub in_use : BeginsInUse linked.files
   pub chain : IsTheChain (contents folder) (leaf_name linked) linked
+
+-- What was linked is a chain of the host's files, whether it tells them or not, that may be lent: nothing of any file is unsynced; they are
+-- at most 64 with names that differ, also from those of the retired leaves before them, each followed by its parent.
+pub record IsLinkedChain (linked : Linked) (host : Hosted) : Type 0 where
+  pub idle : WhereTold host.folder AllIdle
+  pub few : length linked.files ≤ most_files
+  pub once : NoneTwice (linked_names linked)
+  pub served : All IsServed linked.files
+  pub line : IsLine linked.files
+  pub chain : WhereTold host.folder (IsChainIn linked)
 
 -- the host's count rose, and the store that came back last counts this fault
 pub record IsCounted (old new : Hosted) (fault : StoreFault) : Type 0 where

@@ -1,15 +1,12 @@
 //! The command that runs a script over the disk of a leaf.
 
-ghost use Rattle.std.specs.Prelude.{◌≡◌, ◌≤◌, ◌^◌, All, IfErr, IfOk, IfSome, OnOk, false, true, length, option_map};
-ghost use Rattle.chain_model.specs.Members.{NoneTwice};
-ghost use Rattle.link_rules.specs.Chains.{most_files, names_of as file_names};
-ghost use Rattle.link_rules.specs.Effects.{IsServed, linked_names};
+ghost use Rattle.std.specs.Prelude.{◌≡◌, ◌≤◌, ◌^◌, IfErr, IfOk, IfSome, OnOk, false, true, length, option_map};
+ghost use Rattle.link_rules.specs.Chains.{names_of as file_names};
 ghost use Rattle.link_rules.specs.Folders.{AllIdle};
-ghost use Rattle.link_rules.specs.Lines.{IsLine};
 ghost use Rattle.script_session.specs.MergeRunning.{HasRunLeafMerge, HasRunMerge};
 ghost use Rattle.script_session.specs.Running.{HasRunScript};
 ghost use Rattle.store_model.specs.Disk.{WhereTold};
-ghost use Rattle.vhdx_app.specs.Sessions.{AreLent, CanMerge, HasNotMerged, HasNotRun, HasNotRunWith, HasRunMergeOf, HasRunWith, IsBarredMerge, IsChainIn, LeafIsRun, NotRunOver, RunOver, mode_of};
+ghost use Rattle.vhdx_app.specs.Sessions.{CanMerge, HasNotMerged, HasNotRun, HasNotRunWith, HasRunMergeOf, HasRunWith, IsBarredMerge, IsLentChain, IsLinkedChain, LeafIsRun, NotRunOver, RunOver, mode_of};
 ghost use Rattle.vhdx_app.specs.declared.refusal.StepsRefusal.TheVariants as steps;
 ghost use Rattle.vhdx_app.specs.Starts.{is_leaf};
 ghost use Rattle.vhdx_app.specs.Steps.{RunsSteps};
@@ -44,15 +41,10 @@ fn run_lent<S: Store, I: Ids>(
     piece: &mut Piece,
     room: &mut [u8],
 ) -> (S, Result<ScriptRun, StepsRefusal>)
-    requires all { (S.disk store).files ≡ length files.now }
-    requires few { length files.now ≤ most_files }
-    requires once { NoneTwice (file_names files.now) }
-    requires served { All IsServed files.now }
-    requires line { IsLine files.now }
+    requires chain { IsLentChain files.now (S.disk store) }
     requires lines { length lines.now ≤ 2 ^ 20 }
     requires slot { piece.old.filled ≡ false }
     requires room { length room.old ≡ 1048576 }
-    requires lent { WhereTold (S.disk store).told (AreLent files.now) }
     ensures ran { IfOk result.1 (λ run. HasRunScript mode files.now names.now lines.now run (S.disk store) (S.disk result.0) (I.drawn ids.old)
         (I.drawn ids.new)) }
     ensures err { IfErr result.1 (HasNotRun mode files.now (S.disk store) (S.disk result.0) (I.drawn ids.old) (I.drawn ids.new)) }
@@ -90,16 +82,11 @@ fn merge_leaf<S: Store, I: Ids>(
     room: &mut [u8],
 ) -> (S, Result<ScriptRun, StepsRefusal>)
     requires leaf { is_leaf files.now source.now ≡ true }
-    requires all { (S.disk store).files ≡ length files.now }
-    requires few { length files.now ≤ most_files }
-    requires once { NoneTwice (file_names files.now) }
-    requires served { All IsServed files.now }
-    requires line { IsLine files.now }
+    requires chain { IsLentChain files.now (S.disk store) }
     requires names { names.now ≡ file_names files.now }
     requires lines { length lines.now ≤ 2 ^ 20 }
     requires slot { piece.old.filled ≡ false }
     requires room { length room.old ≡ 1048576 }
-    requires lent { WhereTold (S.disk store).told (AreLent files.now) }
     ensures ran { IfOk result.1 (λ run. HasRunLeafMerge files.now names.now lines.now run (S.disk store) (S.disk result.0) (I.drawn ids.old)
         (I.drawn ids.new)) }
     ensures err { IfErr result.1 (HasNotMerged files.now source.now (S.disk store) (S.disk result.0) (I.drawn ids.old) (I.drawn ids.new)) }
@@ -127,16 +114,11 @@ fn merge_below<S: Store, I: Ids>(
     room: &mut [u8],
 ) -> (S, Result<ScriptRun, StepsRefusal>)
     requires below { is_leaf files.now source.now ≡ false }
-    requires all { (S.disk store).files ≡ length files.now }
-    requires few { length files.now ≤ most_files }
-    requires once { NoneTwice (file_names files.now) }
-    requires served { All IsServed files.now }
-    requires line { IsLine files.now }
+    requires chain { IsLentChain files.now (S.disk store) }
     requires names { names.now ≡ file_names files.now }
     requires lines { length lines.now ≤ 2 ^ 20 }
     requires slot { piece.old.filled ≡ false }
     requires room { length room.old ≡ 1048576 }
-    requires lent { WhereTold (S.disk store).told (AreLent files.now) }
     ensures ran { IfOk result.1 (λ run. HasRunMerge files.now source.now names.now lines.now run (S.disk store) (S.disk result.0) (I.drawn ids.old)
         (I.drawn ids.new)) }
     ensures err { IfErr result.1 (HasNotMerged files.now source.now (S.disk store) (S.disk result.0) (I.drawn ids.old) (I.drawn ids.new)) }
@@ -163,16 +145,11 @@ fn merge_lent<S: Store, I: Ids>(
     piece: &mut Piece,
     room: &mut [u8],
 ) -> (S, Result<ScriptRun, StepsRefusal>)
-    requires all { (S.disk store).files ≡ length files.now }
-    requires few { length files.now ≤ most_files }
-    requires once { NoneTwice (file_names files.now) }
-    requires served { All IsServed files.now }
-    requires line { IsLine files.now }
+    requires chain { IsLentChain files.now (S.disk store) }
     requires names { names.now ≡ file_names files.now }
     requires lines { length lines.now ≤ 2 ^ 20 }
     requires slot { piece.old.filled ≡ false }
     requires room { length room.old ≡ 1048576 }
-    requires lent { WhereTold (S.disk store).told (AreLent files.now) }
     ensures ran { IfOk result.1 (λ run. HasRunMergeOf (is_leaf files.now source.now) files.now source.now names.now lines.now run (S.disk store)
         (S.disk result.0) (I.drawn ids.old) (I.drawn ids.new)) }
     ensures err { IfErr result.1 (HasNotMerged files.now source.now (S.disk store) (S.disk result.0) (I.drawn ids.old) (I.drawn ids.new)) }
@@ -197,16 +174,11 @@ fn run_on<S: Store, I: Ids>(
     piece: &mut Piece,
     room: &mut [u8],
 ) -> (S, Result<ScriptRun, StepsRefusal>)
-    requires all { (S.disk store).files ≡ length files.now }
-    requires few { length files.now ≤ most_files }
-    requires once { NoneTwice (file_names files.now) }
-    requires served { All IsServed files.now }
-    requires line { IsLine files.now }
+    requires chain { IsLentChain files.now (S.disk store) }
     requires names { names.now ≡ file_names files.now }
     requires lines { length lines.now ≤ 2 ^ 20 }
     requires slot { piece.old.filled ≡ false }
     requires room { length room.old ≡ 1048576 }
-    requires lent { WhereTold (S.disk store).told (AreLent files.now) }
     ensures ran { IfOk result.1 (λ run. HasRunWith mode source.now files.now names.now lines.now run (S.disk store) (S.disk result.0)
         (I.drawn ids.old) (I.drawn ids.new)) }
     ensures err { IfErr result.1 (HasNotRunWith mode source.now files.now (S.disk store) (S.disk result.0) (I.drawn ids.old) (I.drawn ids.new)) }
@@ -240,12 +212,7 @@ fn run_linked<H: Host, I: Ids>(
     piece: &mut Piece,
     room: &mut [u8],
 ) -> Result<ScriptRun, StepsRefusal>
-    requires idle { WhereTold (H.hosted host.old).folder AllIdle }
-    requires few { length linked.now.files ≤ most_files }
-    requires once { NoneTwice (linked_names linked.now) }
-    requires served { All IsServed linked.now.files }
-    requires line { IsLine linked.now.files }
-    requires chain { WhereTold (H.hosted host.old).folder (IsChainIn linked.now) }
+    requires chain { IsLinkedChain linked.now (H.hosted host.old) }
     requires lines { length lines.now ≤ 2 ^ 20 }
     requires slot { piece.old.filled ≡ false }
     requires room { length room.old ≡ 1048576 }

@@ -12,7 +12,7 @@ returns-in-Err-clause-err g c = unread c.in-Err.refusal c.in-Err.ensures.store r
 
 pub run_leaf_merge-store-requires-clause-files : goal.run_leaf_merge-store-requires-clause-files
 run_leaf_merge-store-requires-clause-files g c =
-    can_start c.args.files.now (g.S.Store.disk c.args.store) (g.S.Store.disk c.check_lengths.new.store) c.in_default.ensures.store c.requires.all c.requires.few c.requires.once c.requires.served c.requires.line c.requires.lent c.in_default.ensures.short
+    can_start c.args.files.now (g.S.Store.disk c.args.store) (g.S.Store.disk c.check_lengths.new.store) c.in_default.ensures.store c.requires.chain c.in_default.ensures.short
 
 pub merge_refused-requires : goal.merge_refused-requires
 merge_refused-requires g c =

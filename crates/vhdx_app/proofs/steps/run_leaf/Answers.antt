@@ -13,13 +13,17 @@ returns-in_err-linked g c =
     let e = c.in_err-linked.ensures in
     unlinked c.in_err-linked.field-0.0 (err_is c.from_residual-in_err-linked.result (steps.Chain (chain.Unlinked c.in_err-linked.field-0.0)) c.from_residual-in_err-linked.ensures.1) (record { answer = e.answer; moments = e.moments; left = e.leaves }) refl
 
-pub run_linked-requires-clause-idle : goal.run_linked-requires-clause-idle
-run_linked-requires-clause-idle g c = still_idle (linked_names c.in_ok-linked.linked) _ _ c.requires.idle c.in_ok-linked.ensures.leaves
-
 pub run_linked-requires-clause-chain : goal.run_linked-requires-clause-chain
 run_linked-requires-clause-chain g c =
     let e = c.in_ok-linked.ensures in
-    chain_in c.args.leaf.now c.in_ok-linked.linked _ _ (record { links = e.answer; up = e.linked; moments = e.moments; replayed = e.leaves })
+    record {
+      idle = still_idle (linked_names c.in_ok-linked.linked) _ _ c.requires.idle e.leaves;
+      few = e.few;
+      once = e.linked.once;
+      served = e.numbers;
+      line = e.linked.line;
+      chain = chain_in c.args.leaf.now c.in_ok-linked.linked _ _ (record { links = e.answer; up = e.linked; moments = e.moments; replayed = e.leaves });
+    }
 
 pub returns : goal.returns
 returns g c =
