@@ -1,11 +1,12 @@
 //! Ranges at their edges, and entries that are kept.
 
 use crate::asking::{are_bytes, ask, done};
-use guest_model::{Call, CallRef, Caller, ChainRefusal, KeepAll, KeepMarks, Recorder, check_range};
+use crate::questions::Question;
+use guest_model::{Call, CallRef, Caller, ChainRefusal, KeepAll, KeepMarks, Recorder};
 use std::process::Abort;
 
-// A disk of 1 GB, in sectors.
-const SECTORS: u64 = 2_097_152;
+/// A disk of 1 GB, in sectors.
+pub const SECTORS: u64 = 2_097_152;
 
 const EMPTY: ChainRefusal = ChainRefusal::EmptyRange;
 
@@ -32,23 +33,15 @@ const FAR_BEHIND: ChainRefusal = ChainRefusal::OutOfRange {
     sectors: SECTORS,
 };
 
-// Ranges with what they are answered.
-static RANGES: [(u64, u64, Result<(), ChainRefusal>); 6] = [
-    (2_095_104, 2_048, Ok(())),
-    (u64::MAX, 0, Err(EMPTY)),
-    (u64::MAX, 2_049, Err(TOO_LONG)),
-    (SECTORS, 1, Err(BEHIND)),
-    (2_095_105, 2_048, Err(OVER_THE_END)),
-    (u64::MAX, 1, Err(FAR_BEHIND)),
+/// Ranges with what they are answered.
+pub const RANGES: &[Question] = &[
+    Question::Range(2_095_104, 2_048, Ok(())),
+    Question::Range(u64::MAX, 0, Err(EMPTY)),
+    Question::Range(u64::MAX, 2_049, Err(TOO_LONG)),
+    Question::Range(SECTORS, 1, Err(BEHIND)),
+    Question::Range(2_095_105, 2_048, Err(OVER_THE_END)),
+    Question::Range(u64::MAX, 1, Err(FAR_BEHIND)),
 ];
-
-#[test]
-fn ranges(rt: HostRuntime) {
-    for (row, (first, count, wanted)) in RANGES.iter().enumerate() {
-        let found = check_range(*first, *count, 2_048, SECTORS);
-        ask(&rt, row, found == *wanted);
-    }
-}
 
 // Calls with their numbers, a write of four bytes first.
 static CALLS: [(u64, CallRef<'static>); 3] = [

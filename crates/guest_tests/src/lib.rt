@@ -12,6 +12,8 @@ mod history;
 #[cfg(test)]
 mod memory;
 #[cfg(test)]
+mod questions;
+#[cfg(test)]
 mod scripts;
 #[cfg(test)]
 mod transcripts;
