@@ -1,5 +1,5 @@
 -- A leaf's name that was followed, and what its files then show.
-use Rattle.std.proofs.Common.{◌≡◌, ◌||◌, ℕ, Bool, true, false, zero, ◌+◌, ◌*◌, ◌^◌, ◌<◌, ◌≤◌, List, [], ◌∷◌, ◌++◌, length, take, drop, Option, Some, None, Result, Ok, Err, refl, sym, ap, subst, ◌∙◌, arith}
+use Rattle.std.proofs.Common.{◌≡◌, ◌||◌, ℕ, Bool, true, false, zero, ◌*◌, ◌^◌, ◌≤◌, List, [], ◌∷◌, ◌++◌, length, take, drop, Option, Some, None, Result, Ok, Err, refl, sym, ap, subst, ◌∙◌, arith}
 use Rattle.std.specs.Prelude.{All, option_map}
 use Rattle.std.specs.Result.{IsErrAnd}
 use Rattle.std.specs.List.{AllByRecursion}
@@ -12,7 +12,6 @@ use Rattle.store_model.specs.Disk.{WhereTold}
 use Rattle.store_model.specs.Folder.{Held, Hosted}
 use Rattle.store_model.proofs.Throughout.{throughout_join, throughout_weaken}
 use Rattle.vx_base.specs.declared.parts.Geometry.{Geometry}
-use Rattle.vx_base.specs.declared.parts.Parts.{Parts}
 use Rattle.guest_model.specs.Calls.{Disk, bytes_of}
 use Rattle.chain_model.specs.Files.{Files, IsIn, OpensTo, at_rest}
 use Rattle.chain_model.specs.Members.{Member, NoneTwice, Ties, disk_of, layers_of}
@@ -20,10 +19,7 @@ use Rattle.chain_model.proofs.Layering.{length-flat}
 use Rattle.chain_model.proofs.Linking.{one_member}
 use Rattle.chain_model.proofs.NewFiles.{opened_parts}
 use Rattle.file_open.specs.Causes.{IfCause, Meaning, refuses, host_failed, store_failed, no_memory, cause_in}
-use Rattle.file_open.specs.Opening.{Opens}
-use Rattle.file_open.specs.Opening as opening
 use Rattle.file_open.proofs.Again.{opens_again}
-use Rattle.vhdx_format.specs.OpenedFiles.{OpensFile}
 use Rattle.vhdx_format.specs.SettledFiles.{StandsFor}
 use Rattle.link_rules.specs.Chains.{Links, OpensIn, ParentIs, ParentsAre, present, names_of, is_among}
 use Rattle.link_rules.specs.Chains as chains
@@ -45,7 +41,6 @@ use Rattle.vhdx_app.specs.Starts.{StandsSo}
 use Rattle.guest_model.specs.Ranges.{range_refusal}
 use Rattle.guest_model.specs.declared.refusal.ChainRefusal.{ChainRefusal as CallRefusal}
 use Rattle.vhdx_app.specs.Commands.{AreAnew, AreOpened, HasFollowed, HasGeometry, HasRead, IsOpened, LeavesFollowed, LeavesFollowedBy, LeavesReadBy, OnlyAttaches}
-use Rattle.vhdx_app.specs.Commands as code
 use Rattle.vhdx_app.specs.Dump.{Finds}
 use Rattle.vhdx_app.specs.Dump as dump
 use Rattle.shown_ids.specs.Shown.{shown}
