@@ -18,6 +18,8 @@ mod numbers;
 #[cfg(test)]
 mod places;
 #[cfg(test)]
+mod questions;
+#[cfg(test)]
 mod stores;
 #[cfg(test)]
 mod tables;

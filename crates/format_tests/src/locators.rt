@@ -1,6 +1,7 @@
 //! The locator of a new child, one with a second linkage, and damaged ones.
 
 use crate::asking::{are_bytes, ask, done, given, part};
+use crate::questions::Question;
 use parent_locator::{
     Locator, LocatorRefusal, Pair, build, child_locator, fits, linkage, parent_name, parse,
     second_linkage,
@@ -97,8 +98,8 @@ fn names<R: Abort>(rt: &R, alloc: Global, pairs: &[Pair], wanted: Option<&str>) 
     }
 }
 
-// Whether a locator with this path names that parent: none where it is refused for want of a name.
-fn is_named<R: Abort>(
+/// Whether a locator with this path names that parent: none where it is refused for want of a name.
+pub fn is_named<R: Abort>(
     rt: &R,
     alloc: Global,
     key: &'static str,
@@ -117,50 +118,35 @@ fn is_named<R: Abort>(
     }
 }
 
-// Paths with the parents that they name.
-static PATHS: [(&str, &str, Option<&str>); 7] = [
-    ("relative_path", ".\\b.vhdx", Some("b.vhdx")),
-    ("relative_path", "..\\old/b.vhdx", Some("b.vhdx")),
-    ("relative_path", "b.vhdx", Some("b.vhdx")),
-    ("volume_path", "\\\\?\\v\\b.vhdx", Some("b.vhdx")),
-    ("another_key", "b.vhdx", Some("last.vhdx")),
-    ("relative_path", ".\\", None),
-    ("relative_path", "..", None),
+/// Paths with the parents that they name.
+pub const PATHS: &[Question] = &[
+    Question::Path("relative_path", ".\\b.vhdx", Some("b.vhdx")),
+    Question::Path("relative_path", "..\\old/b.vhdx", Some("b.vhdx")),
+    Question::Path("relative_path", "b.vhdx", Some("b.vhdx")),
+    Question::Path("volume_path", "\\\\?\\v\\b.vhdx", Some("b.vhdx")),
+    Question::Path("another_key", "b.vhdx", Some("last.vhdx")),
+    Question::Path("relative_path", ".\\", None),
+    Question::Path("relative_path", "..", None),
 ];
 
-#[test]
-fn the_last_component_names_the_parent(rt: HostRuntime) {
-    for (row, (key, path, wanted)) in PATHS.iter().enumerate() {
-        ask(&rt, row, is_named(&rt, rt.alloc(), key, path, *wanted));
-    }
-}
-
-// The refusal of the child's locator with one byte changed: none where it is read.
-fn damaged<R: Abort>(rt: &R, alloc: Global, at: usize, byte: u8) -> Option<LocatorRefusal> {
+/// The refusal of the child's locator with one byte changed: none where it is read.
+pub fn damaged<R: Abort>(rt: &R, alloc: Global, at: usize, byte: u8) -> Option<LocatorRefusal> {
     let mut item = child_of_b(rt, alloc).into_vec();
     assert!(rt; at < item.len());
     item[at] = byte;
     parse(alloc, item.as_slice()).err()
 }
 
-// Bytes that are changed, with the refusals.
-static DAMAGE: [(usize, u8, LocatorRefusal); 8] = [
+/// Bytes that are changed, with the refusals.
+pub const DAMAGE: &[Question] = &[
     // another type; an odd length; an offset past the item; a third entry, in the texts; a lone surrogate
-    (0, 0xB8, LocatorRefusal::BadLocator { entry: 0 }),
-    (28, 27, LocatorRefusal::BadLocator { entry: 0 }),
-    (38, 1, LocatorRefusal::BadLocator { entry: 1 }),
-    (18, 3, LocatorRefusal::BadLocator { entry: 2 }),
-    (189, 0xD8, LocatorRefusal::BadLocator { entry: 1 }),
+    Question::Damage(0, 0xB8, LocatorRefusal::BadLocator { entry: 0 }),
+    Question::Damage(28, 27, LocatorRefusal::BadLocator { entry: 0 }),
+    Question::Damage(38, 1, LocatorRefusal::BadLocator { entry: 1 }),
+    Question::Damage(18, 3, LocatorRefusal::BadLocator { entry: 2 }),
+    Question::Damage(189, 0xD8, LocatorRefusal::BadLocator { entry: 1 }),
     // a linkage that is no identifier's text; none at all; no path
-    (72, b'x', LocatorRefusal::BadLocator { entry: 0 }),
-    (44, b'x', LocatorRefusal::BadLocator { entry: 2 }),
-    (148, b'x', LocatorRefusal::NoParentName),
+    Question::Damage(72, b'x', LocatorRefusal::BadLocator { entry: 0 }),
+    Question::Damage(44, b'x', LocatorRefusal::BadLocator { entry: 2 }),
+    Question::Damage(148, b'x', LocatorRefusal::NoParentName),
 ];
-
-#[test]
-fn damaged_ones_are_refused(rt: HostRuntime) {
-    for (row, (at, byte, wanted)) in DAMAGE.iter().enumerate() {
-        let found = damaged(&rt, rt.alloc(), *at, *byte);
-        ask(&rt, row, found == Some(*wanted));
-    }
-}

@@ -5,6 +5,7 @@ ghost use Rattle.vhdx_format.specs.FileParts.{HasNumbers};
 ghost use Rattle.table_pages.specs.Held.{HasTables};
 
 use crate::asking::{ask, done, zeros};
+use crate::questions::Question;
 use crate::stores::Repeated;
 use block_table::{TableRefusal, check};
 use std::alloc::Global;
@@ -77,35 +78,31 @@ const NO_BITMAP: TableRefusal = TableRefusal::BitmapMissing { index: 1 };
 
 const PAST_THE_END: TableRefusal = TableRefusal::BlockPlace { index: 2 };
 
-// Entries of three blocks and of their bitmap, with what is answered of them in a file of 1 GB. An entry has a state in its
-// lowest bits, and a place in MB from bit 20 on.
-static TABLES: [([u64; 4], Result<(), TableRefusal>); 9] = [
-    ([0x0040_0007, 2, 0x1050_0006, 0x1040_0006], Ok(())),
-    ([0, 0, 0, 0x3ff0_0006], Ok(())),
+/// Entries of three blocks and of their bitmap, with what is answered of them in a file of 1 GB. An entry has a state in its
+/// lowest bits, and a place in MB from bit 20 on.
+pub const TABLES: &[Question] = &[
+    Question::Table([0x0040_0007, 2, 0x1050_0006, 0x1040_0006], Ok(())),
+    Question::Table([0, 0, 0, 0x3ff0_0006], Ok(())),
     // blocks that touch, and those that lie over another or over a bitmap
-    ([0x2040_0006, 0x0040_0006, 0x1040_0006, 0], Ok(())),
-    (
+    Question::Table([0x2040_0006, 0x0040_0006, 0x1040_0006, 0], Ok(())),
+    Question::Table(
         [0x2030_0006, 0x0040_0006, 0x1040_0006, 0],
         Err(BY_THE_THIRD),
     ),
-    (
+    Question::Table(
         [0x0040_0006, 0x0040_0006, 0x0040_0006, 0],
         Err(BY_THE_SECOND),
     ),
-    ([0, 0x0040_0006, 0, 0x1030_0006], Err(BY_THE_BITMAP)),
-    ([0, 0, 0, 0x0040_0007], Err(BITMAP_STATE)),
-    ([0x0040_0006, 0x1050_0007, 0x2060_0007, 0], Err(NO_BITMAP)),
-    ([0, 0, 0x3010_0006, 0], Err(PAST_THE_END)),
+    Question::Table([0, 0x0040_0006, 0, 0x1030_0006], Err(BY_THE_BITMAP)),
+    Question::Table([0, 0, 0, 0x0040_0007], Err(BITMAP_STATE)),
+    Question::Table([0x0040_0006, 0x1050_0007, 0x2060_0007, 0], Err(NO_BITMAP)),
+    Question::Table([0, 0, 0x3010_0006, 0], Err(PAST_THE_END)),
 ];
 
-#[test]
-fn the_first_broken_rule_of_a_table_is_named(rt: HostRuntime) {
-    let parts = child(rt.alloc());
-    for (row, (entries, wanted)) in TABLES.iter().enumerate() {
-        let mut store = table_of(&rt, rt.alloc(), entries);
-        let found = check(rt.alloc(), &mut store, 0, &parts, 1 << 30);
-        ask(&rt, row, found == *wanted);
-    }
+/// What is answered of these entries.
+pub fn checked<R: Abort>(rt: &R, alloc: Global, entries: &[u64; 4]) -> Result<(), TableRefusal> {
+    let mut store = table_of(rt, alloc, entries);
+    check(alloc, &mut store, 0, &child(alloc), 1 << 30)
 }
 
 /// A child with blocks of 2 MB, its table at 3 MB.

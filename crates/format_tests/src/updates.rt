@@ -6,6 +6,7 @@ ghost use Rattle.meta_edit.specs.Pages.{ArePages, HasMetadata};
 use crate::asking::{ask, done, given, zeros};
 use crate::locators::{child_of_b, childs, name_of, parent_id};
 use crate::metadata::{item, laid, of_child};
+use crate::questions::Question;
 use crate::stores::Repeated;
 use crate::tables::child;
 use meta_edit::{MetaRefusal, Updates, locator_update, retire_update};
@@ -22,7 +23,7 @@ const SHORT: u32 = 73_728;
 
 /// Which change is made of a file that has a child's locator, and perhaps a retired leaf's name: both linkages, another parent,
 /// the name for which a leaf is retired, or that it isn't.
-enum Asked {
+pub enum Asked {
     Both,
     Relinked(&'static str),
     Retired(&'static str),
@@ -162,27 +163,17 @@ fn change<R: Abort>(rt: &R, alloc: Global, store: &mut Repeated, parts: &Parts, 
     lay(store.bytes.as_mut_slice(), pages.as_slice());
 }
 
-// What is changed, and where an item then is: its place, its length and its flags.
-static CHANGES: [(Asked, usize, (u32, u32, u32)); 6] = [
+/// What is changed, and where an item then is: its place, its length and its flags.
+pub const CHANGES: &[Question] = &[
     // a locator of 190 bytes at 65,576: a longer one goes behind the last item, at a page
-    (Asked::Both, 5, (69_632, 308, 4)),
-    (Asked::Relinked("d.vhdx"), 5, (65_576, 190, 4)),
-    (Asked::Relinked("d.vhd"), 5, (65_576, 188, 4)),
-    (Asked::Relinked("dd.vhdx"), 5, (69_632, 192, 4)),
+    Question::Change(Asked::Both, 5, (69_632, 308, 4)),
+    Question::Change(Asked::Relinked("d.vhdx"), 5, (65_576, 190, 4)),
+    Question::Change(Asked::Relinked("d.vhd"), 5, (65_576, 188, 4)),
+    Question::Change(Asked::Relinked("dd.vhdx"), 5, (69_632, 192, 4)),
     // a first name of a retired leaf, and none
-    (Asked::Retired("c.vhdx"), 6, (69_632, 12, 1)),
-    (Asked::NotRetired, 6, (0, 0, 1)),
+    Question::Change(Asked::Retired("c.vhdx"), 6, (69_632, 12, 1)),
+    Question::Change(Asked::NotRetired, 6, (0, 0, 1)),
 ];
-
-#[test]
-fn values_go_where_they_fit(rt: HostRuntime) {
-    let parts = parts_with(rt.alloc(), LONG);
-    for (row, (asked, entry, wanted)) in CHANGES.iter().enumerate() {
-        let mut store = written(&rt, rt.alloc());
-        change(&rt, rt.alloc(), &mut store, &parts, asked);
-        ask(&rt, row, item(store.bytes.as_slice(), *entry) == *wanted);
-    }
-}
 
 // Two changes that are made one over the other.
 static TWICE: [Asked; 2] = [Asked::Both, Asked::Retired("c.vhdx")];
@@ -214,6 +205,14 @@ fn later_updates_lie_over_the_earlier(rt: HostRuntime) {
     }
 }
 
+/// Where an item is once a change was made.
+pub fn changed<R: Abort>(rt: &R, alloc: Global, asked: &Asked, entry: usize) -> (u32, u32, u32) {
+    let parts = parts_with(alloc, LONG);
+    let mut store = written(rt, alloc);
+    change(rt, alloc, &mut store, &parts, asked);
+    item(store.bytes.as_slice(), entry)
+}
+
 // Whether a locator is put into metadata of so many bytes, or is refused as is wanted.
 fn is_answered<R: Abort>(
     rt: &R,
@@ -231,42 +230,46 @@ const FULL: Option<MetaRefusal> = Some(MetaRefusal::MetadataFull { file: 0 });
 
 const LARGE: Option<MetaRefusal> = Some(MetaRefusal::LocatorTooLarge { len: 65_538 });
 
-// Regions with the length of a locator, and why it isn't put there.
-static LOCATORS: [(u32, usize, Option<MetaRefusal>); 5] = [
+/// Regions with the length of a locator, and why it isn't put there.
+pub const LOCATORS: &[Question] = &[
     // a region of 72 KB has one page behind the items
-    (SHORT, 4_096, None),
-    (SHORT, 4_098, FULL),
-    (SHORT, 65_538, LARGE),
-    (LONG, 65_536, None),
-    (LONG, 65_538, LARGE),
+    Question::Room(SHORT, 4_096, None),
+    Question::Room(SHORT, 4_098, FULL),
+    Question::Room(SHORT, 65_538, LARGE),
+    Question::Room(LONG, 65_536, None),
+    Question::Room(LONG, 65_538, LARGE),
 ];
 
-#[test]
-fn what_has_no_room_is_refused(rt: HostRuntime) {
-    let alloc = rt.alloc();
-    for (row, (meta_len, len, wanted)) in LOCATORS.iter().enumerate() {
-        let mut store = written(&rt, alloc);
-        let new = locator_of(&rt, alloc, *len);
-        let holds = is_answered(&rt, alloc, &mut store, *meta_len, &new, *wanted);
-        ask(&rt, row, holds);
-    }
+/// Tables of so many entries that are the user's or none, and why a longer locator isn't put into a region of 72 KB.
+pub const TABLES: &[Question] = &[
+    Question::Full(2_046, 0, None),
+    Question::Full(2_047, 0, FULL),
+    Question::Full(1_023, 1, None),
+    Question::Full(1_024, 1, FULL),
+];
+
+/// Whether a locator of so many bytes is put into metadata of so many, or is refused as is wanted.
+pub fn has_room<R: Abort>(
+    rt: &R,
+    alloc: Global,
+    meta_len: u32,
+    len: usize,
+    wanted: Option<MetaRefusal>,
+) -> bool {
+    let mut store = written(rt, alloc);
+    let new = locator_of(rt, alloc, len);
+    is_answered(rt, alloc, &mut store, meta_len, &new, wanted)
 }
 
-// Tables of so many entries that are the user's or none, and why a longer locator isn't put into a region of 72 KB.
-static TABLES: [(u16, u32, Option<MetaRefusal>); 4] = [
-    (2_046, 0, None),
-    (2_047, 0, FULL),
-    (1_023, 1, None),
-    (1_024, 1, FULL),
-];
-
-#[test]
-fn a_table_without_an_entry_left_is_full(rt: HostRuntime) {
-    let alloc = rt.alloc();
-    let new = with_both(&rt, alloc);
-    for (row, (count, flags, wanted)) in TABLES.iter().enumerate() {
-        let mut store = table_of(&rt, alloc, *count, *flags);
-        let holds = is_answered(&rt, alloc, &mut store, SHORT, &new, *wanted);
-        ask(&rt, row, holds);
-    }
+/// Whether a longer locator is put beside so many entries with these flags, or is refused as is wanted.
+pub fn has_entry<R: Abort>(
+    rt: &R,
+    alloc: Global,
+    count: u16,
+    flags: u32,
+    wanted: Option<MetaRefusal>,
+) -> bool {
+    let mut store = table_of(rt, alloc, count, flags);
+    let new = with_both(rt, alloc);
+    is_answered(rt, alloc, &mut store, SHORT, &new, wanted)
 }
