@@ -23,7 +23,7 @@ const TWO_FILES: &[(&str, &str)] = &[
     ("steps c.vhdx", "write 3 1 33\n"),
 ];
 
-const LEAF: Merging = Merging {
+static LEAF: Merging = Merging {
     made: TWO_FILES,
     opened: 2,
     line: MERGE,

@@ -22,7 +22,7 @@ pub const THREE_FILES: &[(&str, &str)] = &[
     ("make child c.vhdx --parent m.vhdx", ""),
 ];
 
-const MIDDLE: Merging = Merging {
+static MIDDLE: Merging = Merging {
     made: THREE_FILES,
     opened: 3,
     line: MERGE,
