@@ -1,5 +1,5 @@
 -- Reads and writes of more sectors than one may name.
-use Rattle.std.proofs.Common.{◌≡◌, ◌<◌, ◌*◌, ◌/◌, ℕ, List, [], Option, Some, None, Result, Err, sym, ap, subst, ◌∙◌}
+use Rattle.std.proofs.Common.{◌≡◌, ◌<◌, ◌*◌, ◌/◌, ◌%◌, ℕ, List, [], Option, Some, None, Result, Err, sym, ap, subst, ◌∙◌}
 use Rattle.std.specs.Prelude.{IfSome, is_some, replicate}
 use Rattle.store_model.specs.Disk.{Disk}
 use Rattle.guest_model.specs.declared.call.Call.TheVariants as calls
@@ -20,6 +20,9 @@ use Rattle.script_session.proofs.Seen.{early_seen, written_length}
 
 none_sectors : (sector : ℕ) → sector ≡ 512 → 0 / sector ≡ 0
 none_sectors sector e = ap (λ s. 0 / s) e
+
+pub none_left : (sector : ℕ) → sector ≡ 512 → 0 % sector ≡ 0
+none_left sector e = ap (λ s. 0 % s) e
 
 module _ {S R T : Type 0} (disk : S → Disk) (noted : R → ℕ) (told : R → Option (List Entry)) (old new : Chain S R T) where
   abbrev before : Session

@@ -196,6 +196,10 @@ module _ {S R T : Type 0} (disk : S → Disk) (noted : R → ℕ) (told : R → 
 pub slot_stays : (g h : Geometry) (piece : Piece) → h ≡ g → IsSlot g piece → IsSlot h piece
 slot_stays g h piece same slot = subst (λ k. IsSlot k piece) (sym same) slot
 
+-- nothing was taken that has to fit
+pub no_slot : (g : Geometry) (piece : Piece) → piece.filled ≡ false → IsSlot g piece
+no_slot g piece empty filled = let bad : false ≡ true = sym empty ∙ filled in absurd (cc)
+
 -- ---- marks
 
 -- how many of the first stripes have no mark

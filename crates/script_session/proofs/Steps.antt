@@ -1,9 +1,9 @@
 -- Answered steps of a merge are told how it stands.
 use Rattle.std.proofs.Common.{inl, inr, ◌≡◌, ◌<◌, ◌≤◌, ◌+◌, ◌^◌, ◌||◌, ℕ, Bool, true, false, List, [], ◌∷◌, ◌++◌, ◌==◌, length, map, Option, Some, None, Result, Ok, Err, refl, sym, ap, ap₂, subst, ◌∙◌, arith}
 use Rattle.std.specs.Prelude.{IfSome, OnErr, if◌then◌else◌, is_some}
-use Rattle.std.proofs.lemmas.Bool.{eq-eqb, eqb-true, lt-ltb}
+use Rattle.std.proofs.lemmas.Bool.{eqb-true, lt-ltb}
 use Rattle.store_model.specs.declared.fault.StoreFault.{StoreFault}
-use Rattle.store_model.specs.Trace.{Trace, file_of}
+use Rattle.store_model.specs.Trace.{Trace}
 use Rattle.guest_model.specs.declared.refusal.ChainRefusal.{ChainRefusal}
 use Rattle.guest_model.specs.declared.refusal.ChainRefusal.TheVariants.{Abandoned, Broken, EmptyRange, FileFull, NoMerge, NoPiece, NoRoom, NoStripe, NotYet, OutOfRange, ReadFault, ReadOnly, Spent, Stale, TooLong}
 use Rattle.guest_model.specs.History.{History}
@@ -22,7 +22,6 @@ use Rattle.chain_core.specs.declared.layers.Layers.{Layers}
 use Rattle.chain_core.specs.declared.layers.Retiring.{Retiring}
 use Rattle.chain_model.specs.Images.{Placed}
 use Rattle.chain_model.specs.Layers.{Layer as SectorLayer}
-use Rattle.store_model.specs.File.{is_synced}
 use Rattle.vx_base.specs.declared.parts.Geometry.{Geometry}
 use Rattle.chain_core.specs.declared.layers.Underway.{Underway}
 use Rattle.chain_core.specs.States.{IsRetiring, IsServing, Rest, State, merging, plain, retiring, sector_of}

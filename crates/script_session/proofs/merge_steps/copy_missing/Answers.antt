@@ -1,6 +1,5 @@
-use Rattle.std.proofs.Common.{false, true, sym, ◌≡◌, ◌∙◌}
 use Rattle.script_session.specs.MergeSteps.{no_turn, all_moved, one_more, one_refused}
-use Rattle.script_session.proofs.Moving.{fewer_turn}
+use Rattle.script_session.proofs.Moving.{fewer_turn, no_slot}
 use Rattle.script_session.proofs.merge_steps.copy_missing.Goals as goal
 
 pub loop-stripe-init : goal.loop-stripe-init
@@ -16,7 +15,7 @@ loop-stripe-smaller g c = fewer_turn c.in-Some.stripe _ _ c.in_default-move_stri
 pub loop-stripe-preserved : goal.loop-stripe-preserved
 loop-stripe-preserved g c = record {
   sound = c.in_default-move_stripe.ensures.sound;
-  slot = λ filled. absurd (let bad : false ≡ true = sym c.in_default-move_stripe.ensures.empty ∙ filled in cc);
+  slot = no_slot _ _ c.in_default-move_stripe.ensures.empty;
   turns = one_more c.in-Some.stripe _ _ _ _ c.loop-stripe.invariant.turns (record { missing = c.in-Some.ensures; low = c.in_default-move_stripe.ensures.low }) c.in_default-move_stripe.ensures.answers c.in_default-move_stripe.ensures.empty;
 }
 
