@@ -12,7 +12,7 @@ use Rattle.vhdx_format.specs.SettledFiles.{StandsFor}
 use Rattle.file_open.specs.Causes.{Meaning, refuses, host_failed, store_failed, no_memory}
 use Rattle.file_open.specs.Effects.{OpensAlike}
 use Rattle.file_open.proofs.Again.{opens_again}
-use Rattle.link_rules.specs.Causes.{meaning_of}
+use Rattle.link_rules.specs.Causes.{meaning_of, of_file}
 use Rattle.vx_base.specs.declared.parts.Parts.{Parts}
 use Rattle.file_open.specs.Opening as opening
 use Rattle.link_rules.specs.Chains.{OpensIn, missing, present, is_among}
@@ -121,6 +121,13 @@ inside_left old no_memory idle h = record { files = none_kept old old refl; idle
 pub handed_on : {A : Type 0} (names : A → List (List ℕ)) (old new : Hosted) (result : Result A LinkRefusal) (refusal : LinkRefusal) → IsErrAnd result (λ e. e ≡ refusal) → LeavesBy old new (meaning_of refusal) → Leaves names old new result
 handed_on names old new (Ok x) refusal is h = absurd is
 handed_on names old new (Err e) refusal is h = subst (λ e. LeavesBy old new (meaning_of e)) (sym is) h
+
+-- what opening a file leaves behind is what its refusal with the file's name does
+pub named_left : (file : List ℕ) (old new : Hosted) (said : Meaning opening.Refusal) → LeavesBy old new said → LeavesBy old new (of_file file said)
+named_left file old new (refuses refusal) h = h
+named_left file old new (host_failed fault) h = h
+named_left file old new (store_failed fault) h = h
+named_left file old new no_memory h = h
 
 -- nothing of the folder is unsynced then
 pub still_idle : (opened : List (List ℕ)) (old mid : Hosted) → WhereTold old.folder AllIdle → HasReplayed opened old mid → WhereTold mid.folder AllIdle

@@ -3,7 +3,6 @@ use Rattle.std.proofs.Common.{◌≡◌, ◌≤◌, ℕ, zero, Bool, true, false
 use Rattle.std.specs.Prelude.{option_map, unwrap_or}
 use Rattle.std.specs.Str.{bytes_eq}
 use Rattle.std.proofs.lemmas.Option.{same_Some}
-use Rattle.std.proofs.lemmas.Slice.Eq.{bytes_eq-Decides}
 use Rattle.store_model.specs.Disk.{Disk, WhereTold, WhereBothTold}
 use Rattle.store_model.specs.File.{File, IsFileImage, seen}
 use Rattle.store_model.specs.Folder.{Held, Hosted, IsKept, KeepsStore, Returned, attached_trace, back_from, come_back, file_named, folder_at, given_back, has_name, seen_named, with_file, without}

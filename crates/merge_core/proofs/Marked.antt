@@ -1,6 +1,9 @@
 -- Marks as they are kept, once a run of bits was changed.
-use Rattle.std.proofs.Common.{◌≡◌, ◌≢◌, ℕ, ◌+◌, ◌-◌, ◌*◌, ◌<◌, ◌≤◌, ◌⊎◌, inl, inr, Bool, true, false, List, length, sym, subst, ◌∙◌, arith}
-use Rattle.std.proofs.lemmas.Bool.{cases_lt}
+use Rattle.std.proofs.Common.{◌≡◌, ◌≢◌, ℕ, ◌+◌, ◌-◌, ◌*◌, ◌<◌, ◌≤◌, ◌/◌, ◌%◌, ◌==◌, ◌&&◌, ◌||◌, ◌⊎◌, inl, inr, Bool, true, false, List, length, ap, sym, subst, ◌∙◌, arith}
+use Rattle.std.specs.Prelude.{not, nat_le}
+use Rattle.std.proofs.lemmas.Bool.{cases_lt, le-leb, lt-leb, eq-eqb, ne_eqb, and_right}
+use Rattle.std.proofs.lemmas.List.{get_or_past}
+use Rattle.std.proofs.lemmas.Nat.Bits.{bit_at-zero}
 use Rattle.vhdx_format.specs.SectorBitmaps.{HasRunSet, bit_of, bit_value}
 
 -- what the fields promise
@@ -129,3 +132,52 @@ module _ (old new : List ℕ) (same : length new ≡ length old) (stripes low ga
       by : low < stripes → (low < stripe) ⊎ (stripe ≤ low) → bit_of new low ≢ 1
       by some (inl less) = λ set. kept.stops some (sym (before old new stripe 1 true ran low (within_bits low some) less) ∙ set)
       by some (inr ge) = λ set. kept.stops some (sym (behind_run old new stripe 1 true ran low (within_bits low some) (omega (arith, ge, other))) ∙ set)
+
+-- past the end no bit is set
+past_end : (bytes : List ℕ) (t : ℕ) → 8 * length bytes ≤ t → bit_of bytes t ≡ 0
+past_end bytes t past = rw (get_or_past bytes (t / 8) 0 (omega (arith, past))) (bit_at-zero (t % 8))
+
+-- the marks from `first` to `last` are gone, and no other
+unmarked : (old new : List ℕ) → length new ≡ length old → (first last : ℕ) → first ≤ last → HasRunSet old new first (last - first + 1) false
+    → (t : ℕ) → (bit_of new t == 1) ≡ (not (nat_le first t && nat_le t last) && (bit_of old t == 1))
+unmarked old new same first last order ran t = by (cases_lt t (8 * length old))
+  where
+    by_place : t < 8 * length old → (t < first) ⊎ (first ≤ t) → (last < t) ⊎ (t ≤ last) → (bit_of new t == 1) ≡ (not (nat_le first t && nat_le t last) && (bit_of old t == 1))
+    by_place lt (inl less) ends = rw (lt-leb first t less) (ap (λ (b : ℕ). b == 1) (before old new first (last - first + 1) false ran t lt less))
+    by_place lt (inr ge) (inl more) = rw (le-leb first t ge, lt-leb t last more) (ap (λ (b : ℕ). b == 1) (behind_run old new first (last - first + 1) false ran t lt (omega (arith, order, more))))
+    by_place lt (inr ge) (inr le) = rw (le-leb first t ge, le-leb t last le) (ap (λ (b : ℕ). b == 1) (inside old new first (last - first + 1) false ran t lt ge (omega (arith, order, le))))
+
+    by : (t < 8 * length old) ⊎ (8 * length old ≤ t) → (bit_of new t == 1) ≡ (not (nat_le first t && nat_le t last) && (bit_of old t == 1))
+    by (inl lt) = by_place lt (cases_lt t first) (cases_lt last t)
+    by (inr past) = ap (λ (b : ℕ). b == 1) (past_end new t (omega (arith, same, past)))
+        ∙ sym (and_right (not (nat_le first t && nat_le t last)) (bit_of old t == 1) (ap (λ (b : ℕ). b == 1) (past_end old t past)))
+
+-- the stripe's mark is set, and no other changed
+marked : (old new : List ℕ) → length new ≡ length old → (stripe : ℕ) → stripe < 8 * length old → HasRunSet old new stripe 1 true
+    → (t : ℕ) → (bit_of new t == 1) ≡ ((t == stripe) || (bit_of old t == 1))
+marked old new same stripe there ran t = by (cases_lt t (8 * length old))
+  where
+    by_place : t < 8 * length old → (t < stripe) ⊎ (stripe ≤ t) → (stripe < t) ⊎ (t ≤ stripe) → (bit_of new t == 1) ≡ ((t == stripe) || (bit_of old t == 1))
+    by_place lt (inl less) ends = rw (ne_eqb t stripe (λ e. omega (arith, e, less))) (ap (λ (b : ℕ). b == 1) (before old new stripe 1 true ran t lt less))
+    by_place lt (inr ge) (inl more) = rw (ne_eqb t stripe (λ e. omega (arith, e, more))) (ap (λ (b : ℕ). b == 1) (behind_run old new stripe 1 true ran t lt (omega (arith, more))))
+    by_place lt (inr ge) (inr le) = rw (eq-eqb t stripe (omega (arith, ge, le))) (ap (λ (b : ℕ). b == 1) (inside old new stripe 1 true ran t lt ge (omega (arith, le))))
+
+    by : (t < 8 * length old) ⊎ (8 * length old ≤ t) → (bit_of new t == 1) ≡ ((t == stripe) || (bit_of old t == 1))
+    by (inl lt) = by_place lt (cases_lt t stripe) (cases_lt stripe t)
+    by (inr past) = rw (ne_eqb t stripe (λ e. omega (arith, e, past, there)))
+        (ap (λ (b : ℕ). b == 1) (past_end new t (omega (arith, same, past))) ∙ sym (ap (λ (b : ℕ). b == 1) (past_end old t past)))
+
+-- the same of bytes that were lent as `seen` and are shown as `shown`
+pub marks_left : (old seen new shown : List ℕ) → seen ≡ old → shown ≡ new → length new ≡ length seen → (first last : ℕ) → first ≤ last → HasRunSet seen new first (last - first + 1) false
+    → (t : ℕ) → (bit_of shown t == 1) ≡ (not (nat_le first t && nat_le t last) && (bit_of old t == 1))
+marks_left old seen new shown lent is same first last order ran t =
+    ap (λ (bits : List ℕ). bit_of bits t == 1) is
+    ∙ unmarked seen new same first last order ran t
+    ∙ ap (λ (bits : List ℕ). not (nat_le first t && nat_le t last) && (bit_of bits t == 1)) lent
+
+pub marks_added : (old seen new shown : List ℕ) → seen ≡ old → shown ≡ new → length new ≡ length seen → (stripe stripes : ℕ) → stripe < stripes → stripes ≤ 8 * length old → HasRunSet seen new stripe 1 true
+    → (t : ℕ) → (bit_of shown t == 1) ≡ ((t == stripe) || (bit_of old t == 1))
+marks_added old seen new shown lent is same stripe stripes there sized ran t =
+    ap (λ (bits : List ℕ). bit_of bits t == 1) is
+    ∙ marked seen new same stripe (let long : length seen ≡ length old = ap length lent in omega (arith, there, sized, long)) ran t
+    ∙ ap (λ (bits : List ℕ). (t == stripe) || (bit_of bits t == 1)) lent

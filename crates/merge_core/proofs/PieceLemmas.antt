@@ -5,7 +5,7 @@ use Rattle.std.specs.Option.{option_or}
 use Rattle.std.proofs.Math.Nat.{add-mul, div-eq_of_lt-le}
 use Rattle.std.proofs.lemmas.Bool.{and_from, cases_lt, le-leb, lt-ltb}
 use Rattle.std.proofs.lemmas.Nat.{div-add-mod', mod_below, pow-add}
-use Rattle.std.proofs.lemmas.List.{drop-append-le, drop-take, length-drop, take-append-le, take-take}
+use Rattle.std.proofs.lemmas.List.{drop-take, take-take}
 use Rattle.vhdx_format.proofs.Placed.{bytes_within}
 use Rattle.vx_base.specs.Fields.{bytes_at}
 use Rattle.vhdx_format.specs.SectorBitmaps.{HasRunSet, bit_of, is_within}

@@ -1,5 +1,5 @@
 -- The whole of the plan of a leaf's merge, from its steps.
-use Rattle.std.proofs.Common.{◌≡◌, ℕ, ◌≤◌, ◌<◌, List, [], ◌∷◌, length, false, Some, None, sym, ap, subst, ◌∙◌, arith}
+use Rattle.std.proofs.Common.{◌≡◌, ℕ, ◌≤◌, ◌<◌, List, [], ◌∷◌, length, false, Some, None, refl, sym, ap, subst, ◌∙◌, arith}
 use Rattle.std.specs.Prelude.{All, nat_lt}
 use Rattle.std.proofs.lemmas.Bool.{ltb-false}
 use Rattle.std.proofs.lemmas.List.Elements.{All-head, All-tail}
@@ -19,7 +19,7 @@ use Rattle.merge_plan.specs.LeafMerging.{AreOfLeaf, ClearsTarget, HasRetiring, K
 use Rattle.merge_plan.specs.LeafPlanning.{HasLeafPlan, IsLeafFull, StopsLeaf, for_clearing, for_link, for_name, leaf_merge_ids, long_len}
 use Rattle.merge_plan.specs.LeafSteps.{AreTypedOfLeaf, ClearingFails, HasNaming, NamingFails}
 use Rattle.merge_plan.specs.Merging.{HasPages, LacksRoom, WritesLocator}
-use Rattle.merge_plan.specs.Steps.{JudgeRefuses, UpdateFails}
+use Rattle.merge_plan.specs.Steps.{JudgeRefuses, LengthRefuses, UpdateFails}
 use Rattle.merge_plan.specs.declared.leaf.LeafMerge.{LeafMerge}
 use Rattle.merge_plan.specs.declared.leaf_drawing.LeafMergeIds.{LeafMergeIds}
 use Rattle.merge_plan.specs.declared.refusal.PrepareRefusal.{PrepareRefusal}
@@ -56,7 +56,7 @@ can_plan_leaf files disk m can is =
 
 -- ---- the locator
 
-short_enough : (pairs : List Pair) → long_len pairs ≡ None → locator_len pairs ≤ longest_locator
+pub short_enough : (pairs : List Pair) → long_len pairs ≡ None → locator_len pairs ≤ longest_locator
 short_enough pairs h = ltb-false longest_locator (locator_len pairs) (passed (nat_lt longest_locator (locator_len pairs)) (locator_len pairs) None h).0
 
 -- the target's new identifier is the fifth
@@ -69,6 +69,17 @@ leaf_guid ids all = all 4 [] (omega arith)
 pub record IsLeafLocator (m : LeafFiles) (new : List ℕ) (pairs : List Pair) : Type 0 where
   pub is : pairs ≡ linked_pairs m new
   pub short : long_len pairs ≡ None
+
+-- its locator is too long, or there is no memory for it
+pub locator_stops : (files : List LinkedFile) (disk : Disk) (m : LeafFiles) (ids : LeafMergeIds) (refusal : PrepareRefusal) → LengthRefuses (long_len (linked_pairs m ids.target.data_write)) refusal → StopsLeaf files disk disk m ids refusal
+locator_stops files disk m ids refusals.NotInChain h = h
+locator_stops files disk m ids refusals.IsBase h = h
+locator_stops files disk m ids refusals.LeafSource h = h
+locator_stops files disk m ids (refusals.LocatorTooLarge len) h = (h, refl)
+locator_stops files disk m ids (refusals.MetadataFull file) h = absurd h
+locator_stops files disk m ids (refusals.IdUnfit id) h = absurd h
+locator_stops files disk m ids (refusals.Store fault) h = absurd h
+locator_stops files disk m ids refusals.NoRoom h = refl
 
 module _ (files : List LinkedFile) (old : Disk) (m : LeafFiles) (can : CanPlanLeaf old m) (ids : LeafMergeIds) (pairs : List Pair) (l : IsLeafLocator m ids.target.data_write pairs) where
   short : long_len (linked_pairs m ids.target.data_write) ≡ None

@@ -2,6 +2,7 @@ pub mod ByteLaws
 pub mod PageLaws
 pub mod TableLaws
 pub mod Puts
+pub mod HandedOn
 pub mod Refused
 pub mod Sound
 pub mod Slots

@@ -1,6 +1,6 @@
 -- A table with one entry more, and its items: what they say is as before, but for that item.
 use Rattle.std.proofs.Common.{◌≡◌, ℕ, ◌⊎◌, ◌&&◌, ◌||◌, not, nat_lt, Bool, true, false, cond, List, [], ◌∷◌, ◌++◌, Some, None, find, is_none, refl, sym, ap, ◌∙◌, inl, inr}
-use Rattle.std.specs.Prelude.{Result, Ok}
+use Rattle.std.specs.Prelude.{Ok}
 use Rattle.std.specs.Bool.{beq}
 use Rattle.std.specs.Str.{bytes_eq}
 use Rattle.std.proofs.lemmas.Bool.{eq-eqb}
@@ -10,7 +10,7 @@ use Rattle.vhdx_format.specs.declared.metadata.Item.{Item}
 use Rattle.vhdx_format.specs.declared.metadata.Metadata.{Metadata}
 use Rattle.vhdx_format.specs.declared.metadata.MetadataEntry.{MetadataEntry}
 use Rattle.vhdx_format.specs.Fields.{has_flag, megabyte}
-use Rattle.vhdx_format.specs.Rules.{BrokenRule, MissingItem, BadItem}
+use Rattle.vhdx_format.specs.Rules.{MissingItem, BadItem}
 use Rattle.vhdx_format.specs.MetadataTables.{are_doubled, clashes, have_common_byte, has_parent, is_bad_entry, is_bad_item, is_known_item, is_of, is_outside, is_unknown_required_item, is_user, item_of, item_value, known_items, metadata_of, missing_item, read_items, retired_in, value_of}
 use Rattle.vhdx_format.proofs.MetadataLaws.{none_next}
 use Rattle.metadata_table.proofs.Places.{known-next, unknown-next, known-none}

@@ -1,13 +1,13 @@
 -- What metadata that break no rule keep.
-use Rattle.std.proofs.Common.{◌≡◌, ℕ, ◌≤◌, nat_le, not, ◌&&◌, Bool, true, false, cond, List, [], ◌∷◌, length, Option, Some, None, find, refl, sym, ap, ◌∙◌}
+use Rattle.std.proofs.Common.{◌≡◌, ℕ, ◌≤◌, nat_le, not, Bool, true, false, cond, List, [], ◌∷◌, length, Option, Some, None, find, refl, sym, ap, ◌∙◌}
 use Rattle.std.specs.Prelude.{Result, Ok, Err, IsOk, take, codes}
 use Rattle.std.specs.Str.{bytes_eq}
-use Rattle.std.proofs.lemmas.Bool.{leb-true, or_parts, and_parts}
+use Rattle.std.proofs.lemmas.Bool.{leb-true, and_parts}
 use Rattle.metadata_table.proofs.Places.{good-place}
 use Rattle.vhdx_format.proofs.FileLemmas.{unless_ok}
 use Rattle.vx_base.specs.Fields.{u16_at}
 use Rattle.vhdx_format.specs.declared.metadata.MetadataEntry.{MetadataEntry}
-use Rattle.vhdx_format.specs.Rules.{BadMetadataTable, UnknownItem, ◌>>=◌, unless, unless_some}
+use Rattle.vhdx_format.specs.Rules.{BadMetadataTable, UnknownItem, ◌>>=◌, unless_some}
 use Rattle.vhdx_format.specs.MetadataTables.{is_metadata_table, is_bad_entry, is_outside, is_unknown_required_item, metadata_entries, metadata_table, known_items, read_entries, read_items, read_metadata}
 use Rattle.vhdx_format.proofs.MetadataLaws.{none_next}
 use Rattle.meta_edit.specs.Steps.{IsSoundTable}

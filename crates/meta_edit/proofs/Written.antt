@@ -8,7 +8,7 @@ use Rattle.vx_base.proofs.ByteLists.{length-overwritten}
 use Rattle.vhdx_format.specs.declared.metadata.Item.{Item}
 use Rattle.vhdx_format.specs.declared.metadata.Metadata.{Metadata}
 use Rattle.store_model.proofs.Parts.{part-overwritten, part-overwritten_apart}
-use Rattle.vx_base.specs.Fields.{bytes_at, written_over, u16_at, u32_bytes}
+use Rattle.vx_base.specs.Fields.{written_over, u16_at, u32_bytes}
 use Rattle.vhdx_format.specs.declared.metadata.MetadataEntry.{MetadataEntry}
 use Rattle.vhdx_format.specs.Fields.{megabyte, overlaps}
 use Rattle.vhdx_format.specs.MetadataTables.{clashes, are_doubled, has_place, have_common_byte, is_bad_entry, is_bad_item, item_value, metadata_of, read_metadata, is_metadata_table, is_outside, metadata_entries, metadata_entries_from, metadata_table}

@@ -1,12 +1,14 @@
-use Rattle.std.proofs.Common.{◌≡◌, List, Some, None, refl, sym, ap, subst, ◌∙◌}
+use Rattle.std.proofs.Common.{◌≡◌, ◌<◌, List, Some, None, refl, sym, ap, subst, ◌∙◌, arith}
 use Rattle.store_model.specs.Disk.{Disk}
 use Rattle.vhdx_format.specs.declared.log_entry.Page.{Page}
 use Rattle.meta_edit.specs.Edits.{IsSound}
+use Rattle.merge_plan.specs.Attached.{CanStart}
 use Rattle.merge_plan.specs.Drawing.{JudgesDrawn}
 use Rattle.merge_plan.specs.LeafMerging.{ClearsTarget}
 use Rattle.merge_plan.specs.LeafPlanning.{StopsLeaf, leaf_merge_ids}
 use Rattle.merge_plan.specs.LeafSteps.{HasNaming, NamingFails, leaf_files}
-use Rattle.merge_plan.proofs.LeafPlanned.{IsLeafLocator, can_plan_leaf, clearing_stops, has_leaf_plan, judge_stops, link_stops, name_stops}
+use Rattle.merge_plan.proofs.Gathered.{not_if_ok_so, not_ok_so}
+use Rattle.merge_plan.proofs.LeafPlanned.{IsLeafLocator, can_plan_leaf, clearing_stops, has_leaf_plan, judge_stops, link_stops, locator_stops, name_stops, short_enough}
 use Rattle.merge_plan.proofs.Planned.{passed_on}
 use Rattle.merge_plan.proofs.RetiredNames.{sound_over}
 use Rattle.merge_plan.proofs.leaf.plan.Goals as goal
@@ -133,3 +135,81 @@ returns-clause-planned g c =
     has_leaf_plan c.args.files.now old m can c.args.ids c.in_ok-locator.locator l
     (record { ids = c.args.ids; twice = c.in_ok-twice.twice; clear = c.in_ok-clear.clear; retire = c.in_ok-retire.retire }) refl c.in_ok-locator.ensures.typed c.requires.drawn fit
     c.in_ok-twice.ensures.pages clear retire
+
+pub returns-in_err-locator-clause-planned : goal.returns-in_err-locator-clause-planned
+returns-in_err-locator-clause-planned g c = not_if_ok_so c.from_residual.result c.from_residual.ensures.0 _
+
+pub returns-in_err-locator-clause-ids : goal.returns-in_err-locator-clause-ids
+returns-in_err-locator-clause-ids g c = not_if_ok_so c.from_residual.result c.from_residual.ensures.0 _
+
+pub returns-in_err-locator-clause-stays : goal.returns-in_err-locator-clause-stays
+returns-in_err-locator-clause-stays g c = not_ok_so c.from_residual.result c.from_residual.ensures.0 _
+
+pub returns-in_err-twice-clause-planned : goal.returns-in_err-twice-clause-planned
+returns-in_err-twice-clause-planned g c = not_if_ok_so c.from_residual-in_err-twice.result c.from_residual-in_err-twice.ensures.0 _
+
+pub returns-in_err-twice-clause-ids : goal.returns-in_err-twice-clause-ids
+returns-in_err-twice-clause-ids g c = not_if_ok_so c.from_residual-in_err-twice.result c.from_residual-in_err-twice.ensures.0 _
+
+pub returns-in_err-twice-clause-stays : goal.returns-in_err-twice-clause-stays
+returns-in_err-twice-clause-stays g c = not_ok_so c.from_residual-in_err-twice.result c.from_residual-in_err-twice.ensures.0 _
+
+pub returns-in_err-clear-clause-planned : goal.returns-in_err-clear-clause-planned
+returns-in_err-clear-clause-planned g c = not_if_ok_so c.from_residual-in_err-clear.result c.from_residual-in_err-clear.ensures.0 _
+
+pub returns-in_err-clear-clause-ids : goal.returns-in_err-clear-clause-ids
+returns-in_err-clear-clause-ids g c = not_if_ok_so c.from_residual-in_err-clear.result c.from_residual-in_err-clear.ensures.0 _
+
+pub returns-in_err-clear-clause-stays : goal.returns-in_err-clear-clause-stays
+returns-in_err-clear-clause-stays g c = not_ok_so c.from_residual-in_err-clear.result c.from_residual-in_err-clear.ensures.0 _
+
+pub returns-in_err-retire-clause-planned : goal.returns-in_err-retire-clause-planned
+returns-in_err-retire-clause-planned g c = not_if_ok_so c.from_residual-in_err-retire.result c.from_residual-in_err-retire.ensures.0 _
+
+pub returns-in_err-retire-clause-ids : goal.returns-in_err-retire-clause-ids
+returns-in_err-retire-clause-ids g c = not_if_ok_so c.from_residual-in_err-retire.result c.from_residual-in_err-retire.ensures.0 _
+
+pub returns-in_err-retire-clause-stays : goal.returns-in_err-retire-clause-stays
+returns-in_err-retire-clause-stays g c = not_ok_so c.from_residual-in_err-retire.result c.from_residual-in_err-retire.ensures.0 _
+
+pub returns-in_err-judge-clause-planned : goal.returns-in_err-judge-clause-planned
+returns-in_err-judge-clause-planned g c = not_if_ok_so c.from_residual-in_err-judge.result c.from_residual-in_err-judge.ensures.0 _
+
+pub returns-in_err-judge-clause-ids : goal.returns-in_err-judge-clause-ids
+returns-in_err-judge-clause-ids g c = not_if_ok_so c.from_residual-in_err-judge.result c.from_residual-in_err-judge.ensures.0 _
+
+pub returns-in_err-judge-clause-stays : goal.returns-in_err-judge-clause-stays
+returns-in_err-judge-clause-stays g c = not_ok_so c.from_residual-in_err-judge.result c.from_residual-in_err-judge.ensures.0 _
+
+pub returns-in_err-locator-clause-err : goal.returns-in_err-locator-clause-err
+returns-in_err-locator-clause-err g c =
+    let m = leaf_files c.args.source.now c.args.target.now c.args.files.now in
+    let old = g.S.Store.disk c.args.store.now in
+    passed_on (StopsLeaf c.args.files.now old old m c.args.ids) c.from_residual.result c.in_err-locator.field-0.0 c.from_residual.ensures.1 (locator_stops c.args.files.now old m c.args.ids c.in_err-locator.field-0.0 c.in_err-locator.ensures.err)
+
+pub update-requires-clause-short : goal.update-requires-clause-short
+update-requires-clause-short g c = short_enough c.in_ok-locator.locator c.in_ok-locator.ensures.short
+
+pub update-requires-clause-there : goal.update-requires-clause-there
+update-requires-clause-there g c =
+    let can = can_plan_leaf c.args.files.now (g.S.Store.disk c.args.store.now) (leaf_files c.args.source.now c.args.target.now c.args.files.now) c.requires.can c.requires.first in
+    omega (arith, can.there)
+
+pub clearing-requires-clause-there : goal.clearing-requires-clause-there
+clearing-requires-clause-there g c =
+    let can = can_plan_leaf c.args.files.now (g.S.Store.disk c.args.store.now) (leaf_files c.args.source.now c.args.target.now c.args.files.now) c.requires.can c.requires.first in
+    subst (λ (d : Disk). 1 < d.files) (sym c.in_ok-twice.ensures.stays) can.there
+
+pub name_update-requires-clause-there : goal.name_update-requires-clause-there
+name_update-requires-clause-there g c =
+    let can = can_plan_leaf c.args.files.now (g.S.Store.disk c.args.store.now) (leaf_files c.args.source.now c.args.target.now c.args.files.now) c.requires.can c.requires.first in
+    subst (λ (d : Disk). 0 < d.files) (sym (c.in_ok-clear.ensures.stays ∙ c.in_ok-twice.ensures.stays)) (omega (arith, can.there))
+
+pub judge-requires : goal.judge-requires
+judge-requires g c = subst (CanStart c.args.files.now) (sym (c.in_ok-retire.ensures.stays ∙ c.in_ok-clear.ensures.stays ∙ c.in_ok-twice.ensures.stays)) c.requires.can
+
+pub returns-clause-stays : goal.returns-clause-stays
+returns-clause-stays g c = c.in_ok-judge.ensures.stays ∙ c.in_ok-retire.ensures.stays ∙ c.in_ok-clear.ensures.stays ∙ c.in_ok-twice.ensures.stays
+
+pub returns-clause-ids : goal.returns-clause-ids
+returns-clause-ids g c = refl

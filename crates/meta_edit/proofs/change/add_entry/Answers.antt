@@ -1,7 +1,8 @@
-use Rattle.std.proofs.Common.{◌≡◌, ◌+◌, ◌*◌, ◌/◌, ℕ, List, length, ap, sym, arith}
+use Rattle.meta_edit.proofs.HandedOn.{answers_handed, ends_handed}
+use Rattle.std.proofs.Common.{◌≡◌, ◌+◌, ◌*◌, ◌/◌, ℕ, List, length, ap, subst, sym, arith}
 use Rattle.std.specs.Prelude.{Some}
 use Rattle.vx_base.specs.Fields.{u16_bytes, written_over}
-use Rattle.meta_edit.specs.Steps.{added_there}
+use Rattle.meta_edit.specs.Steps.{IsLaid, added_there}
 use Rattle.meta_edit.proofs.Puts.{answers_put, ends_put, put_twice}
 use Rattle.meta_edit.proofs.change.add_entry.Goals as goal
 
@@ -32,3 +33,21 @@ returns-clause-ends g c =
     (put_twice c.args.laid.now (λ region. written_over region 10 number) (λ region. written_over (written_over region (32 * i) c.args.entry.now) c.args.place c.args.value.now)
     (length number / 4096 + 2) (length c.args.entry.now / 4096 + 2 + (length c.args.value.now / 4096 + 2)) c.new.result c.in_ok-updates.updates (g.S.Store.disk c.args.store.now)
     (g.S.Store.disk c.put_in_region.new.store) (g.S.Store.disk c.put_both.new.store) c.put_both.result c.in_ok-updates.ensures c.put_both.ensures)
+
+pub returns-in_err-updates-clause-answer : goal.returns-in_err-updates-clause-answer
+returns-in_err-updates-clause-answer g c =
+    answers_handed c.args.laid.now (g.S.Store.disk c.args.store.now) (g.S.Store.disk c.put_in_region.new.store) _ c.in_err-updates.field-0.0 c.from_residual.ensures.1
+    (λ region. Some (added_there region c.args.count c.args.entry.now c.args.place c.args.value.now)) c.in_err-updates.ensures.outside
+
+pub returns-in_err-updates-clause-ends : goal.returns-in_err-updates-clause-ends
+returns-in_err-updates-clause-ends g c =
+    ends_handed c.args.laid.now (g.S.Store.disk c.args.store.now) (g.S.Store.disk c.put_in_region.new.store) _ c.in_err-updates.field-0.0 c.from_residual.ensures.1 c.in_err-updates.ensures
+
+pub put_both-requires-clause-laid : goal.put_both-requires-clause-laid
+put_both-requires-clause-laid g c = subst (IsLaid c.args.laid.now) (sym c.in_ok-updates.ensures.store) c.requires.laid
+
+pub put_both-requires-clause-updates : goal.put_both-requires-clause-updates
+put_both-requires-clause-updates g c = c.in_ok-updates.ensures.within
+
+pub put_both-requires-clause-second : goal.put_both-requires-clause-second
+put_both-requires-clause-second g c = λ some. c.requires.last
