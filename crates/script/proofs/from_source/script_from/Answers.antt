@@ -1,6 +1,7 @@
 use Rattle.std.proofs.lemmas.Result.{err_from_is_err_and}
 use Rattle.script.proofs.ReadingLaws.{few_lines}
 use Rattle.script.proofs.Taken.{is_seen, left_found, left_refused, only_refused, read_refused, unread_left}
+use Rattle.script.proofs.Appended.{none_read}
 use Rattle.script.proofs.from_source.script_from.Goals as goal
 
 pub returns-in_err-text-clause-left : goal.returns-in_err-text-clause-left
@@ -31,3 +32,9 @@ returns-clause-left g c = left_found c.args.kind _ _ _ (is_seen _ _ _ c.in_ok-te
 
 pub returns-clause-few : goal.returns-clause-few
 returns-clause-few g c = few_lines c.args.kind _ _ c.in_ok-script.ensures.found
+
+pub returns-in_err-text-clause-few : goal.returns-in_err-text-clause-few
+returns-in_err-text-clause-few g c = none_read c.from_residual.result c.from_residual.ensures.0 _
+
+pub returns-in_err-script-clause-few : goal.returns-in_err-script-clause-few
+returns-in_err-script-clause-few g c = none_read c.from_residual-in_err-script.result c.from_residual-in_err-script.ensures.0 _

@@ -5,6 +5,7 @@ use Rattle.std.proofs.lemmas.List.{take-append-le}
 use Rattle.std.proofs.lemmas.Result.{err_from_is_err_and}
 use borrow.Author.Tests.{ltb-false, ltb-true}
 use Rattle.script.proofs.from_source.take_piece.Given as given
+use Rattle.script.proofs.Appended.{none_read, not_written}
 use Rattle.script.proofs.from_source.take_piece.Goals as goal
 
 -- what is asked for at once, where so many bytes are there: some, and no more than the limit leaves
@@ -68,3 +69,27 @@ pub returns-in_err-extend_from_slice-clause-unread : goal.returns-in_err-extend_
 returns-in_err-extend_from_slice-clause-unread g c =
     let p = err_from_is_err_and c.from_residual-in_err-extend_from_slice.result c.from_residual-in_err-extend_from_slice.ensures.1 in
     rw (p.1, p.2) tt
+
+pub returns-in_err-taken-clause-taken : goal.returns-in_err-taken-clause-taken
+returns-in_err-taken-clause-taken g c = not_written c.from_residual.result c.from_residual.ensures.0 _
+
+pub returns-in_err-taken-clause-most : goal.returns-in_err-taken-clause-most
+returns-in_err-taken-clause-most g c = not_written c.from_residual.result c.from_residual.ensures.0 _
+
+pub returns-in_err-taken-clause-more : goal.returns-in_err-taken-clause-more
+returns-in_err-taken-clause-more g c = none_read c.from_residual.result c.from_residual.ensures.0 _
+
+pub returns-in_err-taken-clause-end : goal.returns-in_err-taken-clause-end
+returns-in_err-taken-clause-end g c = none_read c.from_residual.result c.from_residual.ensures.0 _
+
+pub returns-in_err-extend_from_slice-clause-taken : goal.returns-in_err-extend_from_slice-clause-taken
+returns-in_err-extend_from_slice-clause-taken g c = not_written c.from_residual-in_err-extend_from_slice.result c.from_residual-in_err-extend_from_slice.ensures.0 _
+
+pub returns-in_err-extend_from_slice-clause-most : goal.returns-in_err-extend_from_slice-clause-most
+returns-in_err-extend_from_slice-clause-most g c = not_written c.from_residual-in_err-extend_from_slice.result c.from_residual-in_err-extend_from_slice.ensures.0 _
+
+pub returns-in_err-extend_from_slice-clause-more : goal.returns-in_err-extend_from_slice-clause-more
+returns-in_err-extend_from_slice-clause-more g c = none_read c.from_residual-in_err-extend_from_slice.result c.from_residual-in_err-extend_from_slice.ensures.0 _
+
+pub returns-in_err-extend_from_slice-clause-end : goal.returns-in_err-extend_from_slice-clause-end
+returns-in_err-extend_from_slice-clause-end g c = none_read c.from_residual-in_err-extend_from_slice.result c.from_residual-in_err-extend_from_slice.ensures.0 _

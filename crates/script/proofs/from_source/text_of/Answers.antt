@@ -58,3 +58,12 @@ returns-in_err-take_piece-clause-most g c = none_read c.from_residual-in_err-tak
 
 pub returns-in_err-take_piece-clause-end : goal.returns-in_err-take_piece-clause-end
 returns-in_err-take_piece-clause-end g c = none_read c.from_residual-in_err-take_piece.result c.from_residual-in_err-take_piece.ensures.0 _
+
+pub returns-in_err-piece-clause-taken : goal.returns-in_err-piece-clause-taken
+returns-in_err-piece-clause-taken g c = none_read c.from_residual.result c.from_residual.ensures.0 _
+
+pub returns-in_err-piece-clause-most : goal.returns-in_err-piece-clause-most
+returns-in_err-piece-clause-most g c = none_read c.from_residual.result c.from_residual.ensures.0 _
+
+pub returns-in_err-piece-clause-end : goal.returns-in_err-piece-clause-end
+returns-in_err-piece-clause-end g c = none_read c.from_residual.result c.from_residual.ensures.0 _
