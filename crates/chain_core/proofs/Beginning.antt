@@ -1,7 +1,7 @@
 -- Where a session begins.
 use Rattle.std.proofs.lemmas.List.{length-take, take_more}
 use Rattle.std.proofs.lemmas.Grind.{common_steps}
-use Rattle.std.proofs.Common.{drop, take, ◌-◌, ◌≡◌, ◌≢◌, ℕ, suc, ◌+◌, ◌<◌, ◌≤◌, Bool, true, false, List, [], ◌∷◌, ◌++◌, length, map, get_or, All, refl, sym, ap, subst, ◌∙◌, arith, is_some, ne_eqb, ◌==◌}
+use Rattle.std.proofs.Common.{drop, inl, take, ◌-◌, ◌≡◌, ◌≢◌, ℕ, suc, ◌+◌, ◌<◌, ◌≤◌, Bool, true, false, List, [], ◌∷◌, ◌++◌, length, map, get_or, All, refl, sym, ap, subst, ◌∙◌, arith, is_some, ne_eqb, ◌==◌}
 use Rattle.std.specs.Prelude.{Option, Some, None, option_map, ◌⊎◌, IfSome, Result, Ok, Err, IfOk, OnOk}
 use Rattle.std.specs.List.{AllByRecursion}
 use Rattle.std.specs.Option.{option_or}
@@ -44,7 +44,7 @@ use Rattle.layer_session.specs.declared.file_layer.FileLayer.TheVariants.{Read, 
 use Rattle.layer_session.proofs.Crashes.{layers_are_kept}
 use Rattle.chain_core.specs.declared.layers.Layers.{Layers}
 use Rattle.merge_plan.specs.Attached.{AreAsOpened, AreAttached, CanStart}
-use Rattle.chain_core.specs.Starting.{AreReadOf, EachOpensAlike, IsOfDisk, JudgesIds, LeavesOthersFrom, StartsWith, under, opening_disk, placed_from, started}
+use Rattle.chain_core.specs.Starting.{AreReadOf, EachOpensAlike, IsOfDisk, JudgesIds, LeavesOthersFrom, StartsWith, under, opening_disk, placed_from, started, way_to}
 use Rattle.chain_core.specs.Starting.{HasBegun as HasBegunSession, IsRead as IsReadOnly}
 use Rattle.merge_plan.specs.declared.drawing.NewIds.{NewIds}
 use Rattle.chain_core.specs.declared.starting.StartRefusal.{StartRefusal}
@@ -71,7 +71,7 @@ placed_count t n (f ∷ files) = ap suc (placed_count t (n + 1) files)
 
 all_kept : (t : Trace) (n : ℕ) (files : List LinkedFile) → AreAsOpened t n files → AllByRecursion (IsKept t) (placed_from t n files)
 all_kept t n [] o = tt
-all_kept t n (f ∷ files) o = (chains_begin.kept t n (seen (file_of t n)) f.parts o.0.within o.0.synced o.0.reads, all_kept t (n + 1) files o.1)
+all_kept t n (f ∷ files) o = (chains_begin.kept t n (seen (file_of t n)) f.parts o.0.within o.0.synced o.0.reads (omega arith), all_kept t (n + 1) files o.1)
 
 is_chain : (t : Trace) (n : ℕ) (files : List LinkedFile) → IsLine files → AreAsOpened t n files → IsChain (members_of (placed_from t n files))
 is_chain t n [] line o = absurd line
@@ -247,8 +247,8 @@ module _ (trace : Trace) (leaf : LinkedFile) (others : List LinkedFile) (attache
     few = let count : length (members_of chain) ≡ length (leaf ∷ others) = placed_count trace 0 (leaf ∷ others) in omega arith;
   }
 
-  pub served : IsServedChain z opening [] leaf.name [] chain trace
-  served = chains_begin.served z leaf.name [] chain trace linked (all_kept trace 0 (leaf ∷ others) attached.each)
+  pub served : IsServedChain z opening [] (way_to leaf (leaf ∷ others) None) [] chain trace
+  served = chains_begin.served z (way_to leaf (leaf ∷ others) None) [] chain trace linked (inl (placed_names trace 0 (leaf ∷ others) attached.each)) (all_kept trace 0 (leaf ∷ others) attached.each)
 
   pub whole : (s : ℕ) → s < leaf.parts.geometry.sectors → is_some (seen_in chain s) ≡ true
   whole = owned trace 0 (leaf ∷ others) leaf.parts.geometry line attached.each numbered (one_geometry leaf others leaf.parts.geometry refl line)
@@ -257,11 +257,11 @@ module _ (trace : Trace) (leaf : LinkedFile) (others : List LinkedFile) (attache
   tight among = ((λ s out. refl), none_loose_in trace 1 others)
 
   -- images of a store as it was attached
-  rests : EachOpens leaf.name clean opening trace
-  rests = served_chains_open.settled z opening [] leaf.name clean [] chain trace attached.once served (tight clean)
+  rests : EachOpens (way_to leaf (leaf ∷ others) None) clean opening trace
+  rests = served_chains_open.settled z opening [] (way_to leaf (leaf ∷ others) None) clean [] chain trace attached.once served (tight clean)
 
-  pub opens_at_rest : EachMoment (EachOpens leaf.name (λ s. false) opening) trace trace
-  opens_at_rest = EachMoment-now (EachOpens leaf.name (λ s. false) opening) trace rests
+  pub opens_at_rest : EachMoment (EachOpens (way_to leaf (leaf ∷ others) None) (λ s. false) opening) trace trace
+  opens_at_rest = EachMoment-now (EachOpens (way_to leaf (leaf ∷ others) None) (λ s. false) opening) trace rests
 
   -- a chain that is only read
   pub reads_from : (layers : Layers) → layers.geometry ≡ leaf.parts.geometry → layers.leaf ≡ None → HasNoMerge layers → HaveFiles layers.below.items trace chain → IsServing layers (started trace leaf others leaf.parts) trace
@@ -272,12 +272,13 @@ module _ (trace : Trace) (leaf : LinkedFile) (others : List LinkedFile) (attache
     loose = tight (is_dirty z []);
     course = subst (λ o. IsCourse z (λ n. n == 0) layers o top (plain rest)) (sym no_merge.0) tt;
     leaving = subst (λ o. IsRetiring z (λ n. n == 0) [] layers o top (plain rest)) (sym no_merge.1) tt;
+    drops = tt;
     held = subst (λ o. AreHeld o layers.below.items trace top rest) (sym none) ((λ s. refl), read);
     whole = whole;
     synced = all_synced (λ n. n == 0) trace 0 (leaf ∷ others) attached.each;
     written = subst (λ o. IfSome o (λ l. ((0 == 0) ≡ true) × AreWritten (λ n. n == 0) layers.below.items)) (sym none) tt;
     still = λ other none. refl;
-    past = EachMoment-now (OpensToPrefix z opening [] (λ s. false) leaf.name) trace (prefixes_stay.broken z opening [] (λ s. false) leaf.name trace rests);
+    past = EachMoment-now (OpensToPrefix z opening [] (λ s. false) (way_to leaf (leaf ∷ others) None)) trace (prefixes_stay.broken z opening [] (λ s. false) (way_to leaf (leaf ∷ others) None) trace rests);
   }
 
   -- the leaf's session begins
@@ -288,10 +289,10 @@ module _ (trace : Trace) (leaf : LinkedFile) (others : List LinkedFile) (attache
     linked_in : IsChainOf leaf.name [] (members_of (next ∷ rest))
     linked_in = files_may_change.leaf leaf.name [] top.member next.member (members_of rest) (members_of rest) linked refl refl refl (chain_in trace ids leaf.parts (members_of rest) linked.linked)
 
-    goes : Survives z opening [] leaf.name clean next [] (next ∷ rest) trace now
-    goes = file_goes_over z opening [] leaf.name clean [] [] top next rest trace now attached.once served over (λ s. refl) refl linked_in (tight clean) ((λ s out. refl), none_loose_in trace 1 others)
+    goes : Survives z opening [] (way_to leaf (leaf ∷ others) None) clean next [] (next ∷ rest) trace now
+    goes = file_goes_over z opening [] (way_to leaf (leaf ∷ others) None) clean [] [] top next rest trace now attached.once served over (λ s. refl) refl linked_in (tight clean) ((λ s out. refl), none_loose_in trace 1 others)
 
-    pub opens_on : EachMoment (EachOpens leaf.name (λ s. false) opening) trace now
+    pub opens_on : EachMoment (EachOpens (way_to leaf (leaf ∷ others) None) (λ s. false) opening) trace now
     opens_on = goes.moments
 
     abbrev Goes : List ℕ → Type 0
@@ -309,12 +310,13 @@ module _ (trace : Trace) (leaf : LinkedFile) (others : List LinkedFile) (attache
       loose = ((λ s out. refl), none_loose_in trace 1 others);
       course = subst (λ o. IsCourse z (λ n. n == 0) layers o next (plain rest)) (sym no_merge.0) tt;
       leaving = subst (λ o. IsRetiring z (λ n. n == 0) [] layers o next (plain rest)) (sym no_merge.1) tt;
+      drops = tt;
       held = subst (λ o. AreHeld o layers.below.items now next rest) (sym is) (serves, read);
       whole = whole;
       synced = all_synced (λ n. n == 0) trace 0 (leaf ∷ others) attached.each;
       written = subst (λ o. IfSome o (λ l. ((0 == 0) ≡ true) × AreWritten (λ n. n == 0) layers.below.items)) (sym is) (refl, none_written 1 others layers.below.items (omega arith) of);
       still = λ other none. phase_others 0 Goes trace now over.phase other (λ same. let never : true ≡ false = ap (λ n. n == 0) (sym same) ∙ none in true_false never);
-      past = EachMoment-weaken (EachOpens leaf.name clean opening) (OpensToPrefix z opening [] (λ s. false) leaf.name) trace now (λ t opens. prefixes_stay.broken z opening [] (λ s. false) leaf.name t opens) goes.moments;
+      past = EachMoment-weaken (EachOpens (way_to leaf (leaf ∷ others) None) clean opening) (OpensToPrefix z opening [] (λ s. false) (way_to leaf (leaf ∷ others) None)) trace now (λ t opens. prefixes_stay.broken z opening [] (λ s. false) (way_to leaf (leaf ∷ others) None) t opens) goes.moments;
     }
 
 -- ---- the other files

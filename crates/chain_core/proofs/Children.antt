@@ -145,6 +145,7 @@ module _ (v : State) (top : Placed) (pre : List Placed) (child source target : P
         loose = tight;
         course = subst (λ o. IsCourse z v.writes new o top (merging (pre ++ after ∷ []) source target below m)) (sym merge_now) under_then;
         leaving = subst (λ o. IsRetiring z v.writes v.history new o top (merging (pre ++ after ∷ []) source target below m)) (sym none_now) tt;
+        drops = serving.drops;
         held = subst (λ o. AreHeld o new.below.items now top ((pre ++ after ∷ []) ++ rest)) (sym leaf_now) (top_stands, stand);
         whole = λ s inside. subst (λ (c : List SectorLayer). is_some (through (top.member.layer ∷ c) s) ≡ true) (sym (same_layers pre child after rest refl)) (serving.whole s inside);
         synced = (serving.synced.0, all_but (WasSynced v.writes v.since) pre child after rest (λ h. h) serving.synced.1);

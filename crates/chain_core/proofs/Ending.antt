@@ -6,14 +6,14 @@ use Rattle.std.proofs.lemmas.List.{append-nil, append_assoc, map-append}
 use Rattle.chain_model.proofs.Showing.{all_left, all_right}
 use Rattle.store_model.specs.declared.fault.StoreFault.{StoreFault}
 use Rattle.store_model.specs.Disk.{Disk, WhereBothTold}
-use Rattle.store_model.specs.File.{is_synced}
+use Rattle.store_model.specs.File.{File, is_synced, seen}
 use Rattle.store_model.specs.Cause.{RoseAt}
 use Rattle.store_model.specs.Plans.{FailsToChange}
 use Rattle.store_model.specs.Trace.{EachMoment, Trace, file_of, moment}
 use Rattle.store_model.proofs.Spans.{EachMoment-join, EachMoment-now, at_moment-now}
 use Rattle.guest_model.specs.Calls.{Disk as GuestDisk}
 use Rattle.guest_model.specs.History.{History, replay}
-use Rattle.chain_model.specs.Members.{IsChainOf, Member, NoneTwice, disk_of, names_of}
+use Rattle.chain_model.specs.Members.{IsChainOf, Member, NoneTwice, disk_of, names_of, Way, IsBy}
 use Rattle.chain_model.specs.Images.{NoneLoose, Placed, members_of}
 use Rattle.chain_model.specs.Moments.{EachOpens, IsPhase}
 use Rattle.chain_model.specs.PhaseLaws.{IsNamedOnce}
@@ -22,6 +22,7 @@ use Rattle.chain_model.proofs.Calling.{loosened_is_kept}
 use Rattle.chain_model.proofs.Phasing.{Opens, kept_behind, opens_merging, opens_settled, served_before, served_beside}
 use Rattle.chain_model.proofs.Serving.{past_goes_on, phases_open, phases_show, served_chains_open}
 use Rattle.layer_session.specs.declared.file.Layer.{Layer}
+use Rattle.layer_session.specs.Unnamed.{NamesNoLog}
 use Rattle.layer_session.specs.declared.file_layer.FileLayer.{FileLayer}
 use Rattle.layer_session.specs.declared.file_layer.FileLayer.TheVariants.{Session, Read}
 use Rattle.layer_session.specs.Calls.{HasEnded as HasEndedLeaf, IsBeside, KeepsOver, own_file, settled}
@@ -126,17 +127,17 @@ rest_others layers x items split n others = all_left (λ l. number_of l ≢ n) l
 
 -- ---- one file of a chain stays as it is while it is written
 
-opens_by : (z : ℕ) (opening : GuestDisk) (h : History) (leaf : List ℕ) (among : ℕ → Bool) (retired : List Placed) (top : Placed) (rest : Rest) (old : Trace)
+opens_by : (z : ℕ) (opening : GuestDisk) (h : History) (leaf : Way) (among : ℕ → Bool) (retired : List Placed) (top : Placed) (rest : Rest) (old : Trace)
     → IsNamedOnce old → IsServed z opening h leaf retired (top ∷ others_of rest) old → IsLoose among top rest → Opens leaf among (replay z opening h) old (retired ++ (top ∷ others_of rest))
-opens_by z opening h leaf among retired top (plain others) old once served loose = opens_settled leaf among retired (top ∷ others) (replay z opening h) old once served.linked loose served.disk
+opens_by z opening h leaf among retired top (plain others) old once served loose = opens_settled leaf among retired (top ∷ others) (replay z opening h) old once served.linked served.by loose served.disk
 opens_by z opening h leaf among retired top (merging above source target below m) old once served loose =
-    opens_merging leaf among retired (top ∷ above) source target below (replay z opening h) old once served.linked loose served.disk
-opens_by z opening h leaf among retired top (retiring target below first before) old once served loose = opens_merging leaf among retired [] top target below (replay z opening h) old once served.linked loose served.disk
+    opens_merging leaf among retired (top ∷ above) source target below (replay z opening h) old once served.linked served.by loose served.disk
+opens_by z opening h leaf among retired top (retiring target below first before) old once served loose = opens_merging leaf among retired [] top target below (replay z opening h) old once served.linked served.by loose served.disk
 
 shows_now : (f : Placed) (old new : Trace) → IsPhase f.number (ShowsFile f) old new → HasGoneOver f new
 shows_now f old new phase = subst (λ t. HasGoneOver f t) (at_moment-now new) (phase.each (moment new) phase.later (omega arith)).images
 
-pub file_stays : (z : ℕ) (opening : GuestDisk) (h : History) (leaf : List ℕ) (among : ℕ → Bool) (retired : List Placed) (top : Placed) (rest : Rest) (above : List Placed) (f : Placed) (below : List Placed) (old new : Trace)
+pub file_stays : (z : ℕ) (opening : GuestDisk) (h : History) (leaf : Way) (among : ℕ → Bool) (retired : List Placed) (top : Placed) (rest : Rest) (above : List Placed) (f : Placed) (below : List Placed) (old new : Trace)
     → top ∷ others_of rest ≡ above ++ f ∷ below → IsNamedOnce old → IsServed z opening h leaf retired (top ∷ others_of rest) old → IsLoose among top rest → IsPhase f.number (ShowsFile f) old new
     → EachMoment (EachOpens leaf among (replay z opening h)) old new × IsServed z opening h leaf retired (top ∷ others_of rest) new
 file_stays z opening h leaf among retired top rest above f below old new e once served loose phase =
@@ -149,6 +150,7 @@ file_stays z opening h leaf among retired top rest above f below old new e once 
       phases_open f f old new leaf among (replay z opening h) (retired ++ (above ++ f ∷ below)) (retired ++ (above ++ f ∷ below)) over kept beside beside opens opens,
       record {
         linked = served.linked;
+        by = served.by;
         kept = subst (λ (c : List Placed). AllByRecursion (IsKept new) (retired ++ c)) (sym e) (kept_behind f f old new (retired ++ (above ++ f ∷ below)) over (shows_now f old new phase) kept beside);
         disk = served.disk;
       },
@@ -212,12 +214,13 @@ module _ (v : State) (layers : List FileLayer) (x : FileLayer) (first : List Pla
       record {
         kept = phases_show.rest f f trace now (settled p) (goes_over f f trace now refl refl phase) ne.0 ended.0.kept;
         synced = λ writes. ap is_synced (phase_others f.number (ShowsFile f) trace now phase p.number ne.0) ∙ ended.0.synced writes;
+        no_log = λ writes. subst (λ (x : File). NamesNoLog (seen x)) (sym (phase_others f.number (ShowsFile f) trace now phase p.number ne.0)) (ended.0.no_log writes);
       },
       ended_still files ne.1 ended.1,
     )
 
-    one_ended : IsKept now (settled f) → is_synced (file_of now f.number) ≡ true → IsEnding v layers first (f ∷ last) now
-    one_ended kept synced = record {
+    one_ended : IsKept now (settled f) → is_synced (file_of now f.number) ≡ true → NamesNoLog (seen (file_of now f.number)) → IsEnding v layers first (f ∷ last) now
+    one_ended kept synced no_log = record {
       once = still_once f.number (ShowsFile f) trace now phase is.once;
       served = stays.1;
       loose = is.loose;
@@ -225,7 +228,7 @@ module _ (v : State) (layers : List FileLayer) (x : FileLayer) (first : List Pla
       have = still_read f.number (ShowsFile f) trace now phase layers first round.0.1 have;
       tight = all_left (λ p. v.writes p.number ≡ false → (s : ℕ) → p.is_loose s ≡ false) first (f ∷ []) is.tight;
       written = all_left (λ l. v.writes (number_of l) ≡ is_session l) layers (x ∷ []) is.written;
-      ended = (record { kept = kept; synced = λ writes. synced }, ended_still last round.1 is.ended);
+      ended = (record { kept = kept; synced = λ writes. synced; no_log = λ writes. no_log }, ended_still last round.1 is.ended);
       still = one_still;
       past = end_goes_on.past;
     }
@@ -252,6 +255,7 @@ module _ (v : State) (layers : List FileLayer) (x : FileLayer) (first : List Pla
           record {
             kept = loosened_is_kept (λ s. false) f trace (λ s out. (all_right (λ p. v.writes p.number ≡ false → (s : ℕ) → p.is_loose s ≡ false) first (f ∷ []) is.tight).0 unwritten s) kept_own;
             synced = λ writes. absurd (let never : true ≡ false = sym writes ∙ unwritten in true_false never);
+            no_log = λ writes. absurd (let never : true ≡ false = sym writes ∙ unwritten in true_false never);
           },
           is.ended,
         );
@@ -264,7 +268,7 @@ one_ends : (v : State) (layers : List FileLayer) (x : FileLayer) (first : List P
 one_ends v layers (Session l) first f last trace now (Ok done) is have own ends =
     let phase : IsPhase f.number (ShowsFile f) trace now = ends.moments.over f own refl in (
       (stays v layers (Session l) first f last trace is have own now phase refl).0,
-      one_ended v layers (Session l) first f last trace is have own now phase refl (ends.ended.kept f own refl) (ends.ended.synced f own refl),
+      one_ended v layers (Session l) first f last trace is have own now phase refl (ends.ended.kept f own refl) (ends.ended.synced f own refl) (ends.ended.no_log f own refl),
     )
 one_ends v layers (Session l) first f last trace now (Err fault) is have own ends = end_goes_on v layers (Session l) first f last trace is have own now (ends.moments.over f own refl) refl
 one_ends v layers (Read l) first f last trace now (Ok done) is have own ends =
@@ -353,7 +357,8 @@ all_ended v now once served ended =
     let same = members_settled (files_of v) in
     served_chains_open.settled (sector_of v) v.opening v.history v.leaf (λ s. false) v.retired (map settled (files_of v)) now once
     (record {
-      linked = subst (λ c. IsChainOf v.leaf (members_of v.retired) c) (sym same) served.linked;
+      linked = subst (λ c. IsChainOf v.leaf.name (members_of v.retired) c) (sym same) served.linked;
+      by = subst (IsBy v.leaf) (sym same) served.by;
       kept = kept_with now v.retired (files_of v) (map settled (files_of v)) served.kept (all_kept v.writes now (files_of v) ended);
       disk = ap disk_of same ∙ served.disk;
     }) ((λ s clean. refl), none_loose (others_of v.rest))
@@ -367,6 +372,11 @@ all_synced writes since now still (f ∷ files) synced ended = (by_writes (write
     by_writes : (b : Bool) → writes f.number ≡ b → is_synced (file_of now f.number) ≡ true
     by_writes true is = ended.0.synced is
     by_writes false is = ap is_synced (still f.number is) ∙ synced.0 is
+
+-- and none that it could change names a log
+all_unnamed : (writes : ℕ → Bool) (now : Trace) (files : List Placed) → AllByRecursion (HasEndedFile writes now) files → AllByRecursion (λ f. writes f.number ≡ true → NamesNoLog (seen (file_of now f.number))) files
+all_unnamed writes now [] ended = tt
+all_unnamed writes now (f ∷ files) ended = (ended.0.no_log, all_unnamed writes now files ended.1)
 
 -- what the leaf's layer tells of its end
 record EndsLeaf (leaf : Layer) (result : Result (Unit {0}) StoreFault) (trace now : Trace) : Type 0 where
@@ -403,6 +413,7 @@ module _ (v : State) (leaf : Layer) (trace mid now : Trace) (moments : EachOpens
     record {
       kept = phases_show.rest v.top v.top mid now (settled p) (goes_over v.top v.top mid now refl refl top_phase) ne.0 ended.0.kept;
       synced = λ writes. ap is_synced (phase_others v.top.number (ShowsFile v.top) mid now top_phase p.number ne.0) ∙ ended.0.synced writes;
+      no_log = λ writes. subst (λ (x : File). NamesNoLog (seen x)) (sym (phase_others v.top.number (ShowsFile v.top) mid now top_phase p.number ne.0)) (ended.0.no_log writes);
     },
     others_ended files ne.1 ended.1,
   )
@@ -410,12 +421,13 @@ module _ (v : State) (leaf : Layer) (trace mid now : Trace) (moments : EachOpens
   chain_ended : AllByRecursion (WasSynced v.writes v.since) (files_of v) → HasEndedLeaf leaf mid now → HasEndedWhole true v trace now
   chain_ended synced done =
       let far = (apart_around mid [] v.top (others_of v.rest) (all_right (IsKept mid) v.retired (files_of v) is.served.kept) (names_behind v.retired (files_of v) is.served.linked.once)).1 in
-      let all : AllByRecursion (HasEndedFile v.writes now) (files_of v) = (record { kept = done.kept v.top serves; synced = λ writes. done.synced v.top serves }, others_ended (others_of v.rest) far is.ended) in
+      let all : AllByRecursion (HasEndedFile v.writes now) (files_of v) = (record { kept = done.kept v.top serves; synced = λ writes. done.synced v.top serves; no_log = λ writes. done.no_log v.top serves }, others_ended (others_of v.rest) far is.ended) in
       record {
         ended = chain_ends;
         all = all_ended v now (still_once v.top.number (ShowsFile v.top) mid now top_phase is.once) top_stays.1 all;
         links = served_links (sector_of v) v.opening v.history v.leaf v.retired (files_of v) now (still_once v.top.number (ShowsFile v.top) mid now top_phase is.once) top_stays.1;
         synced = λ session. all_synced v.writes v.since now top_still (files_of v) synced all;
+        no_log = λ session. all_unnamed v.writes now (files_of v) all;
       }
 
 -- ---- a session's end

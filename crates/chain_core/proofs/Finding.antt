@@ -32,6 +32,10 @@ use Rattle.layer_session.specs.ReadOnly.{SomeReadFailed}
 use Rattle.layer_session.specs.FileLayers.{AreReadyFiles, AreSameFiles, HaveFiles, HaveSameNumbers, file_numbers, log_header, log_number, number_of, table_parts}
 use Rattle.layer_session.proofs.Standing.{layers_stand}
 use Rattle.chain_core.specs.declared.layers.Layers.{Layers}
+use Rattle.read_plan.specs.Plans.{filled}
+use Rattle.read_plan.specs.declared.plan.Extent.{Extent}
+use Rattle.sealed_layer.specs.Planned.{AreNamedRead, PlanHad, files_in}
+use Rattle.chain_core.specs.Planned.{FindsPlanned, PlansPart}
 use Rattle.chain_core.specs.Reading.{AddsPart, HasOnlyRead, of_read, of_session}
 use Rattle.chain_core.specs.declared.layers.Underway.{Underway}
 use Rattle.chain_core.specs.Sessions.{AreApart, AreReady, AtMostOne, CanRelink, CanRetire, IsMergeOf, IsReadyLeaf, IsRetiringOf, number_of_leaf}
@@ -97,6 +101,7 @@ swapped old new v trace g course leaving written held s = record {
   loose = s.loose;
   course = course;
   leaving = leaving;
+  drops = s.drops;
   held = held;
   whole = s.whole;
   synced = s.synced;
@@ -414,3 +419,34 @@ finds old mid disk mid_disk first count mask1 mask2 out out1 out2 (Ok t) few ins
     replied z first count v old trace out2 (ap (λ (g : Geometry). g.sector) serving.geometry) serving (subst (λ (g : Geometry). first + count ≤ g.sectors) serving.geometry inside) len
     (λ k bytes below is. found (of_session old.leaf v) (of_read mid.leaf v) z first count k bytes (replicate 256 0) mask1 mask2 out out1 out2 a b below (blank k (omega arith))
     (all_parts old.leaf mid.leaf v (first + k) heads ∙ is))
+
+-- ---- what is planned
+
+pub below_plans : (layers : Layers) (was : List FileLayer) (disk : Disk) (first count : ℕ) (mask new_mask : List ℕ) (plan new_plan : List Extent) (out new_out : List ℕ) (answer : Result (Unit {0}) StoreFault) → was ≡ layers.below.items
+    → OnOk answer (PlanHad was layers.geometry.sector disk first count mask new_mask plan new_plan out new_out) → OnOk answer (PlansPart of_read first count layers disk mask new_mask plan new_plan out new_out)
+below_plans layers was disk first count mask new_mask plan new_plan out new_out (Err fault) w planned = tt
+below_plans layers was disk first count mask new_mask plan new_plan out new_out (Ok t) w planned = λ trace told v serving. by_leaf layers.leaf trace told v serving.held
+  where
+    by_leaf : (o : Option Layer) (trace : Trace) → disk.told ≡ Some trace → (v : State) → AreHeld o layers.below.items trace v.top (others_of v.rest)
+        → AddsOwned (of_read o v) layers.geometry.sector first count 0 mask new_mask (filled layers.geometry.sector (files_in trace) plan out) (filled layers.geometry.sector (files_in trace) new_plan new_out)
+    by_leaf None trace told v held = planned (files_of v) trace told (subst (λ (b : List FileLayer). HaveFiles b trace (files_of v)) (sym w) held.1)
+    by_leaf (Some leaf) trace told v held = planned (others_of v.rest) trace told (subst (λ (b : List FileLayer). HaveFiles b trace (others_of v.rest)) (sym w) held.1)
+
+pub finds_planned : (old mid : Layers) (disk mid_disk : Disk) (first count : ℕ) (mask1 mask2 : List ℕ) (plan : List Extent) (out out1 out2 : List ℕ) (answer : Result (Unit {0}) StoreFault) → count ≤ 2048 → first + count ≤ old.geometry.sectors
+    → length out ≡ old.geometry.sector * count → HasOnlyRead old mid disk mid_disk → mid_disk ≡ disk → AddsPart of_session first count old disk (replicate 256 0) mask1 out out1
+    → OnOk answer (PlansPart of_read first count mid mid_disk mask1 mask2 [] plan out1 out2) → OnOk answer (FindsPlanned first count plan out2 old disk)
+finds_planned old mid disk mid_disk first count mask1 mask2 plan out out1 out2 (Err fault) few inside len reads same one two = tt
+finds_planned old mid disk mid_disk first count mask1 mask2 plan out out1 out2 (Ok t) few inside len reads same one two = λ trace told v serving.
+    let z = old.geometry.sector in
+    let a = one trace told v serving in
+    let b' = two trace (ap (λ (d : Disk). d.told) same ∙ told) v (reads.serves trace told v serving) in
+    let b = subst (λ (n : ℕ). AddsOwned (of_read mid.leaf v) n first count 0 mask1 mask2 out1 (filled n (files_in trace) plan out2)) (ap (λ (g : Geometry). g.sector) reads.geometry) b' in
+    let heads : option_map (λ (l : Layer). l.log.number) mid.leaf ≡ option_map (λ (l : Layer). l.log.number) old.leaf = first_of _ _ _ _ reads.numbers in
+    let after = filled z (files_in trace) plan out2 in
+    replied z first count v old trace after (ap (λ (g : Geometry). g.sector) serving.geometry) serving (subst (λ (g : Geometry). first + count ≤ g.sectors) serving.geometry inside) (b.len ∙ a.len ∙ len)
+    (λ k bytes below is. found (of_session old.leaf v) (of_read mid.leaf v) z first count k bytes (replicate 256 0) mask1 mask2 out out1 after a b below (blank k (omega arith))
+    (all_parts old.leaf mid.leaf v (first + k) heads ∙ is))
+
+-- the same files are named
+pub named_so : (old new : Layers) (of : ℕ → Bool) → new.below ≡ old.below → AreNamedRead of old.below.items → AreNamedRead of new.below.items
+named_so old new of same named = subst (λ below. AreNamedRead of below.items) (sym same) named

@@ -249,7 +249,7 @@ module _ (v : State) (top source target : Placed) (below : List Placed) (m : Mer
       let loose : LooseAtTop (dirty_now here) (top ∷ source ∷ target ∷ below) = loose_moves.committed (dirty_now here) (top ∷ []) source target below serving.loose tight in
       let written : (v.writes top.number ≡ true) × AreWritten v.writes old.below.items = subst (λ o. IfSome o (λ l. (v.writes top.number ≡ true) × AreWritten v.writes old.below.items)) is serving.written in
       ended_by here old top.number (λ bytes. ShowsFile top bytes ⊎ ShowsFile after bytes) x y serving written.0 top_over.phase
-      (relinks_then v [] top source target below x y (sector_of here) (dirty_now here) serving.once serving.served loose was.tables.parts.bat_len u.relink top_relinks top_over
+      (relinks_then v [] top source target below x y (sector_of here) (dirty_now here) serving.once serving.served loose serving.drops was.tables.parts.bat_len u.relink top_relinks top_over
       (has_all v top [] source target below m old u disk x merge_is ready serving marked)).moments
 
 -- the child stands below the leaf
@@ -292,7 +292,7 @@ module _ (v : State) (top : Placed) (pre : List Placed) (child source target : P
       let loose : LooseAtTop (dirty_now here) ((top ∷ pre) ++ child ∷ rest) =
       subst (λ (c : List Placed). LooseAtTop (dirty_now here) (top ∷ c)) e (loose_moves.committed (dirty_now here) (top ∷ (pre ++ child ∷ [])) source target below serving.loose tight) in
       ended_by here old child.number (λ bytes. ShowsFile child bytes ⊎ ShowsFile after bytes) x y serving child_writes child_over.phase
-      (relinks_then v (top ∷ pre) child source target below x y (sector_of here) (dirty_now here) serving.once served loose was.tables.parts.bat_len u.relink child_relinks child_over
+      (relinks_then v (top ∷ pre) child source target below x y (sector_of here) (dirty_now here) serving.once served loose serving.drops was.tables.parts.bat_len u.relink child_relinks child_over
       (has_all v top (pre ++ child ∷ []) source target below m old u disk x merge_is ready serving marked)).moments
 
 -- ---- what is told

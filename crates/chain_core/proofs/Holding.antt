@@ -54,6 +54,7 @@ rests_whole v layers trace is serving =
       all = all_durable v layers trace serving tight;
       links = served_links (sector_of v) v.opening v.history v.leaf v.retired (files_of v) trace serving.once serving.served;
       synced = λ session. absurd (false_true session);
+      no_log = λ session. absurd (false_true session);
     }
 
 pub rest_told : (layers : Layers) (disk : Disk) → layers.leaf ≡ None

@@ -36,7 +36,7 @@ use Rattle.merge_plan.specs.declared.leaf_drawing.LeafMergeIds.{LeafMergeIds}
 use Rattle.chain_core.specs.LeafStarting.{BeginsLeafMerge, HasBegunLeafMerge, IsLeafRoom, KeepsPlan, StartsLeafMerge, heir_in, is_first_two, leaf_chain, started_leaf_merge}
 use Rattle.chain_core.specs.MergeStarting.{BeginsNone, data_session}
 use Rattle.chain_core.specs.Sessions.{AreApart, AreReady, AtMostOne, CanRelink, CanRetire, IsLow, IsMergeOf, IsReadyLeaf, IsRetiringOf, first_layer, number_of_leaf}
-use Rattle.chain_core.specs.Starting.{opening_disk, placed_from}
+use Rattle.chain_core.specs.Starting.{opening_disk, placed_from, way_to}
 use Rattle.chain_core.specs.States.{IsServing}
 use Rattle.chain_core.specs.declared.layers.Layers.{Layers}
 use Rattle.chain_core.specs.declared.layers.Retiring.{Retiring}
@@ -63,7 +63,7 @@ module _ (m : LeafFiles) (merge : LeafMerge) (d : Disk) (can : CanStart (leaf_ch
       → BeginsLeafMerge m merge d new (Err fault)
   stops numbers new fault changed told fails = record {
     moments = moments_of m numbers d.told new.told told;
-    still = all_but is_first_two (λ t. opening_disk t (leaf_chain m)) m.source.name numbers changed d.told new.told told;
+    still = all_but is_first_two (λ t. opening_disk t (leaf_chain m)) (way_to m.source (leaf_chain m) None) numbers changed d.told new.told told;
     begun = tt;
     err = fails;
   }
@@ -153,7 +153,7 @@ module _ (m : LeafFiles) (merge : LeafMerge) (d : Disk) (can : CanStart (leaf_ch
       pub begins_with : (layers : Layers) → HasBegunLeafMerge m merge d b layers → BeginsLeafMerge m merge d b (Ok layers)
       begins_with layers begun = record {
         moments = moments_of m (1 ∷ 0 ∷ 0 ∷ []) d.told b.told opened_all;
-        still = all_but is_first_two (λ t. opening_disk t (leaf_chain m)) m.source.name (1 ∷ 0 ∷ 0 ∷ []) (refl, (refl, (refl, tt))) d.told b.told opened_all;
+        still = all_but is_first_two (λ t. opening_disk t (leaf_chain m)) (way_to m.source (leaf_chain m) None) (1 ∷ 0 ∷ 0 ∷ []) (refl, (refl, (refl, tt))) d.told b.told opened_all;
         begun = begun;
         err = tt;
       }

@@ -6,7 +6,7 @@ use Rattle.store_model.specs.File.{seen}
 use Rattle.store_model.specs.Trace.{Trace, file_of}
 use Rattle.guest_model.specs.Calls.{Disk}
 use Rattle.chain_model.specs.Images.{Placed, members_of}
-use Rattle.chain_model.specs.Members.{IsChain, IsChainOf}
+use Rattle.chain_model.specs.Members.{IsChain, IsChainOf, Way}
 use Rattle.chain_model.proofs.Linking.{files_may_change}
 use Rattle.layer_session.specs.Begins.{BeginsOver, HasBegun, as_found}
 use Rattle.layer_session.specs.Updating.{HasUpdated, TurnsInto, UpdatesOver, laid_region, own_len}
@@ -16,10 +16,11 @@ use Rattle.merge_plan.specs.LeafMerging.{KeepsLeafLinked, LeafFiles}
 use Rattle.merge_plan.specs.declared.leaf_drawing.LeafMergeIds.{LeafMergeIds}
 use Rattle.chain_core.specs.LeafStarting.{heir_in, leaf_begun, leaf_chain, leaf_in, linked_ties}
 use Rattle.chain_core.specs.MergeStarting.{data_session}
-use Rattle.chain_core.specs.Starting.{opening_disk, placed_from}
+use Rattle.chain_core.specs.Starting.{opening_disk, placed_from, way_to}
 use Rattle.chain_core.proofs.MergeFound.{IsFound, reached_first}
 use Rattle.chain_core.proofs.Phases.{Opened, Pair, Reached, chain_top, chain_with, same_first}
 use Rattle.chain_core.proofs.Stages.{begin_opens, begin_reaches, update_opens, update_reaches}
+use Rattle.std.specs.Prelude.{None}
 
 module _ (t0 : Trace) (m : LeafFiles) (ids : LeafMergeIds) (pages : List Page) where
   abbrev z : ℕ
@@ -28,8 +29,8 @@ module _ (t0 : Trace) (m : LeafFiles) (ids : LeafMergeIds) (pages : List Page) w
   abbrev opening : Disk
   opening = opening_disk t0 (leaf_chain m)
 
-  abbrev name : List ℕ
-  name = m.source.name
+  abbrev name : Way
+  name = way_to m.source (leaf_chain m) None
 
   abbrev leaf_found : Placed
   leaf_found = as_found t0 0 m.source.parts
@@ -69,8 +70,8 @@ module _ (t0 : Trace) (m : LeafFiles) (ids : LeafMergeIds) (pages : List Page) w
     at_rest : Reached z opening name (leaf_found ∷ heir_found ∷ rest) [] [] t0 t0
     at_rest = reached_first t0 m.source (m.target ∷ m.below) found
 
-    begun_linked : IsChainOf name [] (members_of (begun ∷ heir_found ∷ rest))
-    begun_linked = chain_top name leaf_found begun (heir_found ∷ rest) at_rest.served.linked refl refl refl refl refl
+    begun_linked : IsChainOf name.name [] (members_of (begun ∷ heir_found ∷ rest))
+    begun_linked = chain_top name.name leaf_found begun (heir_found ∷ rest) at_rest.served.linked refl refl refl refl refl
 
     pub begun_opens : Opened opening name (0 ∷ []) t0 now
     begun_opens = begin_opens z opening name t0 [] (heir_found ∷ rest) 0 m.source.parts (data_session ids.leaf) [] [] t0 now at_rest tt begun_linked over
@@ -90,8 +91,8 @@ module _ (t0 : Trace) (m : LeafFiles) (ids : LeafMergeIds) (pages : List Page) w
     relinked h =
         (links.found linked.member heir_found.member (record { parent = h.0.has; locator = refl; geometry = refl }) (record { name = (heir_opened found).name; id_is = refl; geometry = refl }), h.1)
 
-    twice_linked : IsChainOf name [] (members_of (linked ∷ heir_found ∷ rest))
-    twice_linked = chain_with name [] begun linked (heir_found ∷ rest) r.served.linked refl refl refl refl relinked
+    twice_linked : IsChainOf name.name [] (members_of (linked ∷ heir_found ∷ rest))
+    twice_linked = chain_with name.name [] begun linked (heir_found ∷ rest) r.served.linked refl refl refl refl relinked
 
     pub linked_opens : Opened opening name (0 ∷ 0 ∷ []) t0 now
     linked_opens =
@@ -117,8 +118,8 @@ module _ (t0 : Trace) (m : LeafFiles) (ids : LeafMergeIds) (pages : List Page) w
       same_first heir_found.member heir.member (members_of rest) refl refl refl h.1,
     )
 
-    heir_linked : IsChainOf name [] (members_of (linked ∷ heir ∷ rest))
-    heir_linked = files_may_change.leaf name [] linked.member linked.member (members_of (heir_found ∷ rest)) (members_of (heir ∷ rest)) r.served.linked refl refl refl (renewed r.served.linked.linked)
+    heir_linked : IsChainOf name.name [] (members_of (linked ∷ heir ∷ rest))
+    heir_linked = files_may_change.leaf name.name [] linked.member linked.member (members_of (heir_found ∷ rest)) (members_of (heir ∷ rest)) r.served.linked refl refl refl (renewed r.served.linked.linked)
 
     apart : AllByRecursion (λ k. ◌≢◌ {A = ℕ} 1 k) (0 ∷ 0 ∷ [])
     apart = (one_not_zero, (one_not_zero, tt))

@@ -14,7 +14,7 @@ use Rattle.chain_model.specs.Merges.{IsUnderWay}
 use Rattle.chain_model.specs.Moments.{EachOpens, OpensToPrefix}
 use Rattle.chain_model.specs.Stripes.{per_stripe, stamp, stripe_count}
 use Rattle.chain_model.proofs.Merging.{begins as merge_begins}
-use Rattle.chain_model.proofs.Serving.{loose_moves, prefixes_stay}
+use Rattle.chain_model.proofs.Serving.{loose_moves, prefixes_stay, opens_wider, served_wider}
 use Rattle.link_rules.specs.declared.linked.LinkedFile.{LinkedFile}
 use Rattle.layer_session.specs.Calls.{IsBeside}
 use Rattle.layer_session.specs.FileLayers.{FileTurns, HaveFiles}
@@ -34,7 +34,7 @@ use Rattle.merge_plan.proofs.NamesTurned.{names_turn}
 use Rattle.merge_plan.proofs.Opened.{lie_within}
 use Rattle.chain_core.specs.LeafStarting.{heir_in, is_first_two, leaf_chain, leaf_in, started_leaf_merge}
 use Rattle.chain_core.specs.MergeStarting.{data_session}
-use Rattle.chain_core.specs.Starting.{AreReadOf, opening_disk, placed_from}
+use Rattle.chain_core.specs.Starting.{AreReadOf, opening_disk, placed_from, way_to}
 use Rattle.chain_core.specs.States.{AreHeld, AreWritten, IsCleared, IsCourse, IsLeaving, IsRetiring, IsServing, Renames, WasSynced, target_parts}
 use Rattle.chain_core.specs.declared.layers.Layers.{Layers}
 use Rattle.chain_core.specs.declared.layers.Retiring.{Retiring}
@@ -45,6 +45,7 @@ use Rattle.chain_core.proofs.MergeServed.{Each, none_written, read_on, synced_on
 use Rattle.chain_core.proofs.Phases.{tight}
 use Rattle.chain_core.proofs.Stages.{laid_gives}
 use Rattle.layer_session.proofs.Equal.{true_false}
+use Rattle.chain_model.specs.Files.{files_in}
 
 -- ---- what the pages were built of
 
@@ -177,10 +178,11 @@ module _ (t0 now : Trace) (m : LeafFiles) (merge : LeafMerge) (given : AreGiven 
     serves_leaf_merge = record {
       once = e.once;
       geometry = geometry;
-      served = e.served;
+      served = served_wider z opening [] (way_to m.source (leaf_chain m) None) (Some m.source.name) [] (top ∷ heir ∷ rest) now refl e.served;
       loose = loose_moves.begins (is_dirty z []) [] top heir rest (tight (is_dirty z []) (top ∷ heir ∷ rest) e.none);
       course = subst (λ o. IsCourse z is_first_two layers o top (started_leaf_merge t0 now m ids merge.twice).rest) (sym none_now) tt;
       leaving = subst (λ o. IsRetiring z is_first_two [] layers o top (started_leaf_merge t0 now m ids merge.twice).rest) (sym merge_is) leaves;
+      drops = ap (λ n. Some n) (sym given.found.attached.each.0.name);
       held = subst (λ o. AreHeld o layers.below.items now top (heir ∷ rest)) (sym leaf_is)
           (e.serving.1.0, subst (λ (b : List FileLayer). HaveFiles b now (heir ∷ rest)) (sym below_is) have_below);
       whole = λ s below. whole_first t0 m.source (m.target ∷ m.below) given.found s below;
@@ -188,6 +190,7 @@ module _ (t0 now : Trace) (m : LeafFiles) (merge : LeafMerge) (given : AreGiven 
       written = subst (λ o. IfSome o (λ l. (is_first_two 0 ≡ true) × AreWritten is_first_two layers.below.items)) (sym leaf_is)
           (refl, subst (AreWritten is_first_two) (sym below_is) written_below);
       still = λ other none. refl;
-      past = EachMoment-weaken (EachOpens m.source.name (λ s. false) opening) (OpensToPrefix z opening [] (λ s. false) m.source.name) t0 now
-          (λ t opens. prefixes_stay.broken z opening [] (λ s. false) m.source.name t opens) e.moments;
+      past = EachMoment-weaken (EachOpens (way_to m.source (leaf_chain m) None) (λ s. false) opening) (OpensToPrefix z opening [] (λ s. false) (way_to m.source (leaf_chain m) (Some m.source.name))) t0 now
+          (λ t opens. prefixes_stay.broken z opening [] (λ s. false) (way_to m.source (leaf_chain m) (Some m.source.name)) t
+          (λ image is. opens_wider (files_in image) (way_to m.source (leaf_chain m) None) (Some m.source.name) (λ s. false) opening refl (opens image is))) e.moments;
     }

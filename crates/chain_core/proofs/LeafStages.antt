@@ -1,6 +1,6 @@
 -- The phases that prepare the merge of a leaf, each behind those before it, where a store may tell its content or not.
 use Rattle.std.proofs.Common.{◌≡◌, ◌≢◌, ℕ, false, List, [], ◌∷◌, arith}
-use Rattle.std.specs.Prelude.{Option}
+use Rattle.std.specs.Prelude.{None, Option}
 use Rattle.vhdx_format.specs.declared.log_entry.Page.{Page}
 use Rattle.store_model.specs.Disk.{Disk, WhereBothTold, WhereTold}
 use Rattle.store_model.specs.File.{seen}
@@ -17,7 +17,7 @@ use Rattle.merge_plan.specs.declared.leaf_drawing.LeafMergeIds.{LeafMergeIds}
 use Rattle.merge_plan.proofs.Opened.{lie_within}
 use Rattle.chain_core.specs.LeafStarting.{leaf_begun, leaf_chain, linked_ties}
 use Rattle.chain_core.specs.MergeStarting.{data_session}
-use Rattle.chain_core.specs.Starting.{EachOpensAlike, opening_disk}
+use Rattle.chain_core.specs.Starting.{EachOpensAlike, opening_disk, way_to}
 use Rattle.chain_core.proofs.LeafPhases.{AtBegun, AtHeir, AtLinked, begun_opens, begun_reaches, heir_opens, heir_reaches, linked_opens, linked_reaches}
 use Rattle.chain_core.proofs.MergeFound.{IsFound}
 use Rattle.chain_core.proofs.MergeStages.{serve_on}
@@ -28,10 +28,10 @@ use Rattle.store_model.proofs.Told.{both_and, both_from, both_join}
 
 -- each moment opened, and none but these files was changed
 abbrev pub OpenedOf : LeafFiles → List ℕ → Trace → Trace → Type 0
-OpenedOf m numbers t now = Opened (opening_disk t (leaf_chain m)) m.source.name numbers t now
+OpenedOf m numbers t now = Opened (opening_disk t (leaf_chain m)) (way_to m.source (leaf_chain m) None) numbers t now
 
 pub moments_of : (m : LeafFiles) (numbers : List ℕ) (old new : Option Trace) → WhereBothTold (OpenedOf m numbers) old new → EachOpensAlike (leaf_chain m) old new
-moments_of m numbers old new o = both_from (OpenedOf m numbers) (λ t now. EachMoment (EachOpens m.source.name (λ s. false) (opening_disk t (leaf_chain m))) t now) old new (λ a b x. x.moments) o
+moments_of m numbers old new o = both_from (OpenedOf m numbers) (λ t now. EachMoment (EachOpens (way_to m.source (leaf_chain m) None) (λ s. false) (opening_disk t (leaf_chain m))) t now) old new (λ a b x. x.moments) o
 
 module _ (m : LeafFiles) (ids : LeafMergeIds) (twice : List Page) (d : Disk) (can : CanStart (leaf_chain m) d) (links : KeepsLeafLinked m ids.target.data_write) where
   found : WhereTold d.told (λ t. IsFound t (leaf_chain m))

@@ -103,6 +103,7 @@ module _ (v : State) (target : Placed) (below : List Placed) (first before : Sec
     loose = loose;
     course = subst (λ o. IsCourse z v.writes new o v.top (retiring other below first before)) (sym merge_now) (by_merge layers.merge serving.course);
     leaving = subst (λ o. IsRetiring z v.writes v.history new o v.top (retiring other below first before)) (sym retiring_now) leaving;
+    drops = serving.drops;
     held = subst (λ o. AreHeld o new.below.items now v.top (other ∷ below)) (sym leaf_now) (
       layers_stand.beside leaf trace now v.top held.0 (phase_beside target.number P trace now phase v.top.number round.0.0),
       subst (λ (b : List FileLayer). HaveFiles b now (other ∷ below)) (sym items) (serves, still_read target.number P trace now phase rest below round.1 held.1.1),
@@ -146,7 +147,7 @@ module _ (v : State) (target : Placed) (below : List Placed) (first before : Sec
     loose_after = record { others = serving.loose.others; owned = loose_before.owned }
 
     served_wide : IsServed z v.opening v.history v.leaf v.retired (v.top ∷ wide ∷ below) trace
-    served_wide = record { linked = serving.served.linked; kept = kept_wide v.retired serving.served.kept; disk = serving.served.disk }
+    served_wide = record { linked = serving.served.linked; by = serving.served.by; kept = kept_wide v.retired serving.served.kept; disk = serving.served.disk }
       where
         kept_wide : (xs : List Placed) → AllByRecursion (IsKept trace) (xs ++ v.top ∷ target ∷ below) → AllByRecursion (IsKept trace) (xs ++ v.top ∷ wide ∷ below)
         kept_wide [] all = (all.0, (loosened_is_kept wide.is_loose target trace (λ s out. (or_parts (target.is_loose s) (is_in piece s) out).0) all.1.0, all.1.1))

@@ -55,3 +55,4 @@ pub mod RetireLeaf
 pub mod Noting
 pub mod Called
 pub mod Stopped
+pub mod Later

@@ -24,6 +24,8 @@ use Rattle.chain_model.specs.Merges.{marks_after}
 use Rattle.chain_model.proofs.Merging.{kept_by_call}
 use Rattle.chain_model.proofs.Stamping.{stamps_by_call}
 use Rattle.merge_core.specs.Copied.{marks_of}
+use Rattle.read_plan.specs.declared.plan.Extent.{Extent}
+use Rattle.chain_core.specs.Planned.{FindsPlanned}
 use Rattle.chain_core.specs.Reading.{Finds, HasOnlyRead}
 use Rattle.chain_core.specs.Answering.{EachOpensBefore, LayerAnswers, LayerTold, answer_of, as_read}
 use Rattle.chain_core.proofs.Steps.{at_rest, fewer_marks}
@@ -83,10 +85,11 @@ read_on first count who v layers trace s =
     let kept : IsServing layers longer trace = record {
       once = s.once;
       geometry = s.geometry;
-      served = record { linked = s.served.linked; kept = s.served.kept; disk = s.served.disk ∙ sym (replay_unchanged z v.opening v.history e refl) };
+      served = record { linked = s.served.linked; by = s.served.by; kept = s.served.kept; disk = s.served.disk ∙ sym (replay_unchanged z v.opening v.history e refl) };
       loose = loose_after z v.history e v.top v.top v.rest (record { call = λ sector loose named. loose; flush = λ flush. absurd (let never : false ≡ true = flush in false_true never) }) (λ sector. refl) s.loose;
       course = s.course;
       leaving = read_leaving first count v.history who layers v.writes z v.top v.rest s.leaving;
+      drops = s.drops;
       held = s.held;
       whole = s.whole;
       synced = s.synced;
@@ -123,3 +126,13 @@ found_before first count place bytes out layers0 layers1 disk0 disk1 answer resu
     by_case (Err fault) finds = tt
     by_case (Ok t) finds =
         subst (λ (b : List ℕ). Finds first count b layers0 disk0) (sym o) (subst (λ (k : Layers). Finds first count bytes k disk0) l (subst (λ (k : Disk). Finds first count bytes layers1 k) d finds))
+
+-- the same of what is planned
+pub planned_before : (first count place : ℕ) (plan : List Extent) (bytes : List ℕ) (layers0 layers1 : Layers) (disk0 disk1 : Disk) (answer : Result (Unit {0}) StoreFault) (result : Result ℕ ChainRefusal) → layers1 ≡ layers0 → disk1 ≡ disk0
+    → result ≡ answer_of place (as_read answer) → OnOk answer (FindsPlanned first count plan bytes layers1 disk1) → OnOk result (FindsPlanned first count plan bytes layers0 disk0)
+planned_before first count place plan bytes layers0 layers1 disk0 disk1 answer result l d is finds =
+    subst (λ r. OnOk r (FindsPlanned first count plan bytes layers0 disk0)) (sym is) (by_case answer finds)
+  where
+    by_case : (answer : Result (Unit {0}) StoreFault) → OnOk answer (FindsPlanned first count plan bytes layers1 disk1) → OnOk (answer_of place (as_read answer)) (FindsPlanned first count plan bytes layers0 disk0)
+    by_case (Err fault) finds = tt
+    by_case (Ok t) finds = subst (λ (k : Layers). FindsPlanned first count plan bytes k disk0) l (subst (λ (k : Disk). FindsPlanned first count plan bytes layers1 k) d finds)

@@ -38,7 +38,7 @@ use Rattle.merge_plan.specs.Planning.{HasPlan}
 use Rattle.merge_plan.specs.declared.drawing.LogIds.{LogIds}
 use Rattle.merge_plan.specs.declared.drawing.MergeIds.{MergeIds}
 use Rattle.merge_plan.specs.declared.merge.Merge.{Merge}
-use Rattle.chain_core.specs.MergeStarting.{BeginsMerge, BeginsNoMerge, ChildBegun, ChildOver, HasBegunMerge, HasBegunUpper, InnerFails, IsRoomFor, StartsMerge, behind_first, between_in, chain_files, data_session, is_changed, leaf_of, log_session, session_of, source_in, started_merge, target_in, target_place}
+use Rattle.chain_core.specs.MergeStarting.{BeginsMerge, BeginsNoMerge, ChildBegun, ChildOver, HasBegunMerge, HasBegunUpper, InnerFails, IsRoomFor, ServesMerge, StartsMerge, behind_first, between_in, chain_files, data_session, is_changed, leaf_of, log_session, session_of, source_in, started_merge, target_in, target_place}
 use Rattle.chain_core.specs.Sessions.{AreApart, AreReady, AtMostOne, CanRelink, CanRetire, IsLow, IsMergeOf, IsReadyLeaf, IsRetiringOf, child_layer, number_of_leaf}
 use Rattle.chain_core.specs.Starting.{AreReadOf}
 use Rattle.chain_core.specs.States.{AreHeld, IsCourse, IsServing, IsUnder, State, child_parts, others_of, sector_of}
@@ -432,7 +432,7 @@ module _ (m : MergeFiles) (merge : Merge) (d : Disk) (can : CanStart (chain_file
       module _ (layers : Layers) (u : Underway) (geometry : layers.geometry ≡ g) (leaf_is : layers.leaf ≡ Some leaf) (merge_is : layers.merge ≡ Some u) (none_now : layers.retiring ≡ None) (below_is : layers.below.items ≡ below) (place : u.source ≡ length m.above)
           (marks : u.marks ≡ room.marks) (relink_is : u.relink ≡ merge.relink) (serving : StartsMerge m merge layers d.told b.told) where
         served_now : WhereTold b.told (λ t. (v : State) × IsServing layers v t)
-        served_now = told_last (λ trace now. IsServing layers (started_merge trace now m ids pages) now) (λ t. (v : State) × IsServing layers v t) (λ x y s. (started_merge x y m ids pages, s)) d.told b.told serving
+        served_now = told_last (ServesMerge m merge layers) (λ t. (v : State) × IsServing layers v t) (λ x y s. (started_merge x y m ids pages, s.serving)) d.told b.told serving
 
         held_now : (t : Trace) → b.told ≡ Some t → ((file : Placed) × Serves leaf t file) × ((files : List Placed) × HaveFiles below t files)
         held_now t told =
@@ -467,7 +467,7 @@ module _ (m : MergeFiles) (merge : Merge) (d : Disk) (can : CanStart (chain_file
         relinks_ready = record {
           few = few_pages (length merge.relink) (length u.relink) plan.relink.has.few (ap (λ (ps : List Page). length ps) relink_is);
           turns = some_told b.told (child_layer (Some leaf) below u.source) (λ l t. FileTurns l u.relink t)
-              (told_last (λ trace now. IsServing layers (started_merge trace now m ids pages) now) (λ t. IfSome (child_layer (Some leaf) below u.source) (λ l. FileTurns l u.relink t)) child_turns d.told b.told serving);
+              (told_last (ServesMerge m merge layers) (λ t. IfSome (child_layer (Some leaf) below u.source) (λ l. FileTurns l u.relink t)) (λ x y s. child_turns x y s.serving) d.told b.told serving);
         }
 
         are_ready : AreReady layers b

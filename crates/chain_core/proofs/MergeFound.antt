@@ -13,12 +13,13 @@ use Rattle.link_rules.specs.declared.linked.LinkedFile.{LinkedFile}
 use Rattle.layer_session.specs.Begins.{as_found}
 use Rattle.merge_plan.specs.Merging.{MergeFiles, source_place}
 use Rattle.chain_core.specs.MergeStarting.{chain_files, first_or, leaf_of, target_place}
-use Rattle.chain_core.specs.Starting.{opening_disk, placed_from}
+use Rattle.chain_core.specs.Starting.{opening_disk, placed_from, way_to}
 use Rattle.merge_plan.specs.Attached.{AreAsOpened, AreAttached, IsAsOpened}
 use Rattle.chain_core.specs.States.{seen_in}
 use Rattle.chain_core.proofs.Beginning.{none_loose_in, opens_at_rest, served, whole}
 use Rattle.chain_core.proofs.Phases.{Reached}
 use Rattle.merge_plan.proofs.Planned.{opened_below}
+use Rattle.std.specs.Prelude.{None}
 
 -- ---- the leaf and the files below it
 
@@ -95,7 +96,7 @@ AreFound trace m = IsFound trace (chain_files m)
 
 -- so they open, and each sector of the disk is in one of them
 module _ (t : Trace) (leaf : LinkedFile) (others : List LinkedFile) (found : IsFound t (leaf ∷ others)) where
-  pub reached_first : Reached leaf.parts.geometry.sector (opening_disk t (leaf ∷ others)) leaf.name (placed_from t 0 (leaf ∷ others)) [] [] t t
+  pub reached_first : Reached leaf.parts.geometry.sector (opening_disk t (leaf ∷ others)) (way_to leaf (leaf ∷ others) None) (placed_from t 0 (leaf ∷ others)) [] [] t t
   reached_first = record {
     once = found.attached.once;
     served = served t leaf others found.attached found.line found.names found.few found.numbered;
@@ -129,11 +130,11 @@ module _ (t : Trace) (m : MergeFiles) (found : AreFound t m) where
   by_leaf : IsFound t (leaf_of m ∷ lower_files m)
   by_leaf = subst (IsFound t) (files_split m) found
 
-  pub reached_none : Reached (leaf_of m).parts.geometry.sector (opening_disk t (chain_files m)) (leaf_of m).name (chain_found t m) [] [] t t
+  pub reached_none : Reached (leaf_of m).parts.geometry.sector (opening_disk t (chain_files m)) (way_to (leaf_of m) (chain_files m) None) (chain_found t m) [] [] t t
   reached_none =
-      subst (λ (c : List Placed). Reached (leaf_of m).parts.geometry.sector (opening_disk t (chain_files m)) (leaf_of m).name c [] [] t t)
+      subst (λ (c : List Placed). Reached (leaf_of m).parts.geometry.sector (opening_disk t (chain_files m)) (way_to (leaf_of m) (chain_files m) None) c [] [] t t)
       (chain_is t m.above m.child m.source m.target m.below)
-      (subst (λ (fs : List LinkedFile). Reached (leaf_of m).parts.geometry.sector (opening_disk t fs) (leaf_of m).name (placed_from t 0 fs) [] [] t t) (sym (files_split m)) (reached_first t (leaf_of m) (lower_files m) by_leaf))
+      (subst (λ (fs : List LinkedFile). Reached (leaf_of m).parts.geometry.sector (opening_disk t fs) (way_to (leaf_of m) fs None) (placed_from t 0 fs) [] [] t t) (sym (files_split m)) (reached_first t (leaf_of m) (lower_files m) by_leaf))
 
   pub whole_found : (s : ℕ) → s < (leaf_of m).parts.geometry.sectors → is_some (seen_in (chain_found t m) s) ≡ true
   whole_found s below =

@@ -8,7 +8,7 @@ use Rattle.store_model.specs.File.{seen}
 use Rattle.store_model.specs.Trace.{Trace, file_of}
 use Rattle.guest_model.specs.Calls.{Disk}
 use Rattle.chain_model.specs.Images.{Placed, members_of}
-use Rattle.chain_model.specs.Members.{IsChain, IsChainOf}
+use Rattle.chain_model.specs.Members.{IsChain, IsChainOf, Way}
 use Rattle.chain_model.specs.Sessions.{HasGoneOver}
 use Rattle.layer_session.specs.Begins.{BeginsOver, HasBegun, as_found, in_session}
 use Rattle.layer_session.specs.Calls.{KeepsOver}
@@ -20,7 +20,7 @@ use Rattle.merge_plan.specs.Merging.{KeepsLinks, MergeFiles, source_place}
 use Rattle.merge_plan.specs.declared.drawing.LogIds.{LogIds}
 use Rattle.merge_plan.specs.declared.drawing.MergeIds.{MergeIds}
 use Rattle.chain_core.specs.MergeStarting.{between_in, chain_files, data_session, inner_parts, leaf_of, log_session, source_begun, source_in, target_in, target_place, top_in, twice_ties}
-use Rattle.chain_core.specs.Starting.{opening_disk, placed_from}
+use Rattle.chain_core.specs.Starting.{opening_disk, placed_from, way_to}
 use Rattle.chain_core.proofs.Numbers.{next_not_same, next_not_zero, same_not_next, same_not_second, second_not_same, suc_not_zero, zero_not_next, zero_not_suc}
 use Rattle.chain_core.proofs.MergeFound.{AreFound, between_found, reached_none, rest_found, source_found, target_found, target_opened, top_found}
 use Rattle.chain_core.proofs.Phases.{Opened, Pair, Reached, chain_below, chain_top, chain_with, same_first, with_pairs}
@@ -33,8 +33,8 @@ module _ (t0 : Trace) (m : MergeFiles) (ids : MergeIds) (pages : List Page) wher
   abbrev opening : Disk
   opening = opening_disk t0 (chain_files m)
 
-  abbrev name : List ℕ
-  name = (leaf_of m).name
+  abbrev name : Way
+  name = way_to (leaf_of m) (chain_files m) None
 
   abbrev sp : ℕ
   sp = source_place m
@@ -76,8 +76,8 @@ module _ (t0 : Trace) (m : MergeFiles) (ids : MergeIds) (pages : List Page) wher
   -- ---- the leaf's session begins
 
   module _ (are : AreFound t0 m) (now : Trace) (over : BeginsOver (leaf_of m).parts (data_session ids.leaf) 0 t0 now) where
-    leaf_linked : IsChainOf name [] (members_of (top_in t0 m ids ∷ (found ++ source_found t0 m ∷ target_found t0 m ∷ rest)))
-    leaf_linked = chain_top name (top_found t0 m) (top_in t0 m ids) (found ++ source_found t0 m ∷ target_found t0 m ∷ rest) (reached_none t0 m are).served.linked refl refl refl refl refl
+    leaf_linked : IsChainOf name.name [] (members_of (top_in t0 m ids ∷ (found ++ source_found t0 m ∷ target_found t0 m ∷ rest)))
+    leaf_linked = chain_top name.name (top_found t0 m) (top_in t0 m ids) (found ++ source_found t0 m ∷ target_found t0 m ∷ rest) (reached_none t0 m are).served.linked refl refl refl refl refl
 
     pub leaf_opens : Opened opening name (0 ∷ []) t0 now
     leaf_opens = begin_opens z opening name t0 [] (found ++ source_found t0 m ∷ target_found t0 m ∷ rest) 0 (leaf_of m).parts (data_session ids.leaf) [] [] t0 now (reached_none t0 m are) tt leaf_linked over
@@ -88,9 +88,9 @@ module _ (t0 : Trace) (m : MergeFiles) (ids : MergeIds) (pages : List Page) wher
   -- ---- the source's session begins
 
   module _ (leaf : Layer) (old now : Trace) (r : AtLeaf leaf old) (over : BeginsOver m.source.parts (log_session ids.source) sp old now) where
-    source_linked : IsChainOf name [] (members_of ((top_in t0 m ids ∷ found) ++ source_begun t0 m ids ∷ target_found t0 m ∷ rest))
+    source_linked : IsChainOf name.name [] (members_of ((top_in t0 m ids ∷ found) ++ source_begun t0 m ids ∷ target_found t0 m ∷ rest))
     source_linked =
-        chain_with name (top_in t0 m ids ∷ found) (source_found t0 m) (source_begun t0 m ids) (target_found t0 m ∷ rest) r.served.linked refl refl refl refl
+        chain_with name.name (top_in t0 m ids ∷ found) (source_found t0 m) (source_begun t0 m ids) (target_found t0 m ∷ rest) r.served.linked refl refl refl refl
         (same_first (source_found t0 m).member (source_begun t0 m ids).member (members_of (target_found t0 m ∷ rest)) refl refl refl)
 
     source_apart : AllByRecursion (λ k. sp ≢ k) (0 ∷ [])
@@ -115,8 +115,8 @@ module _ (t0 : Trace) (m : MergeFiles) (ids : MergeIds) (pages : List Page) wher
     relinked h =
         (links.found (source_in t0 m ids pages).member (target_found t0 m).member (record { parent = h.0.has; locator = refl; geometry = refl }) (record { name = (target_opened t0 m are).name; id_is = refl; geometry = refl }), h.1)
 
-    locator_linked : IsChainOf name [] (members_of ((top_in t0 m ids ∷ found) ++ source_in t0 m ids pages ∷ target_found t0 m ∷ rest))
-    locator_linked = chain_with name (top_in t0 m ids ∷ found) (source_begun t0 m ids) (source_in t0 m ids pages) (target_found t0 m ∷ rest) r.served.linked refl refl refl refl relinked
+    locator_linked : IsChainOf name.name [] (members_of ((top_in t0 m ids ∷ found) ++ source_in t0 m ids pages ∷ target_found t0 m ∷ rest))
+    locator_linked = chain_with name.name (top_in t0 m ids ∷ found) (source_begun t0 m ids) (source_in t0 m ids pages) (target_found t0 m ∷ rest) r.served.linked refl refl refl refl relinked
 
     pub locator_opens : Opened opening name (sp ∷ sp ∷ 0 ∷ []) t0 now
     locator_opens =
@@ -150,10 +150,10 @@ module _ (t0 : Trace) (m : MergeFiles) (ids : MergeIds) (pages : List Page) wher
       same_first (target_found t0 m).member (target_in t0 m ids).member (members_of rest) refl refl refl h.1,
     )
 
-    target_linked : IsChainOf name [] (members_of (front ++ target_in t0 m ids ∷ rest))
+    target_linked : IsChainOf name.name [] (members_of (front ++ target_in t0 m ids ∷ rest))
     target_linked =
-        subst (λ (c : List Placed). IsChainOf name [] (members_of c)) (sym (parted (target_in t0 m ids)))
-        (chain_below name (top_in t0 m ids) found (source_in t0 m ids pages) (target_found t0 m) (target_in t0 m ids) rest r.served.linked refl renewed)
+        subst (λ (c : List Placed). IsChainOf name.name [] (members_of c)) (sym (parted (target_in t0 m ids)))
+        (chain_below name.name (top_in t0 m ids) found (source_in t0 m ids pages) (target_found t0 m) (target_in t0 m ids) rest r.served.linked refl renewed)
 
     target_apart : AllByRecursion (λ k. tp ≢ k) (sp ∷ sp ∷ 0 ∷ [])
     target_apart = (
@@ -264,7 +264,7 @@ module _ (t0 : Trace) (first : LinkedFile) (above : List LinkedFile) (child sour
     pairs_of = record { layer = target_layer; file = target_in t0 files ids } ∷ record { layer = source_layer; file = source_in t0 files ids pages } ∷ record { layer = leaf; file = top_in t0 files ids } ∷ []
 
     abbrev Q : List ℕ → List Pair → Trace → List Placed → Type 0
-    Q numbers pairs t c = Reached (leaf_of files).parts.geometry.sector (opening_disk t0 (chain_files files)) (leaf_of files).name c numbers pairs t0 t
+    Q numbers pairs t c = Reached (leaf_of files).parts.geometry.sector (opening_disk t0 (chain_files files)) (way_to (leaf_of files) (chain_files files) None) c numbers pairs t0 t
 
     q : Q numbers_of pairs_of old (front_of ++ as_found t0 cp child.parts ∷ back_of)
     q = subst (Q numbers_of pairs_of old) (sym (inner_parted (as_found t0 cp child.parts))) r
@@ -286,11 +286,11 @@ module _ (t0 : Trace) (first : LinkedFile) (above : List LinkedFile) (child sour
       ),
     )
 
-    pub child_opens : Opened (opening_disk t0 (chain_files files)) (leaf_of files).name (cp ∷ numbers_of) t0 now
-    child_opens = begin_opens (leaf_of files).parts.geometry.sector (opening_disk t0 (chain_files files)) (leaf_of files).name t0 front_of back_of cp child.parts (log_session inner) numbers_of pairs_of old now q inner_apart inner_linked over
+    pub child_opens : Opened (opening_disk t0 (chain_files files)) (way_to (leaf_of files) (chain_files files) None) (cp ∷ numbers_of) t0 now
+    child_opens = begin_opens (leaf_of files).parts.geometry.sector (opening_disk t0 (chain_files files)) (way_to (leaf_of files) (chain_files files) None) t0 front_of back_of cp child.parts (log_session inner) numbers_of pairs_of old now q inner_apart inner_linked over
 
     pub child_reaches : (l : Layer) → HasBegun child.parts (log_session inner) cp l old now → AtChild t0 files ids pages (Some inner) leaf source_layer target_layer (Some l) now
     child_reaches l begun =
         subst (Q (cp ∷ numbers_of) (record { layer = l; file = child_begun } ∷ pairs_of) now) (inner_parted child_begun)
-        (begin_reaches (leaf_of files).parts.geometry.sector (opening_disk t0 (chain_files files)) (leaf_of files).name t0 front_of back_of cp child.parts (log_session inner) numbers_of pairs_of old now q inner_apart inner_linked over l
+        (begin_reaches (leaf_of files).parts.geometry.sector (opening_disk t0 (chain_files files)) (way_to (leaf_of files) (chain_files files) None) t0 front_of back_of cp child.parts (log_session inner) numbers_of pairs_of old now q inner_apart inner_linked over l
         (second_not_same cp, (next_not_same cp, (zero_not_suc (length above), tt))) begun)

@@ -7,6 +7,7 @@ use Rattle.store_model.specs.File.{is_synced, seen}
 use Rattle.store_model.specs.Trace.{Trace, file_of}
 use Rattle.link_rules.specs.declared.linked.LinkedFile.{LinkedFile}
 use Rattle.layer_session.specs.ReadOnly.{IsRead}
+use Rattle.layer_session.specs.Unnamed.{NamesNoLog}
 use Rattle.layer_session.specs.declared.file.Layer.{Layer}
 use Rattle.layer_session.specs.declared.file_layer.FileLayer.{FileLayer}
 use Rattle.layer_session.specs.declared.file_layer.FileLayer.TheVariants.{Read, Session}
@@ -17,7 +18,7 @@ use Rattle.merge_plan.specs.Merging.{GivesLocator, KeepsLinks, MergeFiles, child
 use Rattle.merge_plan.specs.declared.drawing.LogIds.{LogIds}
 use Rattle.merge_plan.specs.declared.drawing.MergeIds.{MergeIds}
 use Rattle.merge_plan.specs.declared.merge.Merge.{Merge}
-use Rattle.chain_core.specs.MergeStarting.{StartsMerge, behind_first, chain_files, data_session, leaf_of, log_session, session_of, source_in, started_merge, target_place}
+use Rattle.chain_core.specs.MergeStarting.{ServesMerge, StartsMerge, behind_first, chain_files, data_session, leaf_of, log_session, session_of, source_in, started_merge, target_place}
 use Rattle.chain_core.specs.Starting.{AreReadOf}
 use Rattle.merge_plan.specs.Attached.{CanStart}
 use Rattle.chain_core.specs.States.{IsServing}
@@ -70,7 +71,7 @@ front_is (f ∷ above) child source target below ids pages relink (Some inner) l
 
 -- the source is read from then on
 abbrev pub Ended : MergeFiles → MergeIds → List Page → Layer → Layer → Option Layer → ReadLayer → Trace → Trace → Type 0
-Ended m ids pages leaf target l source t now = AtEnd t m ids pages ids.child leaf target l now × (IsRead source now (source_in t m ids pages) × (is_synced (file_of now (source_place m)) ≡ true))
+Ended m ids pages leaf target l source t now = AtEnd t m ids pages ids.child leaf target l now × (IsRead source now (source_in t m ids pages) × (is_synced (file_of now (source_place m)) ≡ true) × NamesNoLog (seen (file_of now (source_place m))))
 
 module _ (m : MergeFiles) (merge : Merge) (d : Disk) (can : CanStart (chain_files m) d) (links : KeepsLinks m merge.ids.target.data_write) (pages_are : ArePages m.child.parts merge.relink)
     (gives : WhereTold d.told (λ t. GivesLocator m.child.parts (seen (file_of t (child_place m))) (relinked_pairs m merge.ids.target.data_write) merge.relink))
@@ -81,9 +82,11 @@ module _ (m : MergeFiles) (merge : Merge) (d : Disk) (can : CanStart (chain_file
     (marks : (t : ℕ) → marks_of u.marks t ≡ false) where
   pub serves_told : (o : Option Trace) → WhereBothTold (Ended m merge.ids merge.twice leaf target l source) d.told o → StartsMerge m merge layers d.told o
   serves_told o ended =
-      told_from (HasRelink m merge.ids merge.relink) (Ended m merge.ids merge.twice leaf target l source) (λ trace now. IsServing layers (started_merge trace now m merge.ids merge.twice) now)
-      (λ a b has e.
-      serves_merge a b m merge.ids merge.twice merge.relink leaf target l source has.found e.0 e.1.0 e.1.1 (above ++ session_of l) below
-      (front_is m.above m.child m.source m.target m.below merge.ids merge.twice merge.relink merge.ids.child leaf target l above a b refl some both has links pages_are table tables first e.0) rest layers u geometry leaf_is merge_is none_now below_is
-      place relink_is marks) d.told o
+      told_from (HasRelink m merge.ids merge.relink) (Ended m merge.ids merge.twice leaf target l source) (ServesMerge m merge layers)
+      (λ a b has e. record {
+        serving = serves_merge a b m merge.ids merge.twice merge.relink leaf target l source has.found e.0 e.1.0 e.1.1 (above ++ session_of l) below
+            (front_is m.above m.child m.source m.target m.below merge.ids merge.twice merge.relink merge.ids.child leaf target l above a b refl some both has links pages_are table tables first e.0) rest layers u geometry leaf_is merge_is none_now below_is
+            place relink_is marks;
+        no_log = e.1.2;
+      }) d.told o
       (λ t told. record { found = are_found m d can t told; gives = gives t told }) ended

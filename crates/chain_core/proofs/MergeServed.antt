@@ -16,7 +16,7 @@ use Rattle.table_pages.specs.declared.tables.TableParts.{TableParts}
 use Rattle.chain_model.specs.Images.{Placed}
 use Rattle.chain_model.specs.Moments.{EachOpens, OpensToPrefix}
 use Rattle.chain_model.proofs.Merging.{begins as merge_begins}
-use Rattle.chain_model.proofs.Serving.{loose_moves, prefixes_stay}
+use Rattle.chain_model.proofs.Serving.{loose_moves, prefixes_stay, opens_wider, served_wider}
 use Rattle.link_rules.specs.declared.linked.LinkedFile.{LinkedFile}
 use Rattle.layer_session.specs.Begins.{as_found, in_session}
 use Rattle.layer_session.specs.Calls.{IsBeside}
@@ -37,19 +37,20 @@ use Rattle.merge_plan.specs.declared.drawing.LogIds.{LogIds}
 use Rattle.merge_plan.specs.declared.drawing.MergeIds.{MergeIds}
 use Rattle.merge_plan.proofs.Lines.{are_followed}
 use Rattle.chain_core.specs.MergeStarting.{between_in, chain_files, data_session, is_written, leaf_of, log_session, source_in, started_merge, target_in, target_place, top_in}
-use Rattle.chain_core.specs.Starting.{AreReadOf, opening_disk, placed_from}
+use Rattle.chain_core.specs.Starting.{AreReadOf, opening_disk, placed_from, way_to}
 use Rattle.merge_plan.specs.Attached.{AreAsOpened}
 use Rattle.chain_core.specs.States.{AreHeld, AreWritten, IsCourse, IsRetiring, IsServing, IsUnder, Relinks, WasSynced, child_of, child_parts, is_session, seen_in}
 use Rattle.chain_core.specs.declared.layers.Layers.{Layers}
 use Rattle.chain_core.specs.declared.layers.Underway.{Underway}
 use Rattle.chain_core.proofs.Numbers.{before_suc, from_one, from_third_first, from_third_last, from_third_second, from_third_zero, next_not_same, next_not_zero, next_suc, same_not_next, suc_not_zero, up_to_last, up_to_second}
-use Rattle.chain_core.proofs.MergeFound.{AreFound, between_found, child_opened, opened_above, rest_found, rest_opened, source_found, target_found, target_opened, whole_found}
+use Rattle.chain_core.proofs.MergeFound.{AreFound, between_found, child_opened, opened_above, rest_found, rest_opened, source_found, target_found, target_opened, whole_found, source_opened}
 use Rattle.chain_core.proofs.MergePhases.{AtEnd, child_pairs}
 use Rattle.merge_plan.proofs.Opened.{lie_within}
 use Rattle.chain_core.proofs.Phases.{Pair, tight}
 use Rattle.chain_core.proofs.Putting.{have_all}
 use Rattle.chain_core.proofs.Stages.{gives_turn}
 use Rattle.layer_session.proofs.Equal.{false_true, true_false}
+use Rattle.chain_model.specs.Files.{files_in}
 
 -- ---- which numbers are written
 
@@ -348,10 +349,11 @@ module _ (t0 now : Trace) (m : MergeFiles) (ids : MergeIds) (pages relink : List
     serves_merge = record {
       once = e.once;
       geometry = geometry;
-      served = e.served;
+      served = served_wider z opening [] (way_to (leaf_of m) (chain_files m) None) (Some m.source.name) [] chain now refl e.served;
       loose = loose_moves.begins (is_dirty z []) (top_in t0 m ids ∷ above_in) (source_in t0 m ids pages) (target_in t0 m ids) (rest_found t0 m) (tight (is_dirty z []) chain e.none);
       course = subst (λ o. IsCourse z (is_written m) layers o (top_in t0 m ids) (started_merge t0 now m ids pages).rest) (sym merge_is) under;
       leaving = subst (λ o. IsRetiring z (is_written m) [] layers o (top_in t0 m ids) (started_merge t0 now m ids pages).rest) (sym none_now) tt;
+      drops = ap (λ n. Some n) (sym (source_opened t0 m are).name);
       held = subst (λ o. AreHeld o layers.below.items now (top_in t0 m ids) (above_in ++ source_in t0 m ids pages ∷ target_in t0 m ids ∷ rest_found t0 m)) (sym leaf_is)
           (serves.1, subst (λ (b : List FileLayer). HaveFiles b now (above_in ++ source_in t0 m ids pages ∷ target_in t0 m ids ∷ rest_found t0 m)) (sym below_is) have_below);
       whole = whole_in;
@@ -359,6 +361,7 @@ module _ (t0 now : Trace) (m : MergeFiles) (ids : MergeIds) (pages relink : List
       written = subst (λ o. IfSome o (λ l. (is_written m 0 ≡ true) × AreWritten (is_written m) layers.below.items)) (sym leaf_is)
           (leaf_written m, subst (AreWritten (is_written m)) (sym below_is) written_below);
       still = λ other none. refl;
-      past = EachMoment-weaken (EachOpens (leaf_of m).name (λ s. false) opening) (OpensToPrefix z opening [] (λ s. false) (leaf_of m).name) t0 now
-          (λ t opens. prefixes_stay.broken z opening [] (λ s. false) (leaf_of m).name t opens) e.moments;
+      past = EachMoment-weaken (EachOpens (way_to (leaf_of m) (chain_files m) None) (λ s. false) opening) (OpensToPrefix z opening [] (λ s. false) (way_to (leaf_of m) (chain_files m) (Some m.source.name))) t0 now
+          (λ t opens. prefixes_stay.broken z opening [] (λ s. false) (way_to (leaf_of m) (chain_files m) (Some m.source.name)) t
+          (λ image is. opens_wider (files_in image) (way_to (leaf_of m) (chain_files m) None) (Some m.source.name) (λ s. false) opening refl (opens image is))) e.moments;
     }

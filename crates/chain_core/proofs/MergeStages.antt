@@ -1,6 +1,6 @@
 -- The phases that prepare a merge, each behind those before it, where a store may tell its content or not.
 use Rattle.std.proofs.Common.{◌≡◌, ◌≢◌, ℕ, ◌+◌, Bool, true, false, List, [], ◌∷◌, length, sym, ap, subst, ◌∙◌}
-use Rattle.std.specs.Prelude.{Option}
+use Rattle.std.specs.Prelude.{None, Option}
 use Rattle.std.specs.List.{AllByRecursion}
 use Rattle.vhdx_format.specs.declared.log_entry.Page.{Page}
 use Rattle.vx_base.specs.declared.parts.Parts.{Parts}
@@ -14,6 +14,7 @@ use Rattle.layer_session.specs.Begins.{BeginsOver, CanServe, HasBegun}
 use Rattle.layer_session.specs.Calls.{IsBeside, KeepsOver}
 use Rattle.layer_session.specs.Closes.{HasClosed}
 use Rattle.layer_session.specs.ReadOnly.{IsRead}
+use Rattle.layer_session.specs.Unnamed.{NamesNoLog}
 use Rattle.layer_session.specs.Updating.{HasUpdated, Turns, TurnsInto, UpdatesOver, laid_region, own_len}
 use Rattle.layer_session.specs.declared.file.Layer.{Layer}
 use Rattle.layer_session.specs.declared.read_layer.ReadLayer.{ReadLayer}
@@ -22,7 +23,7 @@ use Rattle.merge_plan.specs.Merging.{GivesLocator, KeepsLinks, MergeFiles, sourc
 use Rattle.merge_plan.specs.declared.drawing.LogIds.{LogIds}
 use Rattle.merge_plan.specs.declared.drawing.MergeIds.{MergeIds}
 use Rattle.chain_core.specs.MergeStarting.{LeavesAllBut, LeavesRest, chain_files, data_session, is_changed, leaf_of, log_session, source_begun, source_in, target_place, twice_ties}
-use Rattle.chain_core.specs.Starting.{EachOpensAlike, opening_disk}
+use Rattle.chain_core.specs.Starting.{EachOpensAlike, opening_disk, way_to}
 use Rattle.merge_plan.specs.Attached.{CanStart}
 use Rattle.chain_core.proofs.Numbers.{next_not_same, next_not_zero}
 use Rattle.chain_core.proofs.MergeFound.{AreFound, files_split, lower_files, source_opened}
@@ -33,30 +34,31 @@ use Rattle.chain_core.proofs.Phases.{Opened}
 use Rattle.chain_core.proofs.Stages.{gives_turn, serve_beside}
 use Rattle.store_model.proofs.Told.{both_and, both_from, both_join}
 use Rattle.layer_session.proofs.Equal.{true_false}
+use Rattle.chain_model.specs.Members.{Way}
 
 -- ---- what was opened
 
 -- each moment opened, and none but these files was changed
 abbrev pub OpenedBy : MergeFiles → List ℕ → Trace → Trace → Type 0
-OpenedBy m numbers t now = Opened (opening_disk t (chain_files m)) (leaf_of m).name numbers t now
+OpenedBy m numbers t now = Opened (opening_disk t (chain_files m)) (way_to (leaf_of m) (chain_files m) None) numbers t now
 
 pub moments_of : (m : MergeFiles) (numbers : List ℕ) (old new : Option Trace) → WhereBothTold (OpenedBy m numbers) old new → EachOpensAlike (chain_files m) old new
 moments_of m numbers old new o =
     subst (λ (fs : List LinkedFile). EachOpensAlike fs old new) (sym (files_split m))
-    (both_from (OpenedBy m numbers) (λ t now. EachMoment (EachOpens (leaf_of m).name (λ s. false) (opening_disk t (leaf_of m ∷ lower_files m))) t now)
-    old new (λ a b x. subst (λ (fs : List LinkedFile). EachMoment (EachOpens (leaf_of m).name (λ s. false) (opening_disk a fs)) a b) (files_split m) x.moments) o)
+    (both_from (OpenedBy m numbers) (λ t now. EachMoment (EachOpens (way_to (leaf_of m) (leaf_of m ∷ lower_files m) None) (λ s. false) (opening_disk t (leaf_of m ∷ lower_files m))) t now)
+    old new (λ a b x. subst (λ (fs : List LinkedFile). EachMoment (EachOpens (way_to (leaf_of m) fs None) (λ s. false) (opening_disk a fs)) a b) (files_split m) x.moments) o)
 
 others_apart : (changes : ℕ → Bool) (k : ℕ) (numbers : List ℕ) → AllByRecursion (λ n. changes n ≡ true) numbers → changes k ≡ false → AllByRecursion (λ n. k ≢ n) numbers
 others_apart changes k [] changed none = tt
 others_apart changes k (n ∷ numbers) changed none = ((λ e. let never : true ≡ false = sym changed.0 ∙ ap changes (sym e) ∙ none in true_false never), others_apart changes k numbers changed.1 none)
 
-pub all_but : (changes : ℕ → Bool) (opening : Trace → GuestDisk) (leaf : List ℕ) (numbers : List ℕ) → AllByRecursion (λ n. changes n ≡ true) numbers → (old new : Option Trace) → WhereBothTold (λ t now. Opened (opening t) leaf numbers t now) old new
+pub all_but : (changes : ℕ → Bool) (opening : Trace → GuestDisk) (leaf : Way) (numbers : List ℕ) → AllByRecursion (λ n. changes n ≡ true) numbers → (old new : Option Trace) → WhereBothTold (λ t now. Opened (opening t) leaf numbers t now) old new
     → LeavesAllBut changes old new
 all_but changes opening leaf numbers changed old new o =
     both_from (λ t now. Opened (opening t) leaf numbers t now) (λ t now. (other : ℕ) → changes other ≡ false → file_of now other ≡ file_of t other) old new (λ a b x other none. (x.left other (others_apart changes other numbers changed none)).same) o
 
 pub still_of : (m : MergeFiles) (numbers : List ℕ) → AllByRecursion (λ n. is_changed m n ≡ true) numbers → (old new : Option Trace) → WhereBothTold (OpenedBy m numbers) old new → LeavesRest m old new
-still_of m numbers changed old new o = all_but (is_changed m) (λ t. opening_disk t (chain_files m)) (leaf_of m).name numbers changed old new o
+still_of m numbers changed old new o = all_but (is_changed m) (λ t. opening_disk t (chain_files m)) (way_to (leaf_of m) (chain_files m) None) numbers changed old new o
 
 -- a file that was found lets its session begin still
 pub serve_on : (told : Option Trace) (parts : Parts) (log : List ℕ) (n : ℕ) (R : Trace → Trace → Type 0) → ((a b : Trace) → R a b → IsBeside n a b) → (o : Option Trace) → WhereBothTold R told o → WhereTold told (CanServe parts log n)
@@ -164,11 +166,11 @@ module _ (m : MergeFiles) (ids : MergeIds) (twice : List Page) (d : Disk) (can :
         d.told o p (λ a b c r x. end_opens a m ids twice inner leaf source target child b c r x) at keeps
 
     pub end_stage : (l : ReadLayer) → WhereBothTold (HasClosed source l) o p
-        → WhereBothTold (λ t now. AtEnd t m ids twice inner leaf target child now × (IsRead l now (source_in t m ids twice) × (is_synced (file_of now (source_place m)) ≡ true))) d.told p
+        → WhereBothTold (λ t now. AtEnd t m ids twice inner leaf target child now × (IsRead l now (source_in t m ids twice) × (is_synced (file_of now (source_place m)) ≡ true) × NamesNoLog (seen (file_of now (source_place m))))) d.told p
     end_stage l closed =
         both_join (λ t. AtChild t m ids twice inner leaf source target child) (λ a b. KeepsOver source a b × HasClosed source l a b)
-        (λ t now. AtEnd t m ids twice inner leaf target child now × (IsRead l now (source_in t m ids twice) × (is_synced (file_of now (source_place m)) ≡ true)))
+        (λ t now. AtEnd t m ids twice inner leaf target child now × (IsRead l now (source_in t m ids twice) × (is_synced (file_of now (source_place m)) ≡ true) × NamesNoLog (seen (file_of now (source_place m)))))
         d.told o p (λ a b c r x.
         let serves = end_serves a m ids twice inner leaf source target child b c r x.0 in
-        (end_reaches a m ids twice inner leaf source target child b c r x.0 (x.1.kept (source_in a m ids twice) serves).shows, (x.1.reads (source_in a m ids twice) serves, x.1.synced (source_in a m ids twice) serves))) at
+        (end_reaches a m ids twice inner leaf source target child b c r x.0 (x.1.kept (source_in a m ids twice) serves).shows, (x.1.reads (source_in a m ids twice) serves, x.1.synced (source_in a m ids twice) serves, x.1.no_log (source_in a m ids twice) serves))) at
         (both_and (KeepsOver source) (HasClosed source l) o p keeps closed)

@@ -7,7 +7,7 @@ use Rattle.store_model.proofs.Spans.{EachMoment-join}
 use Rattle.guest_model.specs.Calls.{Disk}
 use Rattle.chain_model.specs.Layers.{Same}
 use Rattle.chain_model.specs.Images.{NoneLoose, Placed, members_of}
-use Rattle.chain_model.specs.Members.{IsChain, IsChainOf, Member}
+use Rattle.chain_model.specs.Members.{IsChain, IsChainOf, Member, Way}
 use Rattle.chain_model.specs.Moments.{EachOpens}
 use Rattle.chain_model.specs.PhaseLaws.{IsNamedOnce, Survives}
 use Rattle.chain_model.specs.Sessions.{GoesOver, HasGoneOver, IsServed, LooseAtTop, ShowsFile}
@@ -75,7 +75,7 @@ abbrev pub Left : List ℕ → Trace → Trace → Type 0
 Left numbers began trace = (k : ℕ) → AllByRecursion (λ n. k ≢ n) numbers → IsBeside k began trace
 
 -- The chain is served with its opening disk, these layers serve their files, and each moment since the beginning opened.
-pub record Reached (z : ℕ) (opening : Disk) (leaf : List ℕ) (chain : List Placed) (numbers : List ℕ) (pairs : List Pair) (began trace : Trace) : Type 0 where
+pub record Reached (z : ℕ) (opening : Disk) (leaf : Way) (chain : List Placed) (numbers : List ℕ) (pairs : List Pair) (began trace : Trace) : Type 0 where
   pub once : IsNamedOnce trace
   pub served : IsServed z opening [] leaf [] chain trace
   pub none : (s : ℕ) → NoneLoose s chain
@@ -84,35 +84,35 @@ pub record Reached (z : ℕ) (opening : Disk) (leaf : List ℕ) (chain : List Pl
   pub serving : AllByRecursion (λ (p : Pair). Serves p.layer trace p.file) pairs
 
 -- each moment opened, whatever was answered, and of the store's files none but these was changed
-pub record Opened (opening : Disk) (leaf : List ℕ) (numbers : List ℕ) (began trace : Trace) : Type 0 where
+pub record Opened (opening : Disk) (leaf : Way) (numbers : List ℕ) (began trace : Trace) : Type 0 where
   pub moments : EachMoment (EachOpens leaf (λ s. false) opening) began trace
   pub left : Left numbers began trace
 
-pub opened : (z : ℕ) (opening : Disk) (leaf : List ℕ) (chain : List Placed) (numbers : List ℕ) (pairs : List Pair) (began trace : Trace) → Reached z opening leaf chain numbers pairs began trace → Opened opening leaf numbers began trace
+pub opened : (z : ℕ) (opening : Disk) (leaf : Way) (chain : List Placed) (numbers : List ℕ) (pairs : List Pair) (began trace : Trace) → Reached z opening leaf chain numbers pairs began trace → Opened opening leaf numbers began trace
 opened z opening leaf chain numbers pairs began trace r = record { moments = r.moments; left = r.left }
 
 beside_join : (k : ℕ) (a b c : Trace) → IsBeside k a b → IsBeside k b c → IsBeside k a c
 beside_join k a b c first second = record { same = second.same ∙ first.same; names = second.names ∙ first.names }
 
 -- one with no layers, or fewer
-pub fewer : (z : ℕ) (opening : Disk) (leaf : List ℕ) (chain : List Placed) (numbers : List ℕ) (pair : Pair) (pairs : List Pair) (began trace : Trace) → Reached z opening leaf chain numbers (pair ∷ pairs) began trace
+pub fewer : (z : ℕ) (opening : Disk) (leaf : Way) (chain : List Placed) (numbers : List ℕ) (pair : Pair) (pairs : List Pair) (began trace : Trace) → Reached z opening leaf chain numbers (pair ∷ pairs) began trace
     → Reached z opening leaf chain numbers pairs began trace
 fewer z opening leaf chain numbers pair pairs began trace r = record { once = r.once; served = r.served; none = r.none; moments = r.moments; left = r.left; serving = r.serving.1 }
 
 -- and with others
-pub with_pairs : (z : ℕ) (opening : Disk) (leaf : List ℕ) (chain : List Placed) (numbers : List ℕ) (pairs others : List Pair) (began trace : Trace) → AllByRecursion (λ (p : Pair). Serves p.layer trace p.file) others
+pub with_pairs : (z : ℕ) (opening : Disk) (leaf : Way) (chain : List Placed) (numbers : List ℕ) (pairs others : List Pair) (began trace : Trace) → AllByRecursion (λ (p : Pair). Serves p.layer trace p.file) others
     → Reached z opening leaf chain numbers pairs began trace → Reached z opening leaf chain numbers others began trace
 with_pairs z opening leaf chain numbers pairs others began trace serving r = record { once = r.once; served = r.served; none = r.none; moments = r.moments; left = r.left; serving = serving }
 
 -- and one more
-pub one_more_pair : (z : ℕ) (opening : Disk) (leaf : List ℕ) (chain : List Placed) (numbers : List ℕ) (l : Layer) (file : Placed) (pairs : List Pair) (began trace : Trace) → Serves l trace file → Reached z opening leaf chain numbers pairs began trace
+pub one_more_pair : (z : ℕ) (opening : Disk) (leaf : Way) (chain : List Placed) (numbers : List ℕ) (l : Layer) (file : Placed) (pairs : List Pair) (began trace : Trace) → Serves l trace file → Reached z opening leaf chain numbers pairs began trace
     → Reached z opening leaf chain numbers (record { layer = l; file = file } ∷ pairs) began trace
 one_more_pair z opening leaf chain numbers l file pairs began trace serves r = record { once = r.once; served = r.served; none = r.none; moments = r.moments; left = r.left; serving = (serves, r.serving) }
 
 -- a phase of one of the files
-module _ (z : ℕ) (opening : Disk) (leaf : List ℕ) (a : List Placed) (x y : Placed) (b : List Placed) (numbers : List ℕ) (pairs : List Pair) (began old new : Trace)
+module _ (z : ℕ) (opening : Disk) (leaf : Way) (a : List Placed) (x y : Placed) (b : List Placed) (numbers : List ℕ) (pairs : List Pair) (began old new : Trace)
     (r : Reached z opening leaf (a ++ x ∷ b) numbers pairs began old) (over : GoesOver x y old new) (same : Same x.member.layer y.member.layer) (geometry : x.member.ties.geometry ≡ y.member.ties.geometry)
-    (own : (s : ℕ) → y.is_loose s ≡ false) (linked : IsChainOf leaf [] (members_of (a ++ y ∷ b))) where
+    (own : (s : ℕ) → y.is_loose s ≡ false) (linked : IsChainOf leaf.name [] (members_of (a ++ y ∷ b))) where
   survives : Survives z opening [] leaf (λ s. false) y [] (a ++ y ∷ b) old new
   survives = file_goes_over z opening [] leaf (λ s. false) [] a x y b old new r.once r.served over same geometry linked (tight (λ s. false) (a ++ x ∷ b) r.none) (tight (λ s. false) (a ++ y ∷ b) (none_with a x y b own r.none))
 

@@ -12,7 +12,7 @@ use Rattle.guest_model.specs.History.{either}
 use Rattle.chain_model.specs.Layers.{Layer as SectorLayer, through}
 use Rattle.chain_model.specs.Merges.{IsTrue, IsUnderWay, Piece, with_mark}
 use Rattle.chain_model.specs.Stripes.{per_stripe, stripe_of}
-use Rattle.chain_model.specs.Members.{IsChainOf, Member, Ties, NoneTwice, disk_of, layers_of, names_of}
+use Rattle.chain_model.specs.Members.{IsChainOf, Member, Ties, NoneTwice, disk_of, layers_of, names_of, IsBy}
 use Rattle.chain_model.specs.Images.{Placed, members_of}
 use Rattle.chain_model.specs.Moments.{IsPhase}
 use Rattle.chain_model.specs.Sessions.{IsKept, IsServed, LooseInMerge, ShowsFile}
@@ -207,6 +207,7 @@ module _ (v : State) (top : Placed) (above : List Placed) (source target : Place
         loose = loose;
         course = subst (λ o. IsCourse (sector_of here) v.writes new o top (merging above source other below (record m { marks = marks }))) (sym merge) under;
         leaving = subst (λ o. IsRetiring (sector_of here) v.writes v.history new o top (merging above source other below (record m { marks = marks }))) (sym none_now) tt;
+        drops = serving.drops;
         held = held_on new next other P now phase leaf_now items serves;
         whole = λ s inside. there_on s (serving.whole s inside);
         synced = subst (AllByRecursion (WasSynced v.writes v.since)) (ap (λ (c : List Placed). top ∷ c) (parted other))
@@ -312,7 +313,8 @@ module _ (v : State) (top : Placed) (above : List Placed) (source target : Place
             let same : members_of (files_with wide) ≡ members_of (files_with target) = ap (λ (c : List Placed). members_of (top ∷ c)) (sym (parted wide)) ∙ members_append (top ∷ front) (wide ∷ below) ∙ sym (members_append (top ∷ front) (target ∷ below))
             ∙ ap (λ (c : List Placed). members_of (top ∷ c)) (parted target) in
             record {
-              linked = subst (λ c. IsChainOf v.leaf (members_of v.retired) c) (sym same) serving.served.linked;
+              linked = subst (λ c. IsChainOf v.leaf.name (members_of v.retired) c) (sym same) serving.served.linked;
+              by = subst (IsBy v.leaf) (sym same) serving.served.by;
               kept = kept_wide v.retired serving.served.kept;
               disk = ap disk_of same ∙ serving.served.disk;
             }

@@ -118,7 +118,7 @@ written_without writes (l ∷ a) x y b all = (all.0, written_without writes a x 
 
 -- The chain `a ++ child ∷ source ∷ target ∷ below`, in which the target has all of the source.
 module _ (v : State) (a : List Placed) (child source target : Placed) (below : List Placed) (trace now : Trace) (z : ℕ) (dirty : ℕ → Bool) (once : IsNamedOnce trace)
-    (served : IsServed z v.opening v.history v.leaf v.retired (a ++ child ∷ source ∷ target ∷ below) trace) (loose : LooseAtTop dirty (a ++ child ∷ source ∷ target ∷ below))
+    (served : IsServed z v.opening v.history v.leaf v.retired (a ++ child ∷ source ∷ target ∷ below) trace) (loose : LooseAtTop dirty (a ++ child ∷ source ∷ target ∷ below)) (drops : v.leaf.drops ≡ Some source.member.name)
     (table_len : ℕ) (pages : List Page) (r : Relinks table_len pages child target) (over : GoesOver child (relinked_child table_len pages child target r) trace now)
     (all : HasAllOf (sectors_of (members_of (a ++ child ∷ source ∷ target ∷ below))) source.member.layer target.member.layer) where
   abbrev after : Placed
@@ -129,7 +129,7 @@ module _ (v : State) (a : List Placed) (child source target : Placed) (below : L
 
   pub relinks_then : Survives z v.opening v.history v.leaf dirty after v.retired (a ++ after ∷ target ∷ below) trace now
   relinks_then =
-      child_is_relinked z v.opening v.history v.leaf dirty v.retired a child after source target below trace now once served over (λ s. refl) (looks_spelled table_len pages child target r) (sym r.retired)
+      child_is_relinked z v.opening v.history v.leaf dirty v.retired a child after source target below trace now once served drops over (λ s. refl) (looks_spelled table_len pages child target r) (sym r.retired)
       (parent_spelled table_len pages child target r) all loose loose_then
 
 -- ---- the leaf is the child
@@ -150,7 +150,7 @@ leaf_relinked v top source target below m layers new u leaf next x rest trace no
     let under : IsUnder z v.writes layers u top [] source target m = subst (λ o. IsCourse z v.writes layers o top (merging [] source target below m)) merge serving.course in
     let loose : LooseAtTop (dirty_now here) (top ∷ source ∷ target ∷ below) = loose_moves.committed (dirty_now here) (top ∷ []) source target below serving.loose tight in
     let all : HasAllOf top.member.ties.geometry.sectors source.member.layer target.member.layer = marked_is_whole z top.member.ties.geometry.sectors m.first m.before [] m.marks source.member.layer target.member.layer pos under.under_way marked in
-    let on = relinks_then v [] top source target below trace now z (dirty_now here) serving.once serving.served loose table_len u.relink r over all in
+    let on = relinks_then v [] top source target below trace now z (dirty_now here) serving.once serving.served loose serving.drops table_len u.relink r over all in
     let kept = all_right (IsKept trace) v.retired (top ∷ source ∷ target ∷ below) serving.served.kept in
     let once_all = names_behind v.retired (top ∷ source ∷ target ∷ below) serving.served.linked.once in
     let round = apart_around trace [] top (source ∷ target ∷ below) kept once_all in
@@ -163,9 +163,10 @@ leaf_relinked v top source target below m layers new u leaf next x rest trace no
       once = still_once top.number (λ bytes. ShowsFile top bytes ⊎ ShowsFile after bytes) trace now over.phase serving.once;
       geometry = geometry ∙ serving.geometry;
       served = on.served (layers_are_kept next now after serves).shows;
-      loose = loose_then v [] top source target below trace now z (dirty_now here) serving.once serving.served loose table_len u.relink r over all;
+      loose = loose_then v [] top source target below trace now z (dirty_now here) serving.once serving.served loose serving.drops table_len u.relink r over all;
       course = subst (λ o. IsCourse z v.writes new o after (plain (target ∷ below))) (sym no_merge) tt;
       leaving = subst (λ o. IsRetiring z v.writes v.history new o after (plain (target ∷ below))) (sym none_now) tt;
+      drops = tt;
       held = subst (λ o. AreHeld o new.below.items now after (target ∷ below)) (sym leaf_now) (serves, subst (λ (c : List FileLayer). HaveFiles c now (target ∷ below)) (sym items) stand);
       whole = λ s inside. whole_without [] top after source target below s refl (λ bytes owned. all s bytes inside owned) (serving.whole s inside);
       synced = (serving.synced.0, serving.synced.1.1);
@@ -198,7 +199,7 @@ child_relinked v top pre child source target below m layers new u leaf p l next 
     let loose : LooseAtTop (dirty_now here) chain =
     subst (λ (c : List Placed). LooseAtTop (dirty_now here) (top ∷ c)) e (loose_moves.committed (dirty_now here) (top ∷ (pre ++ child ∷ [])) source target below serving.loose tight) in
     let all : HasAllOf top.member.ties.geometry.sectors source.member.layer target.member.layer = marked_is_whole z top.member.ties.geometry.sectors m.first m.before [] m.marks source.member.layer target.member.layer pos under.under_way marked in
-    let on = relinks_then v (top ∷ pre) child source target below trace now z (dirty_now here) serving.once served loose table_len u.relink r over all in
+    let on = relinks_then v (top ∷ pre) child source target below trace now z (dirty_now here) serving.once served loose serving.drops table_len u.relink r over all in
     let kept = all_right (IsKept trace) v.retired chain served.kept in
     let once_all = names_behind v.retired chain served.linked.once in
     let round = apart_around trace (top ∷ pre) child (source ∷ target ∷ below) kept once_all in
@@ -219,9 +220,10 @@ child_relinked v top pre child source target below m layers new u leaf p l next 
       once = still_once child.number Goes trace now over.phase serving.once;
       geometry = geometry ∙ serving.geometry;
       served = on.served (layers_are_kept next now after serves).shows;
-      loose = loose_then v (top ∷ pre) child source target below trace now z (dirty_now here) serving.once served loose table_len u.relink r over all;
+      loose = loose_then v (top ∷ pre) child source target below trace now z (dirty_now here) serving.once served loose serving.drops table_len u.relink r over all;
       course = subst (λ o. IsCourse z v.writes new o top (plain (pre ++ after ∷ target ∷ below))) (sym no_merge) tt;
       leaving = subst (λ o. IsRetiring z v.writes v.history new o top (plain (pre ++ after ∷ target ∷ below))) (sym none_now) tt;
+      drops = tt;
       held = subst (λ o. AreHeld o new.below.items now top (pre ++ after ∷ target ∷ below)) (sym leaf_now) (top_stands, subst (λ (c : List FileLayer). HaveFiles c now (pre ++ after ∷ target ∷ below)) (sym items) stand);
       whole = λ s inside. whole_without (top ∷ pre) child after source target below s refl (λ bytes owned. all s bytes inside owned)
           (subst (λ (c : List Placed). is_some (seen_in (top ∷ c) s) ≡ true) e (serving.whole s inside));

@@ -3,7 +3,7 @@ use Rattle.std.proofs.Common.{◌≡◌, ◌<◌, ◌+◌, ℕ, true, List, [], 
 use Rattle.std.specs.Prelude.{Option, Some, None, option_map, IfSome, Result, Ok, Err}
 use Rattle.store_model.specs.Disk.{Disk, WhereBothTold}
 use Rattle.store_model.specs.declared.fault.StoreFault.{StoreFault}
-use Rattle.store_model.specs.File.{is_synced}
+use Rattle.store_model.specs.File.{is_synced, seen}
 use Rattle.store_model.specs.Trace.{Trace, file_of}
 use Rattle.table_pages.specs.declared.tables.TableParts.{TableParts}
 use Rattle.vhdx_format.specs.declared.log_entry.Page.{Page}
@@ -20,6 +20,7 @@ use Rattle.layer_session.specs.declared.file_layer.FileLayer.TheVariants.{Sessio
 use Rattle.layer_session.specs.Calls.{HasCommitted, HasEnded as EndsFile, KeepsOver, settled}
 use Rattle.layer_session.specs.Identifying.{HasIdentified, IdentifiesOver, identified}
 use Rattle.layer_session.specs.Keeping.{Serves}
+use Rattle.layer_session.specs.Unnamed.{NamesNoLog}
 use Rattle.layer_session.specs.Updating.{HasUpdated, UpdatesOver, turned}
 use Rattle.merge_core.specs.Copied.{marks_of}
 use Rattle.chain_core.specs.declared.layers.Layers.{Layers}
@@ -415,8 +416,8 @@ module _ (L0 : Layers) (r : Retiring) where
         let kept = subst (λ (p : Placed). IsKept z p) at.1.1.0.tight (told.1.kept at.0 left.gone_held) in
         let over = end_left v at.0 at.1.0 below h.leaf h.target h.rest y z left phase own kept.shows in (
           (end_moves v at.0 at.1.0 below h.leaf h.target h.rest y z left phase own).moments,
-          succeeded v target at.1.0 below L0.geometry h.target h.rest (known.can l h.rest items) r.third at.1.1.1.0 at.0 at.1.1.0.number at.1.1.0.name at.1.1.0.leads z over
-              (subst (λ (n : ℕ). is_synced (file_of z n) ≡ true) at.1.1.0.number (told.1.synced at.0 left.gone_held)) L7 geometry (leaf_now ∙ h.now) (ap (λ b. b.items) below_now ∙ h.left) no_merge none_now,
+          succeeded v target at.1.0 below L0.geometry h.target h.rest (known.can l h.rest items) r.third at.1.1.1.0 at.0 at.1.1.0.number at.1.1.0.name at.1.1.0.leads (λ s. ap (λ (p : Placed). p.is_loose s) (sym at.1.1.0.tight)) z over
+              (subst (λ (n : ℕ). is_synced (file_of z n) ≡ true) at.1.1.0.number (told.1.synced at.0 left.gone_held)) (subst (λ (n : ℕ). NamesNoLog (seen (file_of z n))) at.1.1.0.number (told.1.no_log at.0 left.gone_held)) L7 geometry (leaf_now ∙ h.now) (ap (λ b. b.items) below_now ∙ h.left) no_merge none_now,
         ))
 
   -- ---- what a finish tells
@@ -450,5 +451,5 @@ module _ (L0 : Layers) (r : Retiring) where
             let done = so v target below first before serving in
             let is = done.1.1 in
             let then : IsSucceeded r.third (record v { rest = retiring target below first before }) target below L y =
-            record { top = is.top; others = is.others; leaf = is.leaf; files = is.files; is_retired = is.is_retired; still = is.still; rests = is.rests; serving = is.serving } in
+            record { top = is.top; others = is.others; leaf = is.leaf; files = is.files; is_retired = is.is_retired; still = is.still; rests = is.rests; no_log = is.no_log; serving = is.serving } in
             (done.1.0, subst (λ o. LeavesBy o (record v { rest = retiring target below first before }) L y) (sym kept_is) then)

@@ -10,9 +10,9 @@ use Rattle.chain_model.specs.Files.{IsIn, held_files}
 use Rattle.chain_model.specs.Members.{NoneTwice, names_of}
 use Rattle.chain_model.specs.Images.{NoneLoose, Placed, members_of}
 use Rattle.chain_model.specs.PhaseLaws.{IsNamedOnce}
-use Rattle.chain_model.specs.Sessions.{IsKept}
+use Rattle.chain_model.specs.Sessions.{IsKept, LooseAtTop}
 use Rattle.chain_model.proofs.Serving.{held_chains_open}
-use Rattle.chain_model.proofs.Showing.{held_by_name, all_right}
+use Rattle.chain_model.proofs.Showing.{held_by_name, all_left, all_right}
 use Rattle.layer_session.specs.declared.file.Layer.{Layer}
 use Rattle.layer_session.specs.declared.file_layer.FileLayer.{FileLayer}
 use Rattle.layer_session.specs.declared.file_layer.FileLayer.TheVariants.{Session, Read}
@@ -23,9 +23,10 @@ use Rattle.layer_session.proofs.FileLayers.{file_layers_stand}
 use Rattle.layer_session.proofs.Standing.{layers_stand}
 use Rattle.chain_core.specs.declared.layers.Layers.{Layers}
 use Rattle.chain_core.specs.declared.layers.Underway.{Underway}
-use Rattle.chain_core.specs.Laws.{SessionsAreHeld, changed_pages, waiting}
+use Rattle.chain_core.specs.Finished.{succeeded_by}
+use Rattle.chain_core.specs.Laws.{IsLeftBehind, LeavesAreLeft, ReadingsAreHeld, SessionsAreHeld, changed_pages, waiting}
 use Rattle.chain_core.specs.Sessions.{AreApart}
-use Rattle.chain_core.specs.States.{AreHeld, AreWritten, IsCourse, IsLoose, IsRetiring, Rest, State, files_of, merging, others_of, plain, retiring, sector_of, WasSynced}
+use Rattle.chain_core.specs.States.{AreHeld, AreWritten, IsCourse, IsLoose, IsRetiring, Rest, State, dirty_now, files_of, merging, others_of, plain, retiring, sector_of, WasSynced}
 use Rattle.chain_core.specs.declared.layers.Retiring.{Retiring}
 use Rattle.guest_model.specs.History.{History}
 use Rattle.chain_core.proofs.Steps.{apart, names_behind, numbers_apart}
@@ -168,9 +169,21 @@ all_held v trace pages (Read l ∷ layers) (p ∷ files) once images still have 
       all_held v trace pages layers files once images still have.1 kept.1 synced.1 written.1 tight.1 fits.1,
     )
 
-no_retired : (trace : Trace) (pages : ℕ → List Page) (retired : List Placed) → retired ≡ [] → AllByRecursion (IsIn (held_files trace pages)) (members_of retired)
-no_retired trace pages [] none = tt
-no_retired trace pages (p ∷ retired) none = absurd (let never : ◌≡◌ {A = List Placed} (p ∷ retired) [] = none in cons_nil never)
+-- leaves that were left behind are held as they were left
+left_held : (v : State) (trace : Trace) (pages : ℕ → List Page) (retired : List Placed) → IsNamedOnce trace → ReadsAreImages trace → ((other : ℕ) → v.writes other ≡ false → file_of trace other ≡ file_of v.since other)
+    → ((n : ℕ) → v.writes n ≡ false → pages n ≡ []) → AllByRecursion (IsKept trace) retired → AllByRecursion (IsLeftBehind v) retired → AllByRecursion (IsIn (held_files trace pages)) (members_of retired)
+left_held v trace pages [] once images still none kept left = tt
+left_held v trace pages (p ∷ retired) once images still none kept left = (
+  kept_is_held trace pages p once images kept.0 (ap is_synced (still p.number left.0.unwritten) ∙ left.0.synced) left.0.tight (none p.number left.0.unwritten),
+  left_held v trace pages retired once images still none kept.1 left.1,
+)
+
+-- a file that isn't written has no changed page
+none_written : (writes : ℕ → Bool) (layers : List FileLayer) (n : ℕ) → AreWritten writes layers → writes n ≡ false → waiting layers n ≡ []
+none_written writes [] n written none = refl
+none_written writes (Session l ∷ layers) n written none =
+    ap (λ (b : Bool). cond b l.tables.pending (waiting layers n)) (ne_eqb n (own_file l) (λ same. let never : true ≡ false = sym written.0 ∙ ap writes (sym same) ∙ none in true_false never)) ∙ none_written writes layers n written.1 none
+none_written writes (Read l ∷ layers) n written none = none_written writes layers n written.1 none
 
 both_in : (trace : Trace) (pages : ℕ → List Page) (a b : List Placed) → AllByRecursion (IsIn (held_files trace pages)) (members_of a) → AllByRecursion (IsIn (held_files trace pages)) (members_of b)
     → AllByRecursion (IsIn (held_files trace pages)) (members_of a ++ members_of b)
@@ -178,7 +191,7 @@ both_in trace pages [] b left right = right
 both_in trace pages (p ∷ a) b left right = (left.0, both_in trace pages a b left.1 right)
 
 pub sessions_are_held : SessionsAreHeld
-sessions_are_held layers leaf v trace is images none serving =
+sessions_are_held layers leaf v trace is images left serving =
     let below = layers.below.items in
     let pages = changed_pages leaf below in
     let others = others_of v.rest in
@@ -193,5 +206,67 @@ sessions_are_held layers leaf v trace is images none serving =
     let mine : pages (own_file leaf) ≡ leaf.tables.pending = ap (λ (b : Bool). cond b leaf.tables.pending (waiting below (own_file leaf))) (eq-eqb (own_file leaf) (own_file leaf) refl) in
     let rest = all_held v trace pages below others serving.once images serving.still held.1 kept.1 serving.synced.1 written.1
     (tight_others (sector_of v) v.writes _ v.history layers layers.merge layers.retiring v.top v.rest serving.course serving.leaving serving.loose) fits in
+    let none = λ (n : ℕ) (unwritten : v.writes n ≡ false).
+    let apart_is : n ≢ own_file leaf = λ same. (let never : true ≡ false = sym written.0 ∙ ap v.writes (held.0.number ∙ sym same) ∙ unwritten in true_false never) in
+    (ap (λ (b : Bool). cond b leaf.tables.pending (waiting below n)) (ne_eqb n (own_file leaf) apart_is) ∙ none_written v.writes below n written.1 unwritten) in
     held_chains_open (sector_of v) v.opening v.history v.leaf v.retired (files_of v) trace pages serving.served
-    (both_in trace pages v.retired (files_of v) (no_retired trace pages v.retired none) (served_is_held leaf trace pages v.top serving.once held.0 mine, rest))
+    (both_in trace pages v.retired (files_of v) (left_held v trace pages v.retired serving.once images serving.still none (all_left (IsKept trace) v.retired (files_of v) serving.served.kept) left) (served_is_held leaf trace pages v.top serving.once held.0 mine, rest))
+
+-- ---- where files are only read
+
+each_held : (trace : Trace) (pages : ℕ → List Page) (layers : List FileLayer) (files : List Placed) → IsNamedOnce trace → ReadsAreImages trace → HaveFiles layers trace files → AllByRecursion (IsKept trace) files
+    → AllByRecursion (λ f. is_synced (file_of trace f.number) ≡ true) files → ((s : ℕ) → NoneLoose s files) → AllByRecursion (Fits pages) layers → AllByRecursion (IsIn (held_files trace pages)) (members_of files)
+each_held trace pages [] [] once images have kept synced tight fits = tt
+each_held trace pages [] (p ∷ files) once images have kept synced tight fits = absurd have
+each_held trace pages (l ∷ layers) [] once images have kept synced tight fits = absurd have
+each_held trace pages (Session l ∷ layers) (p ∷ files) once images have kept synced tight fits =
+    (served_is_held l trace pages p once have.0 fits.0, each_held trace pages layers files once images have.1 kept.1 synced.1 (λ s. (tight s).1) fits.1)
+each_held trace pages (Read l ∷ layers) (p ∷ files) once images have kept synced tight fits =
+    (kept_is_held trace pages p once images kept.0 synced.0 (λ s. (tight s).0) (ap pages have.0.number ∙ fits.0), each_held trace pages layers files once images have.1 kept.1 synced.1 (λ s. (tight s).1) fits.1)
+
+none_retired : (trace : Trace) (pages : ℕ → List Page) (retired : List Placed) → retired ≡ [] → AllByRecursion (IsIn (held_files trace pages)) (members_of retired)
+none_retired trace pages [] none = tt
+none_retired trace pages (p ∷ retired) none = absurd (let never : ◌≡◌ {A = List Placed} (p ∷ retired) [] = none in cons_nil never)
+
+pub readings_are_held : ReadingsAreHeld
+readings_are_held layers others v trace is rest none images synced serving =
+    let below = layers.below.items in
+    let pages = waiting below in
+    let held : ((s : ℕ) → v.top.is_loose s ≡ false) × HaveFiles below trace (files_of v) = subst (λ o. AreHeld o below trace v.top (others_of v.rest)) is serving.held in
+    let kept = all_right (IsKept trace) v.retired (files_of v) serving.served.kept in
+    let once = names_behind v.retired (files_of v) serving.served.linked.once in
+    let distinct : AreApart (file_numbers below) = subst AreApart (same_numbers below trace (files_of v) held.1) (files_apart trace (files_of v) kept once) in
+    let loose : LooseAtTop (dirty_now v) (v.top ∷ others) = subst (λ r. IsLoose (dirty_now v) v.top r) rest serving.loose in
+    let tight : (s : ℕ) → NoneLoose s (files_of v) = λ s. (held.0 s, subst (λ r. NoneLoose s (others_of r)) (sym rest) (loose.1 s)) in
+    held_chains_open (sector_of v) v.opening v.history v.leaf v.retired (files_of v) trace pages serving.served
+    (both_in trace pages v.retired (files_of v) (none_retired trace pages v.retired none) (each_held trace pages below (files_of v) serving.once images held.1 kept synced tight (all_fit below distinct)))
+
+-- ---- behind a merge of the leaf
+
+but_false : (test written : Bool) → written ≡ false → cond test false written ≡ false
+but_false true written none = refl
+but_false false written none = none
+
+module _ (v : State) (top : Placed) (others : List Placed) (leaf : Placed) (now : Trace) (still : (other : ℕ) → v.writes other ≡ false → file_of now other ≡ file_of v.since other) (number : leaf.number ≡ v.top.number) (rests : is_synced (file_of now v.top.number) ≡ true)
+    (tight : (s : ℕ) → leaf.is_loose s ≡ false) where
+  -- the ones that were left before
+  still_left : (file : Placed) → IsLeftBehind v file → IsLeftBehind (succeeded_by v top others leaf now) file
+  still_left file one = record {
+    unwritten = but_false (file.number == v.top.number) (v.writes file.number) one.unwritten;
+    synced = ap is_synced (still file.number one.unwritten) ∙ one.synced;
+    tight = one.tight;
+  }
+
+  last_left : IsLeftBehind (succeeded_by v top others leaf now) leaf
+  last_left = record {
+    unwritten = ap (λ (b : Bool). cond b false (v.writes leaf.number)) (eq-eqb leaf.number v.top.number number);
+    synced = ap (λ n. is_synced (file_of now n)) number ∙ rests;
+    tight = tight;
+  }
+
+  all_left_behind : (files : List Placed) → AllByRecursion (IsLeftBehind v) files → AllByRecursion (IsLeftBehind (succeeded_by v top others leaf now)) (files ++ leaf ∷ [])
+  all_left_behind [] all = (last_left, tt)
+  all_left_behind (p ∷ files) all = (still_left p all.0, all_left_behind files all.1)
+
+pub leaves_are_left : LeavesAreLeft
+leaves_are_left id v target below layers now left done = all_left_behind v done.top done.others done.leaf now done.still done.is_retired.number done.rests done.is_retired.tight v.retired left

@@ -16,7 +16,7 @@ use Rattle.log_write.specs.Writing.{CanBegin}
 use Rattle.log_write.specs.declared.ids.SessionIds.{SessionIds}
 use Rattle.chain_model.specs.Files.{HasParts, at_rest}
 use Rattle.chain_model.specs.Images.{Placed, members_of, name_of}
-use Rattle.chain_model.specs.Members.{IsChainOf, Ties}
+use Rattle.chain_model.specs.Members.{IsChainOf, Ties, Way}
 use Rattle.chain_model.specs.Sessions.{GoesOver, HasGoneOver, as_read}
 use Rattle.layer_session.specs.Begins.{BeginsOver, CanServe, HasBegun, as_found, in_session}
 use Rattle.layer_session.specs.Calls.{IsBeside, KeepsOver}
@@ -83,7 +83,7 @@ gives_turn l t0 trace n parts ids pairs pages serves table within are gives =
 
 -- ---- phase by phase
 
-module _ (z : ℕ) (opening : Disk) (leaf : List ℕ) (t0 : Trace) where
+module _ (z : ℕ) (opening : Disk) (leaf : Way) (t0 : Trace) where
   -- the file that a session begins on is as it was found
   begins_from : (n : ℕ) (parts : Parts) (ids : SessionIds) (old new : Trace) → IsBeside n t0 old → BeginsOver parts ids n old new → GoesOver (as_found t0 n parts) (as_found t0 n (in_session parts ids)) old new
   begins_from n parts ids old new k over =
@@ -95,7 +95,7 @@ module _ (z : ℕ) (opening : Disk) (leaf : List ℕ) (t0 : Trace) where
 
   -- A session begins on a file of the chain.
   module _ (a b : List Placed) (n : ℕ) (parts : Parts) (ids : SessionIds) (numbers : List ℕ) (pairs : List Served) (old new : Trace) (r : Reached z opening leaf (a ++ as_found t0 n parts ∷ b) numbers pairs t0 old)
-      (apart : AllByRecursion (λ k. n ≢ k) numbers) (linked : IsChainOf leaf [] (members_of (a ++ as_found t0 n (in_session parts ids) ∷ b))) (over : BeginsOver parts ids n old new) where
+      (apart : AllByRecursion (λ k. n ≢ k) numbers) (linked : IsChainOf leaf.name [] (members_of (a ++ as_found t0 n (in_session parts ids) ∷ b))) (over : BeginsOver parts ids n old new) where
     goes : GoesOver (as_found t0 n parts) (as_found t0 n (in_session parts ids)) old new
     goes = begins_from n parts ids old new (r.left n apart) over
 
@@ -113,7 +113,7 @@ module _ (z : ℕ) (opening : Disk) (leaf : List ℕ) (t0 : Trace) where
   -- A file in a session gets other metadata.
   module _ (a b : List Placed) (l : Layer) (x : Placed) (ties : Ties) (region : List ℕ) (pages : List Page) (numbers : List ℕ) (pairs : List Served) (old new : Trace)
       (r : Reached z opening leaf (a ++ x ∷ b) numbers (record { layer = l; file = x } ∷ pairs) t0 old) (into : TurnsInto (own_len l) pages x ties region)
-      (linked : IsChainOf leaf [] (members_of (a ++ turned ties region x ∷ b))) (over : UpdatesOver l pages old new) where
+      (linked : IsChainOf leaf.name [] (members_of (a ++ turned ties region x ∷ b))) (over : UpdatesOver l pages old new) where
     turns_over : GoesOver x (turned ties region x) old new
     turns_over = over.over x ties region r.serving.0 into
 
@@ -134,7 +134,7 @@ module _ (z : ℕ) (opening : Disk) (leaf : List ℕ) (t0 : Trace) where
 
   -- A session ends, of a file with nothing loose.
   module _ (a b : List Placed) (l : Layer) (x : Placed) (numbers : List ℕ) (pairs : List Served) (old new : Trace)
-      (r : Reached z opening leaf (a ++ x ∷ b) numbers pairs t0 old) (serves : Serves l old x) (own : (s : ℕ) → x.is_loose s ≡ false) (linked : IsChainOf leaf [] (members_of (a ++ x ∷ b))) (keeps : KeepsOver l old new) where
+      (r : Reached z opening leaf (a ++ x ∷ b) numbers pairs t0 old) (serves : Serves l old x) (own : (s : ℕ) → x.is_loose s ≡ false) (linked : IsChainOf leaf.name [] (members_of (a ++ x ∷ b))) (keeps : KeepsOver l old new) where
     ends_over : GoesOver x x old new
     ends_over = goes_over x x old new refl refl (keeps.over x serves)
 

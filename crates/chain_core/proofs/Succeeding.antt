@@ -4,7 +4,7 @@ use Rattle.std.specs.Prelude.{Some, None, IfSome}
 use Rattle.std.specs.List.{AllByRecursion}
 use Rattle.std.specs.Option.{option_or}
 use Rattle.chain_model.proofs.Showing.{all_right}
-use Rattle.store_model.specs.File.{is_synced}
+use Rattle.store_model.specs.File.{is_synced, seen}
 use Rattle.store_model.specs.Trace.{Trace, file_of}
 use Rattle.vx_base.specs.declared.parts.Geometry.{Geometry}
 use Rattle.guest_model.specs.History.{is_dirty}
@@ -22,6 +22,7 @@ use Rattle.layer_session.specs.declared.file.Layer.{Layer}
 use Rattle.layer_session.specs.declared.file_layer.FileLayer.{FileLayer}
 use Rattle.layer_session.specs.declared.file_layer.FileLayer.TheVariants.{Session}
 use Rattle.layer_session.specs.Calls.{settled}
+use Rattle.layer_session.specs.Unnamed.{NamesNoLog}
 use Rattle.layer_session.specs.FileLayers.{HaveFiles, number_of}
 use Rattle.layer_session.specs.Keeping.{Serves}
 use Rattle.layer_session.proofs.Crashes.{layers_are_kept}
@@ -71,6 +72,7 @@ pub record Stands (v : State) (top target : Placed) (below : List Placed) (leaf 
   pub once : IsNamedOnce now
   pub served : IsServed (sector_of v) v.opening v.history v.leaf v.retired (top ∷ target ∷ below) now
   pub loose : LooseAtTop (dirty_now v) (top ∷ target ∷ below)
+  pub drops : v.leaf.drops ≡ Some top.member.name
   pub top_held : Serves leaf now top
   pub target_held : Serves l now target
   pub rest_held : HaveFiles rest now below
@@ -118,6 +120,7 @@ module _ (v : State) (target : Placed) (below : List Placed) (first before : Sec
         once = still_once target.number (ShowsFile target) trace now phase serving.once;
         served = start_survives.served (layers_are_kept next now (settled target) serves).shows;
         loose = loose_moves.committed (dirty_now v) [] v.top (settled target) below (record { others = serving.loose.others; owned = λ s none. refl }) (λ s. refl);
+        drops = serving.drops;
         top_held = layers_stand.beside leaf trace now v.top held.0 (phase_beside target.number (ShowsFile target) trace now phase v.top.number far.0.0);
         target_held = serves;
         rest_held = still_read target.number (ShowsFile target) trace now phase rest below far.1 held.1.1;
@@ -150,6 +153,7 @@ module _ (v : State) (top target : Placed) (below : List Placed) (leaf l : Layer
       once = still_once top.number (ShowsFile top) trace now phase at.once;
       served = top_survives.served (layers_are_kept next now (settled top) serves).shows;
       loose = ((λ s clean. refl), at.loose.1);
+      drops = at.drops;
       top_held = serves;
       target_held = layers_stand.beside l trace now target at.target_held (phase_beside top.number (ShowsFile top) trace now phase target.number below_top.0);
       rest_held = still_read top.number (ShowsFile top) trace now phase rest below below_top.1 at.rest_held;
@@ -163,8 +167,8 @@ module _ (v : State) (top target : Placed) (below : List Placed) (leaf l : Layer
     abbrev Goes : List ℕ → Type 0
     Goes bytes = ShowsFile target bytes ⊎ ShowsFile after bytes
 
-    tied : IsChainOf v.leaf (members_of v.retired) (top.member ∷ after.member ∷ members_of below)
-    tied = files_may_change.lower v.leaf (members_of v.retired) top.member [] target.member after.member (members_of below) (members_of below) at.served.linked looks refl up
+    tied : IsChainOf v.leaf.name (members_of v.retired) (top.member ∷ after.member ∷ members_of below)
+    tied = files_may_change.lower v.leaf.name (members_of v.retired) top.member [] target.member after.member (members_of below) (members_of below) at.served.linked looks refl up
 
     loose_then : LooseAtTop (dirty_now v) (top ∷ after ∷ below)
     loose_then = (at.loose.0, (λ s. (tight s, (at.loose.1 s).1)))
@@ -183,6 +187,7 @@ module _ (v : State) (top target : Placed) (below : List Placed) (leaf l : Layer
           once = still_once target.number Goes trace now over.phase at.once;
           served = target_survives.served (layers_are_kept next now after serves).shows;
           loose = loose_then;
+          drops = at.drops;
           top_held = layers_stand.beside leaf trace now top at.top_held (phase_beside target.number Goes trace now over.phase top.number far.0.0);
           target_held = serves;
           rest_held = still_read target.number Goes trace now over.phase rest below far.1 at.rest_held;
@@ -198,7 +203,7 @@ module _ (v : State) (top target : Placed) (below : List Placed) (leaf l : Layer
 
     gone_survives : Survives (sector_of v) v.opening v.history v.leaf (dirty_now v) gone (v.retired ++ gone ∷ []) (target ∷ below) trace now
     gone_survives =
-        leaf_is_retired (sector_of v) v.opening v.history v.leaf (dirty_now v) v.retired top gone target below trace now at.once at.served over names clear all at.loose (loose_moves.retired (dirty_now v) top target below at.loose)
+        leaf_is_retired (sector_of v) v.opening v.history v.leaf (dirty_now v) v.retired top gone target below trace now at.once at.served at.drops over names clear all at.loose (loose_moves.retired (dirty_now v) top target below at.loose)
 
     pub gone_moves : HasEnded v trace now
     gone_moves = moved v top.number Retires trace now written at.still at.past over.phase gone_survives.moments
@@ -241,8 +246,8 @@ module _ (v : State) (gone target : Placed) (below : List Placed) (leaf l : Laye
     abbrev Renamed : List ℕ → Type 0
     Renamed bytes = ShowsFile target bytes ⊎ ShowsFile after bytes
 
-    linked_then : IsChainOf v.leaf (members_of (v.retired ++ gone ∷ [])) (after.member ∷ members_of below)
-    linked_then = files_may_change.leaf v.leaf (members_of (v.retired ++ gone ∷ [])) target.member after.member (members_of below) (members_of below) at.served.linked (sym over.one_name) unretired refl up
+    linked_then : IsChainOf v.leaf.name (members_of (v.retired ++ gone ∷ [])) (after.member ∷ members_of below)
+    linked_then = files_may_change.leaf v.leaf.name (members_of (v.retired ++ gone ∷ [])) target.member after.member (members_of below) (members_of below) at.served.linked (sym over.one_name) unretired refl up
 
     named_survives : Survives (sector_of v) v.opening v.history v.leaf (dirty_now v) after (v.retired ++ gone ∷ []) (after ∷ below) trace now
     named_survives =
@@ -317,7 +322,7 @@ written_then n writes now (l ∷ rest) (f ∷ below) have ne all =
     (others_write n writes (number_of l) (λ e. ne.0 (file_layers_stand.number l now f have.0 ∙ e)) ∙ all.0, written_then n writes now rest below have.1 ne.1 all.1)
 
 module _ (v : State) (target top : Placed) (below : List Placed) (geometry : Geometry) (l : Layer) (rest : List FileLayer) (can : CanSucceed v target below geometry rest) (id : List ℕ) (looks : look_of top ≡ named_anew id target) (gone : Placed)
-    (number : gone.number ≡ v.top.number) (name : gone.member.name ≡ v.top.member.name) (leads : gone.member.ties.retired ≡ Some target.member.name) (now : Trace) (at : IsHandedOver v gone top below l rest now) (rests : is_synced (file_of now v.top.number) ≡ true) where
+    (number : gone.number ≡ v.top.number) (name : gone.member.name ≡ v.top.member.name) (leads : gone.member.ties.retired ≡ Some target.member.name) (tight : (s : ℕ) → gone.is_loose s ≡ false) (now : Trace) (at : IsHandedOver v gone top below l rest now) (rests : is_synced (file_of now v.top.number) ≡ true) (no_log : NamesNoLog (seen (file_of now v.top.number))) where
   far : AllByRecursion (λ f. f.number ≢ v.top.number) (top ∷ below)
   far = subst (λ (n : ℕ). AllByRecursion (λ f. f.number ≢ n) (top ∷ below)) number at.below_gone
 
@@ -339,9 +344,10 @@ module _ (v : State) (target top : Placed) (below : List Placed) (geometry : Geo
     others = below;
     leaf = gone;
     files = ap (λ k. k ∷ map look_of below) looks;
-    is_retired = record { number = number; name = name; leads = leads };
+    is_retired = record { tight = tight; number = number; name = name; leads = leads };
     still = at.still;
     rests = rests;
+    no_log = no_log;
     serving = record {
       once = at.once;
       geometry = geometry_now ∙ can.geometry_is ∙ sym top_alike;
@@ -349,6 +355,7 @@ module _ (v : State) (target top : Placed) (below : List Placed) (geometry : Geo
       loose = subst (λ (z : ℕ). LooseAtTop (is_dirty z v.history) (top ∷ below)) sector at.loose;
       course = subst (λ o. IsCourse (sector_of then) then.writes new o top (plain below)) (sym no_merge) tt;
       leaving = subst (λ o. IsRetiring (sector_of then) then.writes v.history new o top (plain below)) (sym none_now) tt;
+      drops = tt;
       held = subst (λ o. AreHeld o new.below.items now top below) (sym leaf_now) (at.target_held, subst (λ (b : List FileLayer). HaveFiles b now below) (sym items) at.rest_held);
       whole = λ s inside. subst (λ (k : SectorLayer). is_some (option_or (k s) (seen_in below s)) ≡ true) (sym (ap (λ k. k.layer) looks)) (can.whole s (subst (λ (g : Geometry). s < g.sectors) top_alike inside));
       synced = ((λ none. absurd (let never : true ≡ false = sym top_writes ∙ none in true_false never)), synced_then v.top.number v now at.still below far.1 can.synced);

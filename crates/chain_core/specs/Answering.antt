@@ -4,7 +4,7 @@ use Rattle.std.specs.List.{AllByRecursion}
 use Rattle.store_model.specs.declared.fault.StoreFault.{StoreFault}
 use Rattle.store_model.specs.Disk.{Disk, WhereBothTold}
 use Rattle.store_model.specs.Trace.{NamedBytes, Trace, EachMoment, file_of}
-use Rattle.store_model.specs.File.{is_synced}
+use Rattle.store_model.specs.File.{is_synced, seen}
 use Rattle.guest_model.specs.declared.refusal.ChainRefusal.{ChainRefusal}
 use Rattle.guest_model.specs.declared.refusal.ChainRefusal.TheVariants as refusals
 use Rattle.guest_model.specs.declared.refusal.ChainRefusal.TheVariants.{Broken, ReadFault, FileFull, NoRoom}
@@ -24,6 +24,7 @@ use Rattle.layer_session.specs.declared.file.LayerFault.TheVariants as layer
 use Rattle.layer_session.specs.Calls.{Fails}
 use Rattle.layer_session.specs.ReadOnly.{SomeReadFailed}
 use Rattle.layer_session.specs.Steps.{has_room, is_full}
+use Rattle.layer_session.specs.Unnamed.{NamesNoLog}
 use Rattle.chain_core.specs.Refusing.{refused}
 use Rattle.chain_core.specs.Sessions.{Session, leaf_number}
 use Rattle.chain_core.specs.States.{State, IsNextPlace, IsServing, LeavesOthers, dirty_now, disk_now, entry, files_of, sector_of, with_entry}
@@ -144,12 +145,13 @@ EachLinks leaf names trace =
     (image : List NamedBytes) → IsCleanImage trace image → (retired chain : List Member) → IsLinked (files_in image) leaf retired chain → names_of chain ≡ names
 
 -- The session has ended: each image opens to the history's disk, on all sectors, by the files of the chain, and if there was a session
--- nothing of any file is unsynced.
+-- nothing of any file is unsynced, and none that it could change names a log.
 pub record HasEndedWhole (session : Bool) (v : State) (trace now : Trace) : Type 0 where
   pub ended : HasEnded v trace now
   pub all : EachOpens v.leaf (λ s. false) (disk_now v) now
-  pub links : EachLinks v.leaf (names_of (members_of (files_of v))) now
+  pub links : EachLinks v.leaf.name (names_of (members_of (files_of v))) now
   pub synced : session ≡ true → AllByRecursion (λ f. is_synced (file_of now f.number) ≡ true) (files_of v)
+  pub no_log : session ≡ true → AllByRecursion (λ f. v.writes f.number ≡ true → NamesNoLog (seen (file_of now f.number))) (files_of v)
 
 abbrev pub HasClosed : Bool → State → Trace → Trace → Result (Unit {0}) StoreFault → Type 0
 HasClosed session v trace now (Ok done) = HasEndedWhole session v trace now

@@ -2,7 +2,7 @@
 use Rattle.std.specs.Prelude.{◌≡◌, ◌⊎◌, ◌^◌, ◌-◌, ◌<◌, ℕ, Bool, true, false, List, [], ◌∷◌, ◌++◌, Option, Some, None, Result, Ok, Err}
 use Rattle.std.specs.List.{AllByRecursion}
 use Rattle.store_model.specs.Disk.{Disk, WhereBothTold}
-use Rattle.store_model.specs.File.{is_synced}
+use Rattle.store_model.specs.File.{is_synced, seen}
 use Rattle.store_model.specs.Plans.{FailsToChange}
 use Rattle.store_model.specs.Trace.{Trace, file_of}
 use Rattle.store_model.specs.declared.fault.StoreFault.{StoreFault}
@@ -12,6 +12,7 @@ use Rattle.chain_model.specs.PhaseLaws.{IsNamedOnce}
 use Rattle.chain_model.specs.Sessions.{IsKept, IsServed}
 use Rattle.layer_session.specs.Calls.{own_file, settled}
 use Rattle.layer_session.specs.FileLayers.{FileIsReady, HasSession, HaveFiles, IsNumbered, number_of}
+use Rattle.layer_session.specs.Unnamed.{NamesNoLog}
 use Rattle.layer_session.specs.declared.file.Layer.{Layer}
 use Rattle.layer_session.specs.declared.file_layer.FileLayer.{FileLayer}
 use Rattle.chain_core.specs.Answering.{EachOpensNow, HasEnded}
@@ -49,10 +50,12 @@ pub record SomeChangeFailed (is_such : ℕ → Type 0) (old new : Disk) (fault :
 
 -- ---- where content is told
 
--- A file's session has ended: a crash leaves the file with nothing loose, and if it may have been changed nothing of it is unsynced.
+-- A file's session has ended: a crash leaves the file with nothing loose, and if it may have been changed nothing of it is unsynced, and it
+-- names no log.
 pub record HasEndedFile (writes : ℕ → Bool) (trace : Trace) (file : Placed) : Type 0 where
   pub kept : IsKept trace (settled file)
   pub synced : writes file.number ≡ true → is_synced (file_of trace file.number) ≡ true
+  pub no_log : writes file.number ≡ true → NamesNoLog (seen (file_of trace file.number))
 
 -- of files that are only read nothing is loose
 abbrev pub AreTight : (ℕ → Bool) → List Placed → Type 0

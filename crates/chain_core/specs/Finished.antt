@@ -16,6 +16,7 @@ use Rattle.layer_session.specs.Calls.{HasCommitted, HasEnded as EndsFile, KeepsO
 use Rattle.layer_session.specs.FileLayers.{WaitsForNone, file_numbers}
 use Rattle.layer_session.specs.Identifying.{HasIdentified, IdentifiesOver}
 use Rattle.layer_session.specs.Keeping.{IsReady}
+use Rattle.layer_session.specs.Unnamed.{NamesNoLog}
 use Rattle.layer_session.specs.Updating.{HasUpdated, Turns, UpdatesOver}
 use Rattle.layer_session.specs.declared.file.Layer.{Layer}
 use Rattle.layer_session.specs.declared.file_layer.FileLayer.{FileLayer}
@@ -30,7 +31,7 @@ use Rattle.chain_core.specs.declared.layers.Layers.{Layers}
 use Rattle.chain_core.specs.declared.layers.Underway.{Underway}
 use Rattle.chain_core.specs.declared.layers.Retiring.{Retiring}
 use Rattle.merge_core.specs.declared.marks.Marks.{Marks}
-use Rattle.store_model.specs.File.{is_synced}
+use Rattle.store_model.specs.File.{is_synced, seen}
 
 -- ---- for every store
 
@@ -123,14 +124,25 @@ pub record IsFinished (v : State) (layers : Layers) (now : Trace) : Type 0 where
 abbrev pub named_anew : List ℕ → Placed → Look
 named_anew id target = record (look_of target) { id = id }
 
--- The retired leaf: its name, and that of the target, to which it leads.
+-- The retired leaf: its name, and that of the target, to which it leads; nothing of it is loose.
 pub record IsRetired (source target leaf : Placed) : Type 0 where
+  pub tight : (s : ℕ) → leaf.is_loose s ≡ false
   pub number : leaf.number ≡ source.number
   pub name : leaf.member.name ≡ source.member.name
   pub leads : leaf.member.ties.retired ≡ Some target.member.name
 
+-- the state behind the merge of a leaf, which is retired, by its new leaf and the files below that
+abbrev pub succeeded_by : State → Placed → List Placed → Placed → Trace → State
+succeeded_by v top others leaf now = record v {
+  top = top;
+  rest = plain others;
+  retired = v.retired ++ leaf ∷ [];
+  writes = λ n. if n == v.top.number then false else v.writes n;
+  since = now;
+}
+
 -- The session serves the same history from the target, which is the leaf now, under its new identifier, and the files below it as they
--- stood; no other file was changed. The old leaf is retired: nothing of it is unsynced, and it isn't changed from then on.
+-- stood; no other file was changed. The old leaf is retired: nothing of it is unsynced, it names no log, and it isn't changed from then on.
 pub record IsSucceeded (id : List ℕ) (v : State) (target : Placed) (below : List Placed) (layers : Layers) (now : Trace) : Type 0 where
   pub top : Placed
   pub others : List Placed
@@ -139,13 +151,8 @@ pub record IsSucceeded (id : List ℕ) (v : State) (target : Placed) (below : Li
   pub is_retired : IsRetired v.top target leaf
   pub still : LeavesOthers v now
   pub rests : is_synced (file_of now v.top.number) ≡ true
-  pub serving : IsServing layers (record v {
-    top = top;
-    rest = plain others;
-    retired = v.retired ++ leaf ∷ [];
-    writes = λ n. if n == v.top.number then false else v.writes n;
-    since = now;
-  }) now
+  pub no_log : NamesNoLog (seen (file_of now v.top.number))
+  pub serving : IsServing layers (succeeded_by v top others leaf now) now
 
 abbrev pub Succeeds : List ℕ → State → Rest → Layers → Trace → Type 0
 Succeeds id v (plain others) layers now = ⊥

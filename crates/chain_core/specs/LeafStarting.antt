@@ -30,7 +30,7 @@ use Rattle.chain_core.specs.declared.merge_start.MergeStartRefusal.{MergeStartRe
 use Rattle.chain_core.specs.declared.merge_start.MergeStartRefusal.TheVariants as start
 use Rattle.chain_core.specs.MergeStarting.{BeginsNone, LeavesAllBut, data_session, high_of}
 use Rattle.chain_core.specs.Sessions.{AreReady, IsLow, leaf_number}
-use Rattle.chain_core.specs.Starting.{AreReadOf, EachOpensAlike, opening_disk, placed_from}
+use Rattle.chain_core.specs.Starting.{AreReadOf, EachOpensAlike, opening_disk, placed_from, way_to}
 use Rattle.chain_core.specs.States.{IsServing, State, retiring}
 
 -- ---- files
@@ -68,7 +68,7 @@ heir_in trace m ids = as_found trace 1 (in_session m.target.parts (data_session 
 -- target may be changed from then on.
 abbrev pub started_leaf_merge : Trace → Trace → LeafFiles → LeafMergeIds → List Page → State
 started_leaf_merge trace now m ids pages = record {
-  leaf = m.source.name;
+  leaf = way_to m.source (leaf_chain m) (Some m.source.name);
   retired = [];
   top = leaf_in trace m ids pages;
   rest = retiring (heir_in trace m ids) (placed_from trace 2 m.below) (leaf_in trace m ids pages).member.layer (heir_in trace m ids).member.layer;

@@ -13,3 +13,4 @@ pub mod Copying
 pub mod Finished
 pub mod MergeStarting
 pub mod LeafStarting
+pub mod Planned

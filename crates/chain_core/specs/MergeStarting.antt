@@ -25,6 +25,7 @@ use Rattle.layer_session.specs.declared.file.Layer.{Layer}
 use Rattle.layer_session.specs.declared.file_layer.FileLayer.{FileLayer}
 use Rattle.layer_session.specs.declared.file_layer.FileLayer.TheVariants.{Read, Session}
 use Rattle.layer_session.specs.declared.read_layer.ReadLayer.{ReadLayer}
+use Rattle.layer_session.specs.Unnamed.{NamesNoLog}
 use Rattle.layer_session.specs.Updating.{HasUpdated, UpdatesOver, laid_region, turned}
 use Rattle.merge_plan.specs.Merging.{MergeFiles, child_place, source_place, twice_pairs}
 use Rattle.merge_plan.specs.Planning.{HasPlan, IsBegun, Refuses}
@@ -39,7 +40,7 @@ use Rattle.chain_core.specs.declared.merge_start.MergeStartRefusal.{MergeStartRe
 use Rattle.chain_core.specs.declared.merge_start.MergeStartRefusal.TheVariants as start
 use Rattle.chain_core.specs.declared.merge_start.Room.{Room}
 use Rattle.chain_core.specs.Sessions.{AreReady, IsLow, leaf_number}
-use Rattle.chain_core.specs.Starting.{AreReadOf, EachOpensAlike, opening_disk, placed_from}
+use Rattle.chain_core.specs.Starting.{AreReadOf, EachOpensAlike, opening_disk, placed_from, way_to}
 use Rattle.chain_core.specs.States.{IsServing, State, merging}
 
 -- ---- files and identifiers
@@ -115,7 +116,7 @@ is_written m number = number == 0 || number == child_place m || number == target
 -- The state of a session over these files whose merge was prepared between the one moment and the other, no stripe being copied.
 abbrev pub started_merge : Trace → Trace → MergeFiles → MergeIds → List Page → State
 started_merge trace now m ids pages = record {
-  leaf = (leaf_of m).name;
+  leaf = way_to (leaf_of m) (chain_files m) (Some m.source.name);
   retired = [];
   top = top_in trace m ids;
   rest =
@@ -170,9 +171,13 @@ LeavesAllBut changes old new = WhereBothTold (λ trace now. (other : ℕ) → ch
 abbrev pub LeavesRest : MergeFiles → Option Trace → Option Trace → Type 0
 LeavesRest m = LeavesAllBut (is_changed m)
 
--- Layers serve the session whose merge is prepared.
+-- Layers serve the session whose merge is prepared. That of the source has ended: its file names no log.
+pub record ServesMerge (m : MergeFiles) (merge : Merge) (layers : Layers) (trace now : Trace) : Type 0 where
+  pub serving : IsServing layers (started_merge trace now m merge.ids merge.twice) now
+  pub no_log : NamesNoLog (seen (file_of now (source_place m)))
+
 abbrev pub StartsMerge : MergeFiles → Merge → Layers → Option Trace → Option Trace → Type 0
-StartsMerge m merge layers old new = WhereBothTold (λ trace now. IsServing layers (started_merge trace now m merge.ids merge.twice) now) old new
+StartsMerge m merge layers old new = WhereBothTold (ServesMerge m merge layers) old new
 
 -- A read or a change of one of these files failed.
 pub record PhaseFails (changes : ℕ → Bool) (old new : Disk) (fault : StoreFault) : Type 0 where

@@ -10,7 +10,7 @@ use Rattle.guest_model.specs.Calls.{Disk as GuestDisk}
 use Rattle.log_write.specs.Writing.{BeginFails}
 use Rattle.log_write.specs.declared.ids.SessionIds.{SessionIds}
 use Rattle.chain_model.specs.Images.{Placed, members_of}
-use Rattle.chain_model.specs.Members.{disk_of}
+use Rattle.chain_model.specs.Members.{disk_of, Way}
 use Rattle.chain_model.specs.Moments.{EachOpens}
 use Rattle.chain_model.specs.Sessions.{as_read}
 use Rattle.link_rules.specs.declared.linked.LinkedFile.{LinkedFile}
@@ -29,6 +29,7 @@ use Rattle.chain_core.specs.declared.starting.Mode.{Mode}
 use Rattle.chain_core.specs.declared.starting.Mode.TheVariants.{Guests, ReadOnly}
 use Rattle.chain_core.specs.declared.starting.StartRefusal.{StartRefusal}
 use Rattle.chain_core.specs.declared.starting.StartRefusal.TheVariants.{IdUnfit, Spent, Store, NoRoom}
+use Rattle.link_rules.specs.Chains.{names_of}
 
 -- ---- what is started
 
@@ -53,10 +54,14 @@ placed_from trace number (file ∷ files) = as_read trace number (seen (file_of 
 abbrev pub opening_disk : Trace → List LinkedFile → GuestDisk
 opening_disk trace files = disk_of (members_of (placed_from trace 0 files))
 
+-- where a leaf's name leads, to these files, of which a merge may drop one
+abbrev pub way_to : LinkedFile → List LinkedFile → Option (List ℕ) → Way
+way_to leaf files drops = record { name = leaf.name; first = names_of files; drops = drops }
+
 -- the state of a session that started at this moment over these files, the leaf having these numbers in it
 abbrev pub started : Trace → LinkedFile → List LinkedFile → Parts → State
 started trace leaf others parts = record {
-  leaf = leaf.name;
+  leaf = way_to leaf (leaf ∷ others) None;
   retired = [];
   top = as_read trace 0 (seen (file_of trace 0)) parts;
   rest = plain (placed_from trace 1 others);
@@ -67,11 +72,11 @@ started trace leaf others parts = record {
   since = trace;
 }
 
--- each image of each moment opens, from the leaf's name, to the disk of the files as they were attached
+-- each image of each moment opens, from the leaf's name and by all the files, to the disk of these as they were attached
 abbrev pub EachOpensAlike : List LinkedFile → Option Trace → Option Trace → Type 0
 EachOpensAlike [] old new = ⊤
 EachOpensAlike (leaf ∷ others) old new =
-    WhereBothTold (λ trace now. EachMoment (EachOpens leaf.name (λ s. false) (opening_disk trace (leaf ∷ others))) trace now) old new
+    WhereBothTold (λ trace now. EachMoment (EachOpens (way_to leaf (leaf ∷ others) None) (λ s. false) (opening_disk trace (leaf ∷ others))) trace now) old new
 
 -- no file but the first was changed
 abbrev pub LeavesOthersFrom : Option Trace → Option Trace → Type 0

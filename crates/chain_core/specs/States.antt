@@ -9,7 +9,7 @@ use Rattle.guest_model.specs.declared.call.Entry.{Entry}
 use Rattle.guest_model.specs.Calls.{Disk, is_named}
 use Rattle.guest_model.specs.History.{History, either, is_dirty, is_flush, replay}
 use Rattle.chain_model.specs.Layers.{Layer as SectorLayer, through, with_call}
-use Rattle.chain_model.specs.Members.{IsParentOf, Ties, layers_of}
+use Rattle.chain_model.specs.Members.{IsParentOf, Ties, layers_of, Way}
 use Rattle.chain_model.specs.Images.{Placed, members_of}
 use Rattle.chain_model.specs.Moments.{EachOpensToPrefix}
 use Rattle.chain_model.specs.Sessions.{IsServed, LooseAtTop, LooseInMerge}
@@ -48,10 +48,11 @@ others_of (plain others) = others
 others_of (merging above source target below m) = above ++ (source ∷ target ∷ below)
 others_of (retiring target below first before) = target ∷ below
 
--- What is said of a session and kept by no code: the name that it was opened by, the retired leaves behind that name, its leaf and the
--- files below it, the disk when it began, its history, and the moment when it began.
+-- What is said of a session and kept by no code: the name that it was opened by, with the files to which that led and the one that a
+-- merge may drop; the retired leaves behind that name, its leaf and the files below it, the disk when it began, its history, and the
+-- moment when it began.
 pub record State : Type 0 where
-  pub leaf : List ℕ
+  pub leaf : Way
   pub retired : List Placed
   pub top : Placed
   pub rest : Rest
@@ -216,6 +217,12 @@ pub record IsLeaving (z : ℕ) (writes : ℕ → Bool) (h : History) (layers : L
   pub stamps : (t : ℕ) → t < stripe_count z top.member.ties.geometry.sectors → stamps_of r.stamps t ≡ stamp z h t
   pub under_way : IsUnderWay z first before h (marks_of r.marks) top.member.layer target.member.layer
 
+-- the file that a merge may drop is the source of the one under way, the leaf having this name
+abbrev pub DropsSource : Option (List ℕ) → List ℕ → Rest → Type 0
+DropsSource drops top (plain others) = ⊤
+DropsSource drops top (merging above source target below m) = drops ≡ Some source.member.name
+DropsSource drops top (retiring target below first before) = drops ≡ Some top
+
 -- the code keeps one where one is under way
 abbrev pub IsRetiring : ℕ → (ℕ → Bool) → History → Layers → Option Retiring → Placed → Rest → Type 0
 IsRetiring z writes h layers None top (plain others) = ⊤
@@ -239,6 +246,7 @@ pub record IsServing (layers : Layers) (v : State) (trace : Trace) : Type 0 wher
   pub loose : IsLoose (dirty_now v) v.top v.rest
   pub course : IsCourse (sector_of v) v.writes layers layers.merge v.top v.rest
   pub leaving : IsRetiring (sector_of v) v.writes v.history layers layers.retiring v.top v.rest
+  pub drops : DropsSource v.leaf.drops v.top.member.name v.rest
   pub held : AreHeld layers.leaf layers.below.items trace v.top (others_of v.rest)
   -- each sector of the disk is in one of the files
   pub whole : (s : ℕ) → s < v.top.member.ties.geometry.sectors → is_some (seen_in (files_of v) s) ≡ true

@@ -1,6 +1,6 @@
 //! The session of a chain.
 
-ghost use Rattle.std.specs.Prelude.{◌≡◌, ◌+◌, ◌-◌, ◌*◌, ◌/◌, ◌%◌, ◌^◌, ◌<◌, ◌≤◌, ◌++◌, ◌∷◌, ◌||◌, if◌then◌else◌, [], Ok, Err, true, false, None, Some, length, take, is_some, option_map, IfErr, IfNone, IfOk, IfSome, IsTrue, OnErr, OnOk};
+ghost use Rattle.std.specs.Prelude.{ℕ, Bool, ◌≡◌, ◌+◌, ◌-◌, ◌*◌, ◌/◌, ◌%◌, ◌^◌, ◌<◌, ◌≤◌, ◌++◌, ◌∷◌, ◌||◌, if◌then◌else◌, [], Ok, Err, true, false, None, Some, length, take, is_some, option_map, IfErr, IfNone, IfOk, IfSome, IsTrue, OnErr, OnOk};
 ghost use Rattle.guest_model.specs.declared.call.Call.TheVariants as calls;
 ghost use Rattle.guest_model.specs.Calls.{call_of, entry_of};
 ghost use Rattle.chain_core.specs.Answering.{AnswersTold, ClosesTold, EndsTold, HasCause, HasReadCause, HasRoom, IsDurable, Notes, answer_of, as_read, breaking, breaks, refusal_of};
@@ -8,7 +8,10 @@ ghost use Rattle.chain_core.specs.Ending.{IsOfSession, SomeChangeFailed};
 ghost use Rattle.chain_core.specs.Copying.{FetchCause, FetchTold, FitsDisk, HasEachStripe, IfStopped, IsMissing, IsOfStripe, MergeFollows, PieceTold, PutCause, TargetRoomIs, fetch_refused, stamp_of, merge_refused, no_piece, no_stripe, put_refused, refused_by};
 ghost use Rattle.chain_core.specs.Finished.{FinishCause, FinishTold, IsJudged};
 ghost use Rattle.chain_core.specs.Events.{HasWholeSectors, IsCaused, RepliesBy, answer_by, placed};
+ghost use Rattle.chain_core.specs.Planned.{FindsPlanned};
 ghost use Rattle.chain_core.specs.Reading.{Finds};
+ghost use Rattle.sealed_layer.specs.Planned.{AreNamedRead, AreOfFiles, EndsBy, LieInStore};
+ghost use Rattle.std.specs.List.{AllByRecursion};
 ghost use Rattle.chain_core.specs.Refusing.{IfRefused, counted, is_read, misplaced, range_of, fill, refused, unfit};
 ghost use Rattle.merge_plan.specs.Attached.{CanStart};
 ghost use Rattle.chain_core.specs.LeafStarting.{HasStartedLeafMerge, RefusesLeafMerge};
@@ -24,6 +27,7 @@ use guest_model::{Call, CallRef, Caller, ChainRefusal, Recorder, Reply, check_ra
 use layer_session::LayerFault;
 use link_rules::LinkedFile;
 use merge_core::Piece;
+use read_plan::Plan;
 use std::alloc::Global;
 use store_model::{Ids, Store, StoreFault};
 use vx_base::{Bytes, Geometry, Name, NoRoom};
@@ -311,6 +315,40 @@ impl<S: Store, R: Recorder> Chain<S, R> {
         let count = out.len() as u64 / u64::from(self.layers.geometry.sector);
         self.accept(who, CallRef::Read { first, count })?;
         let done = unread(self.layers.find(&mut self.store, first, count, out));
+        self.conclude(done)
+    }
+
+    /// Reads what files in sessions have of whole sectors, and plans what the others have. Answers the call's place in the history: the read
+    /// is done once the plan is filled.
+    pub fn read_plan(
+        &mut self,
+        who: Caller,
+        first: u64,
+        plan: &mut Plan,
+        out: &mut [u8],
+    ) -> Result<u64, ChainRefusal>
+        requires sound { IsSound (seen S.disk R.noted R.told self.old) }
+        requires whole { length out.old % self.old.layers.geometry.sector ≡ 0 }
+        ensures sound { IsSound (seen S.disk R.noted R.told self.new) }
+        ensures events { self.new.events ≡ counted self.old.events }
+        ensures geometry { self.new.layers.geometry ≡ self.old.layers.geometry }
+        ensures session { is_some self.new.layers.leaf ≡ is_some self.old.layers.leaf }
+        ensures leaf { leaf_number self.new.layers ≡ leaf_number self.old.layers }
+        ensures merge { MergeFollows (fill self.old.layers first out.old) self.old.layers self.new.layers result }
+        ensures early { IfRefused (fill self.old.layers first out.old) (seen S.disk R.noted R.told self.old) result (IsCounted self.old self.new) }
+        ensures notes { Notes who (fill self.old.layers first out.old) (seen S.disk R.noted R.told self.old) (seen S.disk R.noted R.told self.new) result }
+        ensures cause { HasReadCause (fill self.old.layers first out.old) (seen S.disk R.noted R.told self.old) (seen S.disk R.noted R.told self.new) result }
+        ensures free { IsTrue R.takes_none → result ≡ Err ChainRefusal.NoRoom → ⊥ }
+        ensures finds { OnOk result (FindsPlanned first (length out.old / self.old.layers.geometry.sector) plan.new out.new self.old.layers (S.disk self.old.store)) }
+        ensures fit { AllByRecursion (EndsBy (length out.old / self.old.layers.geometry.sector)) plan.new }
+        ensures lie { LieInStore self.old.layers.geometry.sector (S.disk self.old.store) plan.new }
+        ensures files { (of : ℕ → Bool) → AreNamedRead of self.old.layers.below.items → AreOfFiles of plan.new }
+        ensures told { AnswersTold who (fill self.old.layers first out.old) (seen S.disk R.noted R.told self.old) (seen S.disk R.noted R.told self.new) result }
+    {
+        plan.clear();
+        let count = out.len() as u64 / u64::from(self.layers.geometry.sector);
+        self.accept(who, CallRef::Read { first, count })?;
+        let done = unread(self.layers.plan(&mut self.store, first, count, plan, out));
         self.conclude(done)
     }
 
@@ -605,6 +643,13 @@ impl<S: Store, R: Recorder> Chain<S, R> {
             return Err(ChainRefusal::NoMerge);
         }
         Ok(())
+    }
+
+    /// How many entries its history has.
+    pub fn len(&self) -> u64
+        ensures { result ≡ R.noted self.now.recorder }
+    {
+        self.recorder.len()
     }
 
     /// The lowest stripe that isn't copied; none where all are, or no merge is under way.

@@ -1,6 +1,6 @@
 //! The layers of a chain's files.
 
-ghost use Rattle.std.specs.Prelude.{◌≡◌, ◌≤◌, ◌+◌, ◌*◌, ◌/◌, ◌%◌, ◌^◌, ℕ, true, false, not, None, Ok, length, is_some, option_map, ◌<◌, IfErr, IfSome, OnOk};
+ghost use Rattle.std.specs.Prelude.{[], Bool, ◌≡◌, ◌≤◌, ◌+◌, ◌*◌, ◌/◌, ◌%◌, ◌^◌, ℕ, true, false, not, None, Ok, length, is_some, option_map, ◌<◌, IfErr, IfSome, OnOk};
 ghost use Rattle.guest_model.specs.declared.call.Call.TheVariants as calls;
 ghost use Rattle.layer_session.specs.declared.file.Layer.{Layer};
 ghost use Rattle.layer_session.specs.Calls.{Fails};
@@ -10,7 +10,10 @@ ghost use Rattle.layer_session.specs.Calls.{IsBeside};
 ghost use Rattle.layer_session.specs.FileLayers.{AreOthers, file_numbers};
 ghost use Rattle.store_model.specs.Disk.{WhereBothTold};
 ghost use Rattle.chain_core.specs.Ending.{AreAllReady, AreNumbered, EndsOnTold, IsInSession, IsOfSession, SomeChangeFailed};
+ghost use Rattle.chain_core.specs.Planned.{FindsPlanned, PlansPart};
 ghost use Rattle.chain_core.specs.Reading.{AddsPart, Finds, HasOnlyRead, of_read, of_session};
+ghost use Rattle.sealed_layer.specs.Planned.{AreNamedRead, AreOfFiles, EndsBy, IsPlan, LieInStore};
+ghost use Rattle.std.specs.List.{AllByRecursion};
 ghost use Rattle.chain_core.specs.Copying.{IsSized, LayerFollows, TouchesIf, stamp_of};
 ghost use Rattle.chain_core.specs.Sessions.{AreApart, AreReady, IsLow, KeepsMerge, kept_marks, leaf_number};
 ghost use Rattle.vhdx_format.specs.AllocationTables.{IsSectorSize};
@@ -18,6 +21,8 @@ ghost use Rattle.vhdx_format.specs.AllocationTables.{IsSectorSize};
 use layer_session::{FileLayer, Layer, LayerFault, own_files};
 use merge_core::{Marks, Stamps, stripes_touched};
 use meta_edit::Updates;
+use read_plan::Plan;
+use sealed_layer::plan_files;
 use store_model::{Store, StoreFault};
 use vx_base::{Geometry, Guid};
 
@@ -132,6 +137,7 @@ impl Layers {
         ensures reads { HasOnlyRead self.old self.new (S.disk store.old) (S.disk store.new) }
         ensures adds { OnOk result (AddsPart of_session first count self.old (S.disk store.old) mask.old mask.new out.old out.new) }
         ensures stays { OnOk result (S.disk store.new ≡ S.disk store.old) }
+        ensures below { self.new.below ≡ self.old.below }
         ensures err { IfErr result (SomeReadFailed (S.disk store.old) (S.disk store.new)) }
     {
         match &mut self.leaf {
@@ -182,6 +188,62 @@ impl Layers {
         let mut mask = [0; 256];
         self.own_leaf(store, first, count, out, &mut mask)?;
         self.own_below(store, first, count, out, &mut mask)
+    }
+
+    // Reads what the other files that are in sessions have, and plans what the others have.
+    fn plan_below<S: Store>(
+        &mut self,
+        store: &mut S,
+        first: u64,
+        count: u64,
+        plan: &mut Plan,
+        out: &mut [u8],
+        mask: &mut [u8],
+    ) -> Result<(), StoreFault>
+        requires ready { AreReady self.old (S.disk store.old) }
+        requires on_disk { first + count ≤ self.old.geometry.sectors }
+        requires out { length out.old ≡ self.old.geometry.sector * count }
+        requires few { count ≤ 2048 }
+        requires mask { count ≤ 8 * length mask.old }
+        requires plan { IsPlan count mask.old plan.old }
+        requires lie { LieInStore self.old.geometry.sector (S.disk store.old) plan.old }
+        ensures reads { HasOnlyRead self.old self.new (S.disk store.old) (S.disk store.new) }
+        ensures plans { OnOk result (PlansPart of_read first count self.old (S.disk store.old) mask.old mask.new plan.old plan.new out.old out.new) }
+        ensures plan { IsPlan count mask.new plan.new }
+        ensures lie { LieInStore self.old.geometry.sector (S.disk store.old) plan.new }
+        ensures files { (of : ℕ → Bool) → AreNamedRead of self.old.below.items → AreOfFiles of plan.old → AreOfFiles of plan.new }
+        ensures stays { OnOk result (S.disk store.new ≡ S.disk store.old) }
+        ensures err { IfErr result (SomeReadFailed (S.disk store.old) (S.disk store.new)) }
+    {
+        let below = self.below.as_mut_slice();
+        plan_files(below, store, self.geometry, first, count, plan, out, mask)
+    }
+
+    /// Finds sectors of the disk, file by file: what files in sessions have is read, and what the others have is planned.
+    pub fn plan<S: Store>(
+        &mut self,
+        store: &mut S,
+        first: u64,
+        count: u64,
+        plan: &mut Plan,
+        out: &mut [u8],
+    ) -> Result<(), StoreFault>
+        requires ready { AreReady self.old (S.disk store.old) }
+        requires on_disk { first + count ≤ self.old.geometry.sectors }
+        requires out { length out.old ≡ self.old.geometry.sector * count }
+        requires few { count ≤ 2048 }
+        requires empty { plan.old ≡ [] }
+        ensures reads { HasOnlyRead self.old self.new (S.disk store.old) (S.disk store.new) }
+        ensures finds { OnOk result (FindsPlanned first count plan.new out.new self.old (S.disk store.old)) }
+        ensures fit { AllByRecursion (EndsBy count) plan.new }
+        ensures lie { LieInStore self.old.geometry.sector (S.disk store.old) plan.new }
+        ensures files { (of : ℕ → Bool) → AreNamedRead of self.old.below.items → AreOfFiles of plan.new }
+        ensures stays { OnOk result (S.disk store.new ≡ S.disk store.old) }
+        ensures err { IfErr result (SomeReadFailed (S.disk store.old) (S.disk store.new)) }
+    {
+        let mut mask = [0; 256];
+        self.own_leaf(store, first, count, out, &mut mask)?;
+        self.plan_below(store, first, count, plan, out, &mut mask)
     }
 
     /// Writes sectors into the leaf, by the call that has this place in the history.

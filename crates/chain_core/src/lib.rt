@@ -13,7 +13,7 @@ mod starting;
 
 pub use answer::Answer;
 pub use chain::Chain;
-pub use laws::sessions_are_held;
+pub use laws::{plans_answer, plans_can_be_filled, sessions_are_held, sessions_link_alike};
 pub use layers::Layers;
 pub use merge_start::MergeStartRefusal;
 pub use starting::{Mode, StartRefusal};

@@ -91,8 +91,8 @@ module _ (parts : Parts) (ids : SessionIds) (file : ℕ) (t : Trace) (numbers : 
 
   begins_show : (image : List ℕ) → BeginsAlike parts.header ids F image → ShowsFile (as_found t file parts) image ⊎ ShowsFile (as_found t file (in_session parts ids)) image
   begins_show image (inl old) = inl (shown parts everywhere nowhere (λ s. false) (layer_in F parts) F F image safe old)
-  begins_show image (inr (inl first)) = let s = by_header (opening_header parts.header ids) refl refl image first in inr (record { held = s.held; parts = s.parts; reads = s.reads; ties = s.ties; clean = s.clean })
-  begins_show image (inr (inr last)) = let s = by_header (session_header parts.header ids) refl refl image last in inr (record { held = s.held; parts = s.parts; reads = s.reads; ties = s.ties; clean = s.clean })
+  begins_show image (inr (inl first)) = let s = by_header (opening_header parts.header ids) refl refl image first in inr (record { held = s.held; parts = s.parts; reads = s.reads; whole = s.whole; ties = s.ties; clean = s.clean })
+  begins_show image (inr (inr last)) = let s = by_header (session_header parts.header ids) refl refl image last in inr (record { held = s.held; parts = s.parts; reads = s.reads; whole = s.whole; ties = s.ties; clean = s.clean })
 
   pub begins_over : (u : Trace) → ChangesUntorn file (BeginsAlike parts.header ids F) t u → BeginsOver parts ids file t u
   begins_over u changes = record {
@@ -114,7 +114,7 @@ begin_moments parts ids file (Some t) (Some u) numbers low can moments only = be
 
 -- as it is found it is kept
 found_kept : (parts : Parts) (ids : SessionIds) (file : ℕ) (t : Trace) → CanServe parts ids.log file t → IsKeptFile t (as_found t file parts)
-found_kept parts ids file t can = chains_begin.kept t file (seen (file_of t file)) parts can.within can.begins.synced can.reads
+found_kept parts ids file t can = chains_begin.kept t file (seen (file_of t file)) parts can.within can.begins.synced can.reads (omega arith)
 
 -- nothing was done
 pub begin_none : (parts : Parts) (ids : SessionIds) (file : ℕ) (old : Option Trace) → HasNumbers parts → WhereTold old (CanServe parts ids.log file) → WhereBothTold (BeginsOver parts ids file) old old

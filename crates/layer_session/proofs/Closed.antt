@@ -28,7 +28,7 @@ use Rattle.layer_session.specs.ReadOnly.{CanRead, IsRead}
 use Rattle.layer_session.proofs.Alike.{layer_alike, numbers_alike, sector_kept, sound_alike}
 use Rattle.layer_session.proofs.Committed.{IsWhole, held_none, whole_of}
 use Rattle.layer_session.proofs.Committing.{attached_same}
-use Rattle.layer_session.proofs.Ending.{end_kept, end_synced}
+use Rattle.layer_session.proofs.Ending.{end_kept, end_no_log, end_synced}
 use Rattle.layer_session.proofs.Equal.{none_some, some_same}
 
 -- nothing but headers and log has changed since nothing waited for a commit
@@ -127,6 +127,7 @@ module _ (l m : Layer) (old mid new : Disk) (committed : WhereBothTold (HasCommi
         (subst (λ i. KeepsRest m.log.header (seen (file_of u i)) (seen (file_of v i))) own has.rest);
     kept = λ file s. end_kept m u (settled file) (k.serves file s) empty v one_file e o;
     synced = λ file s. let r = k.serves file s in end_synced m u (settled file) r empty v one_file e o (x r.tables (length r.bytes) r.written);
+    no_log = λ file s. let r = k.serves file s in end_no_log m u (settled file) r empty v one_file e o (x r.tables (length r.bytes) r.written);
   }
 
   pub both_closed : WhereBothTold (HasClosed l (record { tables = m.tables })) old.told new.told

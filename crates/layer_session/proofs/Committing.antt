@@ -58,7 +58,7 @@ module _ (l : Layer) (trace : Trace) (file : Placed) (serves : Serves l trace fi
 
   -- what is shown with nothing loose is shown with more loose
   no_less : (image : List ℕ) → ShowsFile (settled file) image → ShowsFile file image
-  no_less image shows = record { held = shows.held; parts = shows.parts; reads = shows.reads; ties = shows.ties; clean = λ s e. shows.clean s refl }
+  no_less image shows = record { held = shows.held; parts = shows.parts; reads = shows.reads; whole = shows.whole; ties = shows.ties; clean = λ s e. shows.clean s refl }
 
   -- an image of a commit shows the file as before
   pub commit_shows : (image : List ℕ) → CommitsAll l.log l.tables.pending (length serves.bytes) serves.written F image → ShowsFile file image

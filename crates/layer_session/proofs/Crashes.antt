@@ -60,6 +60,7 @@ shown parts tables written is_loose layer bytes file image safe stands = record 
     numbers = numbers_alike parts bytes settled stands.long safe.sizes safe.committed.numbers safe.committed.sound table_same safe.long;
     blocks = sound_alike parts bytes settled stands.long safe.sizes safe.committed.numbers safe.committed.sound table_same safe.long;
   };
+  whole = stands.whole;
   ties = refl;
   clean = λ s h. by_disk s h (cases_lt s parts.geometry.sectors);
 }

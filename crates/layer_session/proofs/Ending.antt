@@ -27,6 +27,7 @@ use Rattle.chain_model.specs.Sessions.{IsKept, ShowsFile}
 use Rattle.layer_session.specs.declared.file.Layer.{Layer}
 use Rattle.layer_session.specs.Calls.{HasCommitted, HasEnded, KeepsOver, settled}
 use Rattle.layer_session.specs.Keeping.{IsTablePlace, Serves, bitmap as bitmap_place, entries, metadata, regions}
+use Rattle.layer_session.specs.Unnamed.{NamesNoLog}
 use Rattle.layer_session.proofs.Committed.{held_none}
 use Rattle.layer_session.proofs.Committing.{attached_same, safe_committed}
 use Rattle.layer_session.proofs.Crashes.{IsSafe, safe_of, shown}
@@ -108,7 +109,7 @@ module _ (l : Layer) (t : Trace) (file : Placed) (serves : Serves l t file) (emp
       let same : ties_of (under header serves.parts) ≡ file.member.ties =
       ap (λ i. (let x : Ties = record { id = i; geometry = serves.parts.geometry; parent = serves.parts.parent; locator = serves.parts.locator; retired = serves.parts.retired } in x)) (ap (λ (h : Header). h.data_write) (sym serves.header)) ∙ sym serves.ties in
       let tied : Shows file.member.ties file.member.layer (λ s. false) image = subst (λ (x : Ties). Shows x file.member.layer (λ s. false) image) same shows in
-      record { held = tied.held; parts = tied.parts; reads = tied.reads; ties = tied.ties; clean = λ s e. tied.clean s refl }
+      record { held = tied.held; parts = tied.parts; reads = tied.reads; whole = tied.whole; ties = tied.ties; clean = λ s e. tied.clean s refl }
 
   ends_over : (u : Trace) → ChangesUntorn file.number (EndsAlike l.log.header (length serves.bytes) serves.written F) t u → IsPhase file.number (ShowsFile file) t u
   ends_over u changes = record {
@@ -143,6 +144,9 @@ module _ (l : Layer) (t : Trace) (file : Placed) (serves : Serves l t file) (emp
     pub end_synced : (IsRunning l.log serves.tables (length serves.bytes) serves.written (file_of t l.log.file) → HasEndedLog l.log.header (seen (file_of t l.log.file)) (file_of u l.log.file)) → is_synced (file_of u file.number) ≡ true
     end_synced ended = subst (λ i. is_synced (file_of u i) ≡ true) of_file (ended run).synced
 
+    pub end_no_log : (IsRunning l.log serves.tables (length serves.bytes) serves.written (file_of t l.log.file) → HasEndedLog l.log.header (seen (file_of t l.log.file)) (file_of u l.log.file)) → NamesNoLog (seen (file_of u file.number))
+    end_no_log ended = subst (λ i. NamesNoLog (seen (file_of u i))) of_file (record { header = ended_header l.log.header; current = (ended run).head; none = refl })
+
 -- ---- of stores
 
 -- a commit, and then the end of the log
@@ -152,7 +156,7 @@ module _ (l m : Layer) (old mid new : Disk) (quiet : WhereBothTold (KeepsOver l)
   one_over t u v q k e o = record {
     over = λ file s.
         phases_join file.number (ShowsFile file) t u v (q.over file s)
-        (phase_weaken file.number (ShowsFile (settled file)) (ShowsFile file) u v (λ image shows. record { held = shows.held; parts = shows.parts; reads = shows.reads; ties = shows.ties; clean = λ i b. shows.clean i refl })
+        (phase_weaken file.number (ShowsFile (settled file)) (ShowsFile file) u v (λ image shows. record { held = shows.held; parts = shows.parts; reads = shows.reads; whole = shows.whole; ties = shows.ties; clean = λ i b. shows.clean i refl })
         (end_over m u (settled file) (k.serves file s) empty v one_file e o));
   }
 
@@ -179,6 +183,7 @@ module _ (l m : Layer) (old mid new : Disk) (quiet : WhereBothTold (KeepsOver l)
       by_told (Some t) (Some u) None k e o x = absurd o
       by_told (Some t) (Some u) (Some v) k e o x = record {
         synced = λ file s. let r = k.serves file s in end_synced m u (settled file) r empty v one_file e o (x r.tables (length r.bytes) r.written);
+        no_log = λ file s. let r = k.serves file s in end_no_log m u (settled file) r empty v one_file e o (x r.tables (length r.bytes) r.written);
         kept = λ file s. end_kept m u (settled file) (k.serves file s) empty v one_file e o;
       }
 

@@ -75,7 +75,7 @@ put_moves l mid first len f agree t u put file serves = (f file.member.layer, (p
 
 -- an image that shows the file with a few sectors loose shows it with more
 pub shows_looser : (file : Placed) (layer : chain.Layer) (less more : ℕ → Bool) (image : List ℕ) → ((s : ℕ) → more s ≡ false → (less s ≡ false) × (layer s ≡ file.member.layer s)) → Shows file.member.ties layer less image → Shows file.member.ties file.member.layer more image
-shows_looser file layer less more image h shows = record { held = shows.held; parts = shows.parts; reads = shows.reads; ties = shows.ties; clean = λ s e. let x = h s e in shows.clean s x.0 ∙ x.1 }
+shows_looser file layer less more image h shows = record { held = shows.held; parts = shows.parts; reads = shows.reads; whole = shows.whole; ties = shows.ties; clean = λ s e. let x = h s e in shows.clean s x.0 ∙ x.1 }
 
 pub keeps_puts : (l : Layer) (first count : ℕ) (a b : Option Trace) → WhereBothTold (KeepsOver l) a b → WhereBothTold (PutsInto l first count) a b
 keeps_puts l first count a b keeps = both_map (KeepsOver l) (PutsInto l first count) a b keeps (λ t u x y k. record {

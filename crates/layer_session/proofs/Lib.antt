@@ -3,6 +3,7 @@ pub mod Sectors
 pub mod Numbers
 pub mod Alike
 pub mod Places
+pub mod Untold
 pub mod Apart
 pub mod Beside
 pub mod Crashes
@@ -92,3 +93,5 @@ pub mod EntryBrought
 mod Exits
 pub mod Handing
 pub mod Known
+pub mod Whereabout
+pub mod Finding

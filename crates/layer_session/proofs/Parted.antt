@@ -81,59 +81,63 @@ module _ (parts : TableParts) (file held : List ℕ) (sizes : HasTables parts) (
         ∙ ap (λ k. bytes_at file k z) (let e : place_at p held (entry_of p (first + i)) ≡ place_at p held (entry_of p first) = ap (place_at p held) (same_entry i h) in let o = offset i h in omega (arith, e, o))
 
   -- a block that is fully there
+  pub full_is : (place : ℕ) → state_at p held (entry_of p first) ≡ 6 → place ≡ start → (i : ℕ) → i < count → layer (first + i) ≡ Some (bytes_at file (place + z * i) z)
+  full_is place six e i h =
+      ap (λ k. sector_by_state p k (sector_bit p held (first + i)) (stored_sector p held (first + i))) (ap (state_at p held) (same_entry i h) ∙ six) ∙ by_state-full p (sector_bit p held (first + i)) (stored_sector p held (first + i))
+      ∙ ap Some (stored_is (inl six) (omega (arith, h)) i h) ∙ ap (λ k. Some (bytes_at file (k + z * i) z)) (sym e)
+
   pub full_owned : (place at : ℕ) (m n a b : List ℕ) → state_at p held (entry_of p first) ≡ 6 → place ≡ start → HasOwned (run_layer true file place z) z 0 count at m n a b → HasOwned layer z first count at m n a b
   full_owned place at m n a b six e =
-      owned_alike layer (run_layer true file place z) z first 0 count at m n a b
-      (λ i h.
-      ap (λ k. sector_by_state p k (sector_bit p held (first + i)) (stored_sector p held (first + i))) (ap (state_at p held) (same_entry i h) ∙ six) ∙ by_state-full p (sector_bit p held (first + i)) (stored_sector p held (first + i))
-      ∙ ap Some (stored_is (inl six) (omega (arith, h)) i h) ∙ ap (λ k. Some (bytes_at file (k + z * i) z)) (sym e) ∙ ap (λ j. Some (bytes_at file (place + z * j) z)) (sym (from_zero i)))
+      owned_alike layer (run_layer true file place z) z first 0 count at m n a b (λ i h. full_is place six e i h ∙ ap (λ j. Some (bytes_at file (place + z * j) z)) (sym (from_zero i)))
 
   -- one that isn't there, of a child
-  pub absent_owned : (place at : ℕ) (m n a b : List ℕ) → state_at p held (entry_of p first) ≡ 0 → parts.parent ≡ true → HasOwned (run_layer false file place z) z 0 count at m n a b → HasOwned layer z first count at m n a b
-  absent_owned place at m n a b none parent =
-      owned_alike layer (run_layer false file place z) z first 0 count at m n a b
-      (λ i h.
+  pub absent_is : state_at p held (entry_of p first) ≡ 0 → parts.parent ≡ true → (i : ℕ) → i < count → layer (first + i) ≡ None
+  absent_is none parent i h =
       ap (λ k. sector_by_state p k (sector_bit p held (first + i)) (stored_sector p held (first + i))) (ap (state_at p held) (same_entry i h) ∙ none)
-      ∙ by_state-absent p (sector_bit p held (first + i)) (stored_sector p held (first + i)) parent)
+      ∙ by_state-absent p (sector_bit p held (first + i)) (stored_sector p held (first + i)) parent
+
+  pub absent_owned : (place at : ℕ) (m n a b : List ℕ) → state_at p held (entry_of p first) ≡ 0 → parts.parent ≡ true → HasOwned (run_layer false file place z) z 0 count at m n a b → HasOwned layer z first count at m n a b
+  absent_owned place at m n a b none parent = owned_alike layer (run_layer false file place z) z first 0 count at m n a b (λ i h. absent_is none parent i h)
 
   -- one that is zeros
+  module _ (good : HasGoodStates p held) (some : 0 < count) (six : state_at p held (entry_of p first) ≢ 6) (seven : state_at p held (entry_of p first) ≡ 7 → parts.parent ≡ false)
+      (none : state_at p held (entry_of p first) ≡ 0 → parts.parent ≡ false) where
+    payload_entry : IsPayloadEntry p (entry_of p first)
+    payload_entry = (sector_entries p (record { sector = sizes.sector; block = sizes.block })).payload first (omega (arith, on_disk, some))
+
+    seven_bad : state_at p held (entry_of p first) ≢ 7
+    seven_bad e = good (entry_of p first) (inl (payload_entry, inr (inr (e, seven e))))
+
+    four_bad : state_at p held (entry_of p first) ≢ 4
+    four_bad e = good (entry_of p first) (inl (payload_entry, inl e))
+
+    five_bad : state_at p held (entry_of p first) ≢ 5
+    five_bad e = good (entry_of p first) (inl (payload_entry, inr (inl e)))
+
+    by_state : (bit : ℕ) (bytes : List ℕ) → sector_by_state p (state_at p held (entry_of p first)) bit bytes ≡ Some (zeros z)
+    by_state bit bytes = by_zero (cases_eq (state_at p held (entry_of p first)) 0)
+      where
+        by_zero : (state_at p held (entry_of p first) ≡ 0) ⊎ (state_at p held (entry_of p first) ≢ 0) → sector_by_state p (state_at p held (entry_of p first)) bit bytes ≡ Some (zeros z)
+        by_zero (inl e) = ap (λ k. sector_by_state p k bit bytes) e ∙ by_state-base p bit bytes (none e)
+        by_zero (inr e) =
+            by_state-zeros p (state_at p held (entry_of p first)) bit bytes (omega (arith, e)) (let below : state_at p held (entry_of p first) < 8 = omega arith in omega (arith, below, six, seven_bad, four_bad, five_bad))
+
+    pub zeros_are : (i : ℕ) → i < count → layer (first + i) ≡ Some (zeros z)
+    zeros_are i h = ap (λ k. sector_by_state p k (sector_bit p held (first + i)) (stored_sector p held (first + i))) (ap (state_at p held) (same_entry i h)) ∙ by_state (sector_bit p held (first + i)) (stored_sector p held (first + i))
+
   pub zeros_owned : (at : ℕ) (m n a b : List ℕ) → HasGoodStates p held → 0 < count → (state_at p held (entry_of p first) ≢ 6) → (state_at p held (entry_of p first) ≡ 7 → parts.parent ≡ false)
       → (state_at p held (entry_of p first) ≡ 0 → parts.parent ≡ false) → HasRunSet m n at count true → at + count ≤ 8 * length m → length n ≡ length m → length b ≡ length a → b ≡ zeros (z * count)
       → HasOwned layer z first count at m n a b
   zeros_owned at m n a b good some six seven none set inside long len is =
       owned_set layer z first count at m n a b set inside long len
-      (λ i h.
-      ap (λ k. sector_by_state p k (sector_bit p held (first + i)) (stored_sector p held (first + i))) (ap (state_at p held) (same_entry i h)) ∙ by_state (sector_bit p held (first + i)) (stored_sector p held (first + i))
-      ∙ ap Some (sym (ap (λ x. bytes_at x (z * i) z) is ∙ zeros_within (z * count) (z * i) z (room z i count h))))
-    where
-      s : ℕ
-      s = state_at p held (entry_of p first)
-
-      payload_entry : IsPayloadEntry p (entry_of p first)
-      payload_entry = (sector_entries p (record { sector = sizes.sector; block = sizes.block })).payload first (omega (arith, on_disk, some))
-
-      seven_bad : s ≢ 7
-      seven_bad e = good (entry_of p first) (inl (payload_entry, inr (inr (e, seven e))))
-
-      four_bad : s ≢ 4
-      four_bad e = good (entry_of p first) (inl (payload_entry, inl e))
-
-      five_bad : s ≢ 5
-      five_bad e = good (entry_of p first) (inl (payload_entry, inr (inl e)))
-
-      by_state : (bit : ℕ) (bytes : List ℕ) → sector_by_state p s bit bytes ≡ Some (zeros z)
-      by_state bit bytes = by_zero (cases_eq s 0)
-        where
-          by_zero : (s ≡ 0) ⊎ (s ≢ 0) → sector_by_state p s bit bytes ≡ Some (zeros z)
-          by_zero (inl e) = ap (λ k. sector_by_state p k bit bytes) e ∙ by_state-base p bit bytes (none e)
-          by_zero (inr e) = by_state-zeros p s bit bytes (omega (arith, e)) (let below : s < 8 = omega arith in omega (arith, below, six, seven_bad, four_bad, five_bad))
+      (λ i h. zeros_are good some six seven none i h ∙ ap Some (sym (ap (λ x. bytes_at x (z * i) z) is ∙ zeros_within (z * count) (z * i) z (room z i count h))))
 
   -- one of which some sectors are there
   module _ (place : ℕ) (part : IsPartAt p held first count place) (some : 0 < count) where
     pub part_within : place + z * count ≤ length file
     part_within = let w = run_within (inr part.seven) some in let e = part.place_is in omega (arith, w, e)
 
-    part_sector : (i : ℕ) → i < count → layer (first + i) ≡ (if sector_bit p held (first + i) == 1 then Some (bytes_at file (place + z * i) z) else None)
+    pub part_sector : (i : ℕ) → i < count → layer (first + i) ≡ (if sector_bit p held (first + i) == 1 then Some (bytes_at file (place + z * i) z) else None)
     unfolding sector_by_state
     part_sector i h =
         ap (λ k. sector_by_state p k (sector_bit p held (first + i)) (stored_sector p held (first + i))) (ap (state_at p held) (same_entry i h) ∙ part.seven)

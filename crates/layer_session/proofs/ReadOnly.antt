@@ -89,6 +89,7 @@ module _ (parts : Parts) (file : ℕ) (tables_of : TableParts) (l : ReadLayer) (
     number = number_is;
     sector = ap (λ (p : Shape). p.sector) shape_is;
     sectors = ap (λ (p : Shape). p.sectors) shape_is;
+    fresh = record { shape = shape_is; region = ap (λ (p : TableParts). p.bat_len) new.parts_are ∙ region; new = subst (λ (p : TableParts). IsNew p l.tables) (sym new.parts_are) new };
     reads = reads_file;
   }
 

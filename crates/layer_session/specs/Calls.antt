@@ -18,6 +18,7 @@ use Rattle.layer_session.specs.declared.file.Layer.{Layer}
 use Rattle.layer_session.specs.declared.file.LayerFault.{LayerFault}
 use Rattle.layer_session.specs.declared.file.LayerFault.TheVariants.{Read, Write, FileFull}
 use Rattle.layer_session.specs.Keeping.{IsHeld, IsReadable, IsReady, Serves}
+use Rattle.layer_session.specs.Unnamed.{NamesNoLog}
 
 -- the number of a layer's file in the store
 abbrev pub own_file : Layer → ℕ
@@ -114,9 +115,10 @@ pub record HoldsRest (old_l new_l : Layer) (first count : ℕ) (old new : Trace)
 pub record HasCommitted (old_l new_l : Layer) (old new : Trace) : Type 0 where
   pub serves : (file : Placed) → Serves old_l old file → Serves new_l new (settled file)
 
--- A session has ended: the file is synced, and nothing of it loose.
+-- A session has ended: the file is synced and names no log, and nothing of it is loose.
 pub record HasEnded (l : Layer) (old new : Trace) : Type 0 where
   pub synced : (file : Placed) → Serves l old file → is_synced (file_of new file.number) ≡ true
+  pub no_log : (file : Placed) → Serves l old file → NamesNoLog (seen (file_of new file.number))
   pub kept : (file : Placed) → Serves l old file → IsKept new (settled file)
 
 -- ---- causes

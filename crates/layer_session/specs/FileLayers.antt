@@ -5,7 +5,7 @@ use Rattle.vx_base.specs.declared.parts.Geometry.{Geometry}
 use Rattle.vx_base.specs.declared.parts.Header.{Header}
 use Rattle.vx_base.specs.declared.parts.Parts.{Parts}
 use Rattle.store_model.specs.Disk.{Disk, WhereBothTold}
-use Rattle.store_model.specs.File.{is_synced}
+use Rattle.store_model.specs.File.{is_synced, seen}
 use Rattle.store_model.specs.Trace.{Trace, file_of}
 use Rattle.table_pages.specs.declared.tables.TableParts.{TableParts}
 use Rattle.chain_model.specs.Images.{Placed, members_of}
@@ -17,6 +17,7 @@ use Rattle.vhdx_format.specs.declared.log_entry.Page.{Page}
 use Rattle.layer_session.specs.Calls.{IsBeside, KeepsOver, PutsInto, own_bytes, own_file, settled}
 use Rattle.layer_session.specs.Keeping.{IsHeld, IsReadable, IsReady, Serves}
 use Rattle.layer_session.specs.ReadOnly.{CanRead, IsRead}
+use Rattle.layer_session.specs.Unnamed.{NamesNoLog}
 use Rattle.layer_session.specs.Updating.{TurnsInto, turned}
 use Rattle.layer_session.specs.declared.file.Layer.{Layer}
 use Rattle.layer_session.specs.declared.file_layer.FileLayer.{FileLayer}
@@ -99,9 +100,10 @@ pub record FileHasCommitted (old_l new_l : FileLayer) (old new : Trace) : Type 0
 pub record FileHoldsStill (old_l new_l : FileLayer) (old new : Trace) : Type 0 where
   pub holds : (file : Placed) → HasFile old_l old file → Holds new_l new file.member.layer
 
--- The session of a file has ended: the file is synced, and nothing of it loose.
+-- The session of a file has ended: the file is synced and names no log, and nothing of it is loose.
 pub record FileHasEnded (l : FileLayer) (old new : Trace) : Type 0 where
   pub synced : (file : Placed) → HasFile l old file → HasSession l → is_synced (file_of new file.number) ≡ true
+  pub no_log : (file : Placed) → HasFile l old file → HasSession l → NamesNoLog (seen (file_of new file.number))
   pub kept : (file : Placed) → HasFile l old file → HasSession l → IsKept new (settled file)
 
 -- the pages turn the metadata of the file that the layer has

@@ -13,6 +13,7 @@ pub mod Bringing
 pub mod Taking
 pub mod ReadOnly
 pub mod FileLayers
+pub mod Unnamed
 pub mod Updating
 pub mod Identifying
 pub mod Masked
@@ -22,3 +23,5 @@ pub mod ChunkBitmaps
 pub mod Runs
 pub mod ByLayers
 pub mod ByFiles
+pub mod Locating
+pub mod Found

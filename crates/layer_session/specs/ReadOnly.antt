@@ -7,7 +7,10 @@ use Rattle.store_model.specs.Disk.{Disk, ReadFailed, WhereBothTold, WhereTold}
 use Rattle.store_model.specs.File.{seen}
 use Rattle.store_model.specs.Trace.{Trace, file_of}
 use Rattle.store_model.specs.declared.fault.StoreFault.{StoreFault}
-use Rattle.table_pages.specs.Held.{HasTables}
+use Rattle.table_pages.specs.Held as tables
+use Rattle.table_pages.specs.Held.{HasTables, IsNew}
+use Rattle.table_pages.specs.declared.tables.Tables.{Tables}
+use Rattle.vhdx_format.specs.FileParts.{shape_of}
 use Rattle.chain_model.specs.Files.{HasParts, at_rest}
 use Rattle.chain_model.specs.Images.{Placed, name_of}
 use Rattle.chain_model.specs.Members.{ties_of}
@@ -32,12 +35,19 @@ pub record CanRead (l : ReadLayer) (disk : Disk) : Type 0 where
   pub sizes : HasTables l.tables.parts
   pub told : WhereTold disk.told (λ trace. (file : Placed) × IsRead l trace file)
 
+-- New tables, of the sizes that these numbers give.
+pub record IsFresh (parts : Parts) (t : Tables) : Type 0 where
+  pub shape : tables.shape_of t.parts ≡ shape_of parts
+  pub region : t.parts.bat_len ≡ parts.bat_len
+  pub new : IsNew t.parts t
+
 -- A new layer of a file of these numbers. Where the file is as opening leaves one with these numbers, it is read by it.
 pub record IsReadOf (parts : Parts) (file : ℕ) (l : ReadLayer) : Type 0 where
   pub sizes : HasTables l.tables.parts
   pub number : l.tables.parts.file ≡ file
   pub sector : l.tables.parts.sector ≡ parts.geometry.sector
   pub sectors : l.tables.parts.sectors ≡ parts.geometry.sectors
+  pub fresh : IsFresh parts l.tables
   pub reads : (trace : Trace) → file < length trace.attached → length (seen (file_of trace file)) ≤ 2 ^ 63
       → HasParts (at_rest (seen (file_of trace file))) (seen (file_of trace file)) parts → IsRead l trace (as_read trace file (seen (file_of trace file)) parts)
 

@@ -1,6 +1,6 @@
 //! A file in a session, as the layer that it is in a chain.
 
-ghost use Rattle.std.specs.Prelude.{◌≡◌, ◌+◌, ◌-◌, ◌*◌, ◌/◌, ◌^◌, ◌<◌, ◌≤◌, ◌↔◌, [], length, All, IsTrue, IfOk, IfErr, OnOk, OnErr, Ok, Err};
+ghost use Rattle.std.specs.Prelude.{◌≡◌, ◌+◌, ◌-◌, ◌*◌, ◌/◌, ◌^◌, ◌<◌, ◌≤◌, ◌↔◌, [], None, length, All, IsTrue, IfOk, IfErr, OnOk, OnErr, Ok, Err};
 ghost use Rattle.store_model.specs.Disk.{ReadFailed, WhereTold, WhereBothTold};
 ghost use Rattle.store_model.specs.Plans.{FailsToChange};
 ghost use Rattle.vx_base.specs.Fields.{zeros};
@@ -16,9 +16,11 @@ ghost use Rattle.layer_session.specs.Begins.{BeginsOver, CanServe, HasBegun, IsO
 ghost use Rattle.layer_session.specs.Steps.{StandFrom};
 ghost use Rattle.layer_session.specs.Taking.{IsBroken, KeepsEntries};
 ghost use Rattle.layer_session.specs.Closes.{HasClosed};
+ghost use Rattle.layer_session.specs.Found.{KeepsFound};
 ghost use Rattle.layer_session.specs.ReadOnly.{CanRead};
 ghost use Rattle.layer_session.specs.ByLayers.{AddsHeld, HasWritten, MayCommit, ReadsOn, TellsAllSame};
 
+use crate::plain::write_plainly;
 use crate::planning::{Plan, Step};
 use crate::read_layer::ReadLayer;
 use crate::reading::own_missing;
@@ -168,6 +170,7 @@ impl Layer {
         requires mask { at + count ≤ 8 * length mask.old }
         requires ends { at + count < 2 ^ 64 }
         ensures owned { OnOk result (AddsHeld self.old (S.disk store.old) first count at mask.old mask.new out.old out.new) }
+        ensures found { KeepsFound mask.old mask.new }
         ensures same { IsSame self.old self.new (S.disk store.old) }
         ensures stays { OnOk result (S.disk store.new ≡ S.disk store.old) }
         ensures err { IfErr result (ReadFailed self.old.tables.parts.file (S.disk store.old) (S.disk store.new)) }
@@ -197,11 +200,26 @@ impl Layer {
         ensures err { IfErr result (FailsToChange self.old.tables.parts.file (S.disk store.old) (S.disk store.new)) }
     {
         if !self.can_commit() {
-            self.tables.pending.clear();
-            return Ok(());
+            return self.commit_plainly(store);
         }
         self.log.commit(store, &mut self.tables.pending)?;
         self.space.committed();
+        Ok(())
+    }
+
+    // The same over a store that tells nothing, where a changed page lies where the log may not write.
+    fn commit_plainly<S: Store>(&mut self, store: &mut S) -> Result<(), StoreFault>
+        requires there { self.old.tables.parts.file < (S.disk store.old).files }
+        requires untold { (S.disk store.old).told ≡ None }
+        ensures only { self.new ≡ record (self.old) { tables = self.new.tables } }
+        ensures parts { self.new.tables.parts ≡ self.old.tables.parts }
+        ensures written { OnOk result (self.new ≡ record (self.old) { tables = record (self.old.tables) { pending = [] } }) }
+        ensures done { OnOk result (S.disk store.new ≡ S.disk store.old) }
+        ensures untold { (S.disk store.new).told ≡ None }
+        ensures err { IfErr result (FailsToChange self.old.tables.parts.file (S.disk store.old) (S.disk store.new)) }
+    {
+        write_plainly(store, self.tables.parts.file, self.tables.pending.pages())?;
+        self.tables.pending.clear();
         Ok(())
     }
 

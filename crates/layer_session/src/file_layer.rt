@@ -7,6 +7,7 @@ ghost use Rattle.log_format.specs.PendingPages.{HasOnePageEach};
 ghost use Rattle.layer_session.specs.ReadOnly.{SomeReadFailed};
 ghost use Rattle.layer_session.specs.FileLayers.{AreReadableFiles, AreSameFiles, FileCanBeRead, FileIsReady, FileLayersStand, HaveSameNumbers, IsSameFile, OthersStand, file_numbers, log_header, log_number, number_of, table_parts};
 ghost use Rattle.layer_session.specs.FileLayers.{FileHasCommitted, FileHasEnded, FileHasUpdated, FileHoldsStill, FileKeepsOver, FileTurns, FileUpdatesOver, HasSession, IsNumbered, WaitsForNone};
+ghost use Rattle.layer_session.specs.Found.{KeepsFound};
 ghost use Rattle.layer_session.specs.ByFiles.{AddHad, AddHeld, AddsHad, AddsHeld};
 
 use crate::file::Layer;
@@ -53,6 +54,7 @@ impl FileLayer {
         requires mask { at + count ≤ 8 * length mask.old }
         requires ends { at + count < 2 ^ 64 }
         ensures held { OnOk result (AddsHeld self.old (S.disk store.old) first count at mask.old mask.new out.old out.new) }
+        ensures found { KeepsFound mask.old mask.new }
         ensures owned { OnOk result (AddsHad self.old (S.disk store.old) first count at mask.old mask.new out.old out.new) }
         ensures same { IsSameFile self.old self.new (S.disk store.old) }
         ensures stays { OnOk result (S.disk store.new ≡ S.disk store.old) }

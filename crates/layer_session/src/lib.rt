@@ -6,7 +6,9 @@ mod file_layer;
 mod geometry;
 mod identifying;
 mod laws;
+mod locating;
 mod masked;
+mod plain;
 mod planning;
 mod preparing;
 mod read_layer;
@@ -21,4 +23,5 @@ pub use laws::{
     commits_are_served, layers_are_added, layers_are_kept, layers_stand, pages_turn,
     places_are_taken, writes_are_served,
 };
+pub use locating::{Located, Whereabouts};
 pub use read_layer::{ReadLayer, own_through, read_layers_stand};

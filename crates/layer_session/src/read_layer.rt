@@ -4,8 +4,11 @@ ghost use Rattle.std.specs.Prelude.{◌≡◌, ◌+◌, ◌*◌, ◌^◌, ◌<�
 ghost use Rattle.store_model.specs.Disk.{ReadFailed};
 ghost use Rattle.vhdx_format.specs.FileParts.{HasNumbers};
 ghost use Rattle.layer_session.specs.ReadOnly.{AreReadable, AreSameRead, CanRead, HaveSameParts, IsReadOf, IsSameRead, ReadLayersStand, SomeReadFailed, numbers_of};
+ghost use Rattle.layer_session.specs.Found.{KeepsFound};
 ghost use Rattle.layer_session.specs.ByFiles.{AddRead, AddsRead};
+ghost use Rattle.layer_session.specs.Locating.{AreLocatedIn};
 
+use crate::locating::{Located, locate};
 use crate::reading::own_missing;
 use sector_bits::are_set;
 use std::alloc::Global;
@@ -47,11 +50,39 @@ impl ReadLayer {
         requires mask { at + count ≤ 8 * length mask.old }
         requires ends { at + count < 2 ^ 64 }
         ensures owned { OnOk result (AddsRead self.old (S.disk store.old) first count at mask.old mask.new out.old out.new) }
+        ensures found { KeepsFound mask.old mask.new }
         ensures same { IsSameRead self.old self.new (S.disk store.old) }
         ensures stays { OnOk result (S.disk store.new ≡ S.disk store.old) }
         ensures err { IfErr result (ReadFailed self.old.tables.parts.file (S.disk store.old) (S.disk store.new)) }
     {
         own_missing(&mut self.tables, store, first, count, out, mask, at)
+    }
+
+    /// Where the first of so many sectors is, and how many of those that follow it are there in the same way.
+    pub fn locate<S: Store>(
+        &mut self,
+        store: &mut S,
+        first: u64,
+        count: u64,
+    ) -> Result<Located, StoreFault>
+        requires readable { CanRead self.old (S.disk store.old) }
+        requires some { 0 < count }
+        requires on_disk { first + count ≤ self.old.tables.parts.sectors }
+        ensures some { IfOk result (λ found. 0 < found.count) }
+        ensures most { IfOk result (λ found. found.count ≤ count) }
+        ensures located { IfOk result (AreLocatedIn self.old (S.disk store.old) first) }
+        ensures same { IsSameRead self.old self.new (S.disk store.old) }
+        ensures stays { OnOk result (S.disk store.new ≡ S.disk store.old) }
+        ensures err { IfErr result (ReadFailed self.old.tables.parts.file (S.disk store.old) (S.disk store.new)) }
+    {
+        locate(&mut self.tables, store, first, count)
+    }
+
+    /// What it goes by: its file's number in the store, and its sizes.
+    pub fn parts(&self) -> TableParts
+        ensures { result ≡ self.now.tables.parts }
+    {
+        self.tables.parts
     }
 }
 

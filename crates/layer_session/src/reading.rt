@@ -10,6 +10,7 @@ ghost use Rattle.layer_session.specs.Keeping.{IsPartAt};
 ghost use Rattle.layer_session.specs.TablesRead.{HasRead};
 ghost use Rattle.layer_session.specs.Runs.{HaveOneBitmap, SectorsAreReadable, SectorsFit};
 ghost use Rattle.layer_session.specs.SectorRanges.{LieInBlock};
+ghost use Rattle.layer_session.specs.Found.{KeepsFound, KeepsOthers};
 ghost use Rattle.layer_session.specs.ByTables.{AddsOwnedBy, HasOwnedBy, HasOwnedMarked, HasOwnedRun, LieIn, WhereHeld};
 
 use crate::geometry::{entry_index, offset_in_block, place_in, run_in_block};
@@ -48,6 +49,7 @@ fn take_run<S: Store>(
     requires room { SectorsFit count parts.now.sector out.old mask.old at }
     requires inside { has ≡ true → LieIn parts.now (S.disk store.old) place count }
     ensures owned { OnOk result (HasOwnedRun parts.now (S.disk store.old) has place count at mask.old mask.new out.old out.new) }
+    ensures others { KeepsOthers at count mask.old mask.new }
     ensures stays { OnOk result (S.disk store.new ≡ S.disk store.old) }
     ensures err { IfErr result (ReadFailed parts.now.file (S.disk store.old) (S.disk store.new)) }
 {
@@ -79,6 +81,7 @@ fn own_marked<S: Store>(
     requires inside { LieIn parts.now (S.disk store.old) place count }
     requires small { WhereTold (S.disk store.old).told (λ trace. length (seen (file_of trace parts.now.file)) < 2 ^ 64) }
     ensures owned { OnOk result (HasOwnedMarked parts.now (S.disk store.old) bits.now skip place count at mask.old mask.new out.old out.new) }
+    ensures others { KeepsOthers at count mask.old mask.new }
     ensures stays { OnOk result (S.disk store.new ≡ S.disk store.old) }
     ensures err { IfErr result (ReadFailed parts.now.file (S.disk store.old) (S.disk store.new)) }
 {
@@ -117,6 +120,7 @@ pub fn own_missing<S: Store>(
     requires on_disk { first + count ≤ tables.old.parts.sectors }
     requires room { SectorsFit count tables.old.parts.sector out.old mask.old at }
     ensures added { OnOk result (AddsOwnedBy tables.old (S.disk store.old) first count at mask.old mask.new out.old out.new) }
+    ensures found { KeepsFound mask.old mask.new }
     ensures reads { HasRead tables.old tables.new (S.disk store.old) }
     ensures stays { OnOk result (S.disk store.new ≡ S.disk store.old) }
     ensures err { IfErr result (ReadFailed tables.old.parts.file (S.disk store.old) (S.disk store.new)) }
@@ -155,6 +159,7 @@ fn add_run<S: Store>(
     requires room { SectorsFit count tables.old.parts.sector out.old mask.old at }
     requires all { (i : ℕ) → at ≤ i → i < at + count → bit_of mask.old i ≡ bit_value found }
     ensures added { OnOk result (AddsOwnedBy tables.old (S.disk store.old) first count at mask.old mask.new out.old out.new) }
+    ensures found { KeepsFound mask.old mask.new }
     ensures reads { HasRead tables.old tables.new (S.disk store.old) }
     ensures stays { OnOk result (S.disk store.new ≡ S.disk store.old) }
     ensures err { IfErr result (ReadFailed tables.old.parts.file (S.disk store.old) (S.disk store.new)) }
@@ -180,6 +185,7 @@ fn own_all<S: Store>(
     requires on_disk { first + count ≤ tables.old.parts.sectors }
     requires room { SectorsFit count tables.old.parts.sector out.old mask.old at }
     ensures owned { OnOk result (HasOwnedBy tables.old (S.disk store.old) first count at mask.old mask.new out.old out.new) }
+    ensures others { KeepsOthers at count mask.old mask.new }
     ensures reads { HasRead tables.old tables.new (S.disk store.old) }
     ensures stays { OnOk result (S.disk store.new ≡ S.disk store.old) }
     ensures err { IfErr result (ReadFailed tables.old.parts.file (S.disk store.old) (S.disk store.new)) }
@@ -216,6 +222,7 @@ fn own_run<S: Store>(
     requires block { LieInBlock tables.old.parts first count }
     requires room { SectorsFit count tables.old.parts.sector out.old mask.old at }
     ensures owned { OnOk result (HasOwnedBy tables.old (S.disk store.old) first count at mask.old mask.new out.old out.new) }
+    ensures others { KeepsOthers at count mask.old mask.new }
     ensures reads { HasRead tables.old tables.new (S.disk store.old) }
     ensures stays { OnOk result (S.disk store.new ≡ S.disk store.old) }
     ensures err { IfErr result (ReadFailed tables.old.parts.file (S.disk store.old) (S.disk store.new)) }
@@ -254,6 +261,7 @@ fn own_part<S: Store>(
     requires part { 0 < count → WhereHeld tables.old (S.disk store.old) (λ p file. IsPartAt p file first count place) }
     requires room { SectorsFit count tables.old.parts.sector out.old mask.old at }
     ensures owned { OnOk result (HasOwnedBy tables.old (S.disk store.old) first count at mask.old mask.new out.old out.new) }
+    ensures others { KeepsOthers at count mask.old mask.new }
     ensures reads { HasRead tables.old tables.new (S.disk store.old) }
     ensures stays { OnOk result (S.disk store.new ≡ S.disk store.old) }
     ensures err { IfErr result (ReadFailed tables.old.parts.file (S.disk store.old) (S.disk store.new)) }
@@ -295,6 +303,7 @@ fn own_few<S: Store>(
     requires part { WhereHeld tables.old (S.disk store.old) (λ p file. IsPartAt p file first count place) }
     requires room { SectorsFit count tables.old.parts.sector out.old mask.old at }
     ensures owned { OnOk result (HasOwnedBy tables.old (S.disk store.old) first count at mask.old mask.new out.old out.new) }
+    ensures others { KeepsOthers at count mask.old mask.new }
     ensures reads { HasRead tables.old tables.new (S.disk store.old) }
     ensures stays { OnOk result (S.disk store.new ≡ S.disk store.old) }
     ensures err { IfErr result (ReadFailed tables.old.parts.file (S.disk store.old) (S.disk store.new)) }

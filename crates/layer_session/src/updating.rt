@@ -9,13 +9,13 @@ ghost use Rattle.layer_session.specs.Updating.{HasUpdated, Turns, UpdatesOver};
 ghost use Rattle.layer_session.specs.ByLayers.{MayCommit, ReadsOn};
 
 use crate::file::Layer;
+use crate::plain::write_plainly;
 use log_format::Page;
 use store_model::{Store, StoreFault};
 
 impl Layer {
     /// Commits pages that change the file's metadata, as one entry of its log: at each moment a crash leaves the file tied as
-    /// before, or anew. Nothing else waits for a commit. Does nothing where a page lies at a place that the log may not update;
-    /// where the store tells its content none does. After a fault the file is to be written no more; reads go on.
+    /// before, or anew. Nothing else waits for a commit. After a fault the file is to be written no more; reads go on.
     pub fn update<S: Store>(&mut self, store: &mut S, pages: &[Page]) -> Result<(), StoreFault>
         requires ready { IsReady self.old (S.disk store.old) }
         requires empty { self.old.tables.pending ≡ [] }
@@ -40,7 +40,7 @@ impl Layer {
         ensures err { IfErr result (FailsToChange self.old.tables.parts.file (S.disk store.old) (S.disk store.new)) }
     {
         if !self.can_take(pages) {
-            return Ok(());
+            return write_plainly(store, self.tables.parts.file, pages);
         }
         // Where a change fails, reads go on over these pages.
         self.tables.put_pages(pages);

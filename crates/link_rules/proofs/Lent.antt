@@ -12,7 +12,8 @@ use Rattle.store_model.specs.Folder.{Held, Hosted, HasFailed, RoseWhere, has_nam
 use Rattle.store_model.specs.Trace.{Trace, at_moment, file_of}
 use Rattle.store_model.specs.declared.fault.StoreFault.{StoreFault}
 use Rattle.file_open.specs.Causes.{Meaning, refuses, host_failed, store_failed, no_memory, meaning_of, AnswersBy, IfCause, cause_of, cause_in}
-use Rattle.file_open.specs.Effects.{CallFailed, of_read, of_change, HasOpened, IsOpened, KeepsFile, LeavesFile, LeavesOpened, OpensAlike, StaysSynced}
+use Rattle.file_open.specs.Effects.{CallFailed, of_read, of_change, HasOpened, IsOpened, KeepsFile, LeavesFile, LeavesOpened, OpensAlike, RanOut, StaysSynced}
+use Rattle.file_open.proofs.Settling.{both_map}
 use Rattle.file_open.specs.Opening.{Opens, FileMissing}
 use Rattle.file_open.specs.Opening as opening
 use Rattle.file_open.specs.declared.refusal.OpenRefusal.{OpenRefusal}
@@ -21,7 +22,7 @@ use Rattle.vhdx_format.specs.SettledFiles.{StandsFor}
 use Rattle.vx_base.specs.declared.parts.Parts.{Parts}
 use Rattle.std.specs.Result.{IsErrAnd}
 use Rattle.link_rules.specs.Chains.{OpensIn, missing, present, is_among}
-use Rattle.link_rules.specs.Effects.{HasReplayed, StoreStopped, IsKept, untouched, replayed, KeepsEach, LeavesBy, LeavesNamed, Replays, StaysIdle, Within}
+use Rattle.link_rules.specs.Effects.{HasReplayed, MemoryStopped, StoreFailed, StoreStopped, IsKept, untouched, replayed, KeepsEach, LeavesBy, LeavesNamed, Replays, StaysIdle, Within}
 use Rattle.link_rules.specs.Folders.{AllIdle, ReturnsHealthy, contents, Lends, LendsNone}
 use Rattle.store_model.specs.Folder.{KeepsStore, come_back, IsKept as IsComeBack}
 use Rattle.store_model.specs.Moments.{IsHealthy, LastReturnedCounts}
@@ -96,7 +97,7 @@ own leaf (held ∷ folder) = by_name (bytes_eq held.name leaf) refl (own leaf fo
       ∙ ap (λ rest. held ∷ rest) rest
 
 -- what was put in is what is there
-put_in : (leaf : List ℕ) (folder : List Held) (file : File) → has_name leaf folder ≡ true → file_named leaf (with_file leaf (Some file) folder) ≡ Some file
+pub put_in : (leaf : List ℕ) (folder : List Held) (file : File) → has_name leaf folder ≡ true → file_named leaf (with_file leaf (Some file) folder) ≡ Some file
 put_in leaf [] file there = absurd (true≢false (sym there))
 put_in leaf (held ∷ folder) file there = by_name (bytes_eq held.name leaf) refl (put_in leaf folder file) where
   by_name : (c : Bool) → bytes_eq held.name leaf ≡ c → (has_name leaf folder ≡ true → file_named leaf (with_file leaf (Some file) folder) ≡ Some file) → file_named leaf (with_file leaf (Some file) (held ∷ folder)) ≡ Some file
@@ -110,7 +111,7 @@ put_in leaf (held ∷ folder) file there = by_name (bytes_eq held.name leaf) ref
 -- the folder once the file is lent, and what the store tells when it is given back
 pub record IsLent (leaf : List ℕ) (folder lent : Option (List Held)) (told : Option Trace) : Type 0 where
   pub folder_is : lent ≡ option_map (without (leaf ∷ [])) folder
-  pub kept : WhereBothTold (KeepsFile 0) (option_map (attached_trace (leaf ∷ [])) folder) told
+  pub only : WhereBothTold (OnlyChanges 0) (option_map (attached_trace (leaf ∷ [])) folder) told
 
 -- the same files are attached
 pub attached_same : (old new : Trace) → OnlyChanges 0 old new → new.attached ≡ old.attached
@@ -122,36 +123,36 @@ unfolding IsAway
 are_away leaf None lent told is there t lent_is trace told_is = absurd (none-some t (sym is.folder_is ∙ lent_is))
 are_away leaf (Some folder) lent told is there t lent_is trace told_is =
     let t_is : with_file leaf None folder ≡ t = same_Some _ _ (sym is.folder_is ∙ lent_is) in
-    let kept : KeepsFile 0 (attached_trace (leaf ∷ []) folder) trace = subst (WhereBothTold (KeepsFile 0) (Some (attached_trace (leaf ∷ []) folder))) told_is is.kept in
-    subst (λ t. AreAway trace t) t_is (subst (All (λ f. (has_name f.name (with_file leaf None folder) ≡ true) × (file_named f.name (with_file leaf None folder) ≡ None))) (sym (attached_same _ _ kept.only)) at_first) where
+    let only : OnlyChanges 0 (attached_trace (leaf ∷ []) folder) trace = subst (WhereBothTold (OnlyChanges 0) (Some (attached_trace (leaf ∷ []) folder))) told_is is.only in
+    subst (λ t. AreAway trace t) t_is (subst (All (λ f. (has_name f.name (with_file leaf None folder) ≡ true) × (file_named f.name (with_file leaf None folder) ≡ None))) (sym (attached_same _ _ only)) at_first) where
       at_first : AreAway (attached_trace (leaf ∷ []) folder) (with_file leaf None folder)
       at_first zero d h = away leaf folder (there folder refl)
       at_first (suc k) d h = absurd (omega (arith, h))
 
 -- the folder that has it back
 pub record IsBack (leaf : List ℕ) (folder : List Held) (after : Option (List Held)) (trace : Trace) : Type 0 where
-  pub kept : KeepsFile 0 (attached_trace (leaf ∷ []) folder) trace
+  pub only : OnlyChanges 0 (attached_trace (leaf ∷ []) folder) trace
   pub after_is : after ≡ Some (with_file leaf (Some (file_of trace 0)) folder)
 
 pub back : (leaf : List ℕ) (folder lent after : Option (List Held)) (told : Option Trace) → IsLent leaf folder lent told → WhereTold told (λ trace. after ≡ option_map (given_back trace) lent)
     → (f : List Held) → folder ≡ Some f → (trace : Trace) × (told ≡ Some trace) × IsBack leaf f after trace
 back leaf None lent after told is back_is f folder_is = absurd (none-some f folder_is)
-back leaf (Some g) lent after None is back_is f folder_is = absurd is.kept
+back leaf (Some g) lent after None is back_is f folder_is = absurd is.only
 back leaf (Some g) lent after (Some trace) is back_is f folder_is =
     let same : g ≡ f = same_Some g f folder_is in (
       trace,
       refl,
       subst (λ x. IsBack leaf x after trace) same (record {
-        kept = is.kept;
+        only = is.only;
         after_is =
             back_is trace refl ∙ ap (option_map (given_back trace)) is.folder_is
-            ∙ ap (λ files. Some (back_from 0 files trace (with_file leaf None g))) (attached_same _ _ (is.kept).only)
+            ∙ ap (λ files. Some (back_from 0 files trace (with_file leaf None g))) (attached_same _ _ is.only)
             ∙ ap Some (twice leaf (Some (file_of trace 0)) None g);
       }),
     )
 
 -- a file that is missing has nothing to replay
-missing_file : (leaf : List ℕ) (folder : List Held) → has_name leaf folder ≡ false → file_named leaf folder ≡ None
+pub missing_file : (leaf : List ℕ) (folder : List Held) → has_name leaf folder ≡ false → file_named leaf folder ≡ None
 missing_file leaf [] none = refl
 missing_file leaf (held ∷ folder) none = by_name (bytes_eq held.name leaf) refl (missing_file leaf folder) where
   by_name : (c : Bool) → bytes_eq held.name leaf ≡ c → (has_name leaf folder ≡ false → file_named leaf folder ≡ None) → file_named leaf (held ∷ folder) ≡ None
@@ -159,11 +160,17 @@ missing_file leaf (held ∷ folder) none = by_name (bytes_eq held.name leaf) ref
   by_name false e rest = ap (λ c. cond c held.file (file_named leaf folder)) e ∙ rest (sym (ap (λ c. c || has_name leaf folder) e) ∙ none)
 
 -- what was lent
-pub lent_as : (leaf : List ℕ) (old new : Hosted) (lent : Disk) (told : Option Trace) → Lends leaf old new lent → WhereBothTold (KeepsFile 0) lent.told told → IsLent leaf old.folder new.folder told
-lent_as leaf old new lent told lends kept = record {
+pub lent_only : (leaf : List ℕ) (old new : Hosted) (lent : Disk) (told : Option Trace) → Lends leaf old new lent → WhereBothTold (OnlyChanges 0) lent.told told → IsLent leaf old.folder new.folder told
+lent_only leaf old new lent told lends only = record {
   folder_is = ap (λ h. h.folder) lends.host_is;
-  kept = subst (λ t. WhereBothTold (KeepsFile 0) t told) (ap (λ d. d.told) lends.disk_is) kept;
+  only = subst (λ t. WhereBothTold (OnlyChanges 0) t told) (ap (λ d. d.told) lends.disk_is) only;
 }
+
+pub only_kept : (old new : Option Trace) → WhereBothTold (KeepsFile 0) old new → WhereBothTold (OnlyChanges 0) old new
+only_kept old new kept = both_map (KeepsFile 0) (OnlyChanges 0) old new (λ a b is k. k.only) kept
+
+pub lent_as : (leaf : List ℕ) (old new : Hosted) (lent : Disk) (told : Option Trace) → Lends leaf old new lent → WhereBothTold (KeepsFile 0) lent.told told → IsLent leaf old.folder new.folder told
+lent_as leaf old new lent told lends kept = lent_only leaf old new lent told lends (only_kept lent.told told kept)
 
 unsealed_attached : (leaf : List ℕ) (folder : List Held) → is_sealed (file_of (attached_trace (leaf ∷ []) folder) 0) ≡ false
 unfolding file_of
@@ -241,12 +248,12 @@ put_there leaf name file (held ∷ folder) other = by_name (bytes_eq held.name l
       ap (λ c. file_named name (cond c (record held { file = file } ∷ folder) (held ∷ with_file leaf file folder))) e
       ∙ ap (λ r. cond (bytes_eq held.name name) held.file r) rest
 
-among_one : (leaf name : List ℕ) (b : Bool) → bytes_eq leaf name ≡ b → is_among name (leaf ∷ []) ≡ b
+pub among_one : (leaf name : List ℕ) (b : Bool) → bytes_eq leaf name ≡ b → is_among name (leaf ∷ []) ≡ b
 among_one leaf name true e = ap (λ c. c || false) e
 among_one leaf name false e = ap (λ c. c || false) e
 
 -- a file that is there is seen
-seen_there : (leaf : List ℕ) (folder : List Held) → AllIdle folder → has_name leaf folder ≡ true → contents folder leaf ≡ Some (seen_named leaf folder)
+pub seen_there : (leaf : List ℕ) (folder : List Held) → AllIdle folder → has_name leaf folder ≡ true → contents folder leaf ≡ Some (seen_named leaf folder)
 seen_there leaf folder idle h =
     let c = can_attach leaf folder idle h in
     ap (option_map seen) c.1 ∙ sym (ap (λ o. Some (unwrap_or (option_map seen o) [])) c.1)
@@ -323,7 +330,7 @@ unlent_leaves leaf old new no_memory idle same = record {
   quiet = ap (λ (h : Hosted). h.faults) same;
 }
 
-unlent_opens : (leaf : List ℕ) (old new : Hosted) (meaning : Meaning opening.Refusal) → LendsNone leaf old new meaning → WhereTold old.folder (λ f. IfCause (OpensIn (contents f) leaf) (cause_in meaning))
+pub unlent_opens : (leaf : List ℕ) (old new : Hosted) (meaning : Meaning opening.Refusal) → LendsNone leaf old new meaning → WhereTold old.folder (λ f. IfCause (OpensIn (contents f) leaf) (cause_in meaning))
 unlent_opens leaf old new (refuses refusal) (is, none, same) f told = subst (λ r. OpensIn (contents f) leaf (Err r)) (sym is) (missing (ap (option_map seen) (missing_file leaf f (none f told))))
 unlent_opens leaf old new (host_failed fault) h f told = tt
 unlent_opens leaf old new (store_failed fault) h f told = absurd h
@@ -333,8 +340,8 @@ pub unlent_answers : (leaf : List ℕ) (old new : Hosted) (result : Result Parts
 unlent_answers leaf old new (Ok parts) refusal is h f told = absurd is
 unlent_answers leaf old new (Err e) refusal is h f told = subst (λ e. IfCause (OpensIn (contents f) leaf) (cause_of e)) (sym is) (unlent_opens leaf old new (meaning_of refusal) h f told)
 
-pub unlent_left : (leaf : List ℕ) (old new : Hosted) (result : Result Parts OpenRefusal) (refusal : OpenRefusal) → IsErrAnd result (λ e. e ≡ refusal) → WhereTold old.folder AllIdle → LendsNone leaf old new (meaning_of refusal) → LeavesNamed leaf old new result
-unlent_left leaf old new (Ok parts) refusal is idle h = absurd is
+pub unlent_left : {A : Type 0} (leaf : List ℕ) (old new : Hosted) (result : Result A OpenRefusal) (refusal : OpenRefusal) → IsErrAnd result (λ e. e ≡ refusal) → WhereTold old.folder AllIdle → LendsNone leaf old new (meaning_of refusal) → LeavesNamed leaf old new result
+unlent_left leaf old new (Ok x) refusal is idle h = absurd is
 unlent_left leaf old new (Err e) refusal is idle h = subst (λ e. LeavesBy old new (meaning_of e)) (sym is) (unlent_leaves leaf old new (meaning_of refusal) idle h)
 
 opens_there : (folder : List Held) (leaf : List ℕ) (cause : Option opening.Refusal) → contents folder leaf ≡ Some (seen_named leaf folder) → IfCause (Opens (seen_named leaf folder)) cause → IfCause (OpensIn (contents folder) leaf) cause
@@ -367,23 +374,15 @@ none_failed old new fresh same (file, there, failed) =
 
 -- ---- a file that was lent, opened and given back
 
-module _ (leaf : List ℕ) (old mid new : Hosted) (lent disk : Disk) (lends : Lends leaf old mid lent) (kept : WhereBothTold (KeepsFile 0) lent.told disk.told) (idle : WhereTold old.folder AllIdle)
+module _ (leaf : List ℕ) (old mid new : Hosted) (lent disk : Disk) (lends : Lends leaf old mid lent) (only : WhereBothTold (OnlyChanges 0) lent.told disk.told) (idle : WhereTold old.folder AllIdle)
     (back_is : WhereTold disk.told (λ trace. new.folder ≡ option_map (given_back trace) mid.folder)) (untold_is : disk.told ≡ None → mid.folder ≡ None → new.folder ≡ None) (count : RoseWhere (HasFailed disk) mid.faults new.faults) (past_is : KeepsStore disk mid new) where
   is_lent : IsLent leaf old.folder mid.folder disk.told
-  is_lent = lent_as leaf old mid lent disk.told lends kept
+  is_lent = lent_only leaf old mid lent disk.told lends only
 
   faults : mid.faults ≡ old.faults
   faults = ap (λ (h : Hosted). h.faults) lends.host_is
 
-  lent_kept : Within KeepsEach old.folder new.folder
-  lent_kept f told =
-      let b = back leaf old.folder mid.folder new.folder disk.told is_lent back_is f told in (
-        with_file leaf (Some (file_of b.0 0)) f,
-        (b.2).after_is,
-        one_kept leaf f (file_of b.0 0) (idle f told) (lends.there f told) (subst (λ x. OpensAlike x (seen (file_of b.0 0))) (seen-attached leaf f) (b.2).kept.alike),
-      )
-
-  stays_synced : WhereBothTold (StaysSynced 0) lent.told disk.told → StaysIdle old.folder new.folder
+  pub stays_synced : WhereBothTold (StaysSynced 0) lent.told disk.told → StaysIdle old.folder new.folder
   stays_synced synced = idle_stays leaf old.folder mid.folder new.folder disk.told is_lent idle (synced_by leaf old mid lent disk lends synced) back_is
 
   -- the store that came back
@@ -410,20 +409,20 @@ module _ (leaf : List ℕ) (old mid new : Hosted) (lent disk : Disk) (lends : Le
       let rest : List Held = k.1 in
       last_one n file old new (come_back disk u rest) k.2 counted
 
-  lent_quiet : disk ≡ record lent { told = disk.told } → new.faults ≡ old.faults
+  pub lent_quiet : disk ≡ record lent { told = disk.told } → new.faults ≡ old.faults
   lent_quiet same = count.none (none_failed lent disk (fresh_of leaf old mid lent lends) same) ∙ faults
 
-  none_told : (before now : Option Trace) → WhereBothTold (KeepsFile 0) before now → before ≡ None → now ≡ None
+  none_told : (before now : Option Trace) → WhereBothTold (OnlyChanges 0) before now → before ≡ None → now ≡ None
   none_told None None h e = refl
   none_told None (Some t) h e = absurd h
   none_told (Some t) now h e = absurd (none-some t (sym e))
 
-  lent_untold : old.folder ≡ None → new.folder ≡ None
+  pub lent_untold : old.folder ≡ None → new.folder ≡ None
   lent_untold none =
-      untold_is (none_told lent.told disk.told kept (ap (λ (d : Disk). d.told) lends.disk_is ∙ ap (option_map (attached_trace (leaf ∷ []))) none))
+      untold_is (none_told lent.told disk.told only (ap (λ (d : Disk). d.told) lends.disk_is ∙ ap (option_map (attached_trace (leaf ∷ []))) none))
       (ap (λ (h : Hosted). h.folder) lends.host_is ∙ ap (option_map (without (leaf ∷ []))) none)
 
-  lent_replayed : HasOpened 0 lent disk → HasReplayed (leaf ∷ []) old new
+  pub lent_replayed : HasOpened 0 lent disk → HasReplayed (leaf ∷ []) old new
   lent_replayed h = record {
     files =
         λ f told.
@@ -441,34 +440,65 @@ module _ (leaf : List ℕ) (old mid new : Hosted) (lent disk : Disk) (lends : Le
     healthy = healthy_back h.counts;
   }
 
-  store_stopped : (fault : StoreFault) → CallFailed 0 lent disk fault → StoreStopped old new fault.count
-  store_stopped fault (of_read stays of_file c) =
+  pub store_fails : (fault : StoreFault) → CallFailed 0 lent disk fault → StoreFailed old new fault.count
+  store_fails fault (of_read stays of_file c) =
       let fresh = fresh_of leaf old mid lent lends in
       let risen : 1 ≤ disk.failed_reads 0 = omega (arith, c.rose.risen, fresh.reads 0) in
       let files : disk.files ≡ 1 = ap (λ (d : Disk). d.files) stays ∙ fresh.files in
       record {
-        files = lent_kept;
         rose = subst (λ n. Rose n new.faults) faults (count.some (0, omega (arith, files), λ e. omega (arith, e, risen)));
         some = omega (arith, c.told, risen);
         last = last_back fault.count 0 (inl c.told);
       }
-  store_stopped fault (of_change stays of_file c) =
+  store_fails fault (of_change stays of_file c) =
       let fresh = fresh_of leaf old mid lent lends in
       let risen : 1 ≤ disk.failed_changes 0 = omega (arith, c.rose.risen, fresh.changes 0) in
       let files : disk.files ≡ 1 = ap (λ (d : Disk). d.files) stays ∙ fresh.files in
       record {
-        files = lent_kept;
         rose = subst (λ n. Rose n new.faults) faults (count.some (0, omega (arith, files), λ e. omega (arith, e, risen)));
         some = omega (arith, c.told, risen);
         last = last_back fault.count 0 (inr c.told);
       }
 
+module _ (leaf : List ℕ) (old mid new : Hosted) (lent disk : Disk) (lends : Lends leaf old mid lent) (kept : WhereBothTold (KeepsFile 0) lent.told disk.told) (idle : WhereTold old.folder AllIdle)
+    (back_is : WhereTold disk.told (λ trace. new.folder ≡ option_map (given_back trace) mid.folder)) (untold_is : disk.told ≡ None → mid.folder ≡ None → new.folder ≡ None) (count : RoseWhere (HasFailed disk) mid.faults new.faults) (past_is : KeepsStore disk mid new) where
+  only_it : WhereBothTold (OnlyChanges 0) lent.told disk.told
+  only_it = only_kept lent.told disk.told kept
+
+  kept_at : (f : List Held) (u : Trace) → old.folder ≡ Some f → disk.told ≡ Some u → KeepsFile 0 (attached_trace (leaf ∷ []) f) u
+  kept_at f u told is =
+      let before : lent.told ≡ Some (attached_trace (leaf ∷ []) f) = ap (λ (d : Disk). d.told) lends.disk_is ∙ ap (option_map (attached_trace (leaf ∷ []))) told in
+      subst (λ x. WhereBothTold (KeepsFile 0) x (Some u)) before (subst (WhereBothTold (KeepsFile 0) lent.told) is kept)
+
+  lent_kept : Within KeepsEach old.folder new.folder
+  lent_kept f told =
+      let b = back leaf old.folder mid.folder new.folder disk.told (lent_as leaf old mid lent disk.told lends kept) back_is f told in (
+        with_file leaf (Some (file_of b.0 0)) f,
+        (b.2).after_is,
+        one_kept leaf f (file_of b.0 0) (idle f told) (lends.there f told) (subst (λ x. OpensAlike x (seen (file_of b.0 0))) (seen-attached leaf f) (kept_at f b.0 told b.1).alike),
+      )
+
+  replayed_by : HasOpened 0 lent disk → HasReplayed (leaf ∷ []) old new
+  replayed_by = lent_replayed leaf old mid new lent disk lends only_it idle back_is untold_is count past_is
+
+  pub store_stopped : (fault : StoreFault) → CallFailed 0 lent disk fault → StoreStopped old new fault.count
+  store_stopped fault h =
+      let failed = store_fails leaf old mid new lent disk lends only_it idle back_is untold_is count past_is fault h in
+      record { files = lent_kept; rose = failed.rose; some = failed.some; last = failed.last }
+
+  pub memory_stopped : RanOut 0 lent disk → MemoryStopped old new
+  memory_stopped h = record {
+    files = lent_kept;
+    idle = stays_synced leaf old mid new lent disk lends only_it idle back_is untold_is count past_is h.told;
+    quiet = lent_quiet leaf old mid new lent disk lends only_it idle back_is untold_is count past_is h.counts;
+  }
+
   by_meaning : (meaning : Meaning opening.Refusal) → LeavesOpened 0 lent disk meaning → LeavesBy old new meaning
-  by_meaning (refuses refusal) h = record { opened = leaf ∷ []; has = lent_replayed h }
+  by_meaning (refuses refusal) h = record { opened = leaf ∷ []; has = replayed_by h }
   by_meaning (host_failed fault) h = absurd h
   by_meaning (store_failed fault) h = store_stopped fault h
-  by_meaning no_memory h = record { files = lent_kept; idle = stays_synced h.told; quiet = lent_quiet h.counts }
+  by_meaning no_memory h = memory_stopped h
 
-  pub lent_left : (result : Result Parts OpenRefusal) → LeavesFile 0 lent disk result → LeavesNamed leaf old new result
-  lent_left (Ok parts) h = lent_replayed h
+  pub lent_left : {A : Type 0} (result : Result A OpenRefusal) → LeavesFile 0 lent disk result → LeavesNamed leaf old new result
+  lent_left (Ok x) h = replayed_by h
   lent_left (Err refusal) h = by_meaning (meaning_of refusal) h

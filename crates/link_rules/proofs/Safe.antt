@@ -11,7 +11,7 @@ use Rattle.store_model.specs.Trace.{ChangesOnly, Trace, at_moment, file_of, mome
 use Rattle.store_model.proofs.Spans.{at_moment-now}
 use Rattle.store_model.proofs.Throughout.{attached-at_moment, throughout_back, throughout_join, throughout_still, throughout_weaken}
 use Rattle.file_open.specs.Causes.{Meaning, refuses, host_failed, store_failed, no_memory}
-use Rattle.file_open.specs.Effects.{IsLongEnough, KeepsFile, KeepsMoments, OpensAlike}
+use Rattle.file_open.specs.Effects.{IsLongEnough, KeepsFile, KeepsMoments, OpensAlike, StaysLike}
 use Rattle.file_open.specs.Opening as opening
 use Rattle.link_rules.specs.Folders.{AllIdle, Lends, LendsNone}
 use Rattle.link_rules.specs.Touches.{AreSafe, IsSafeFile, TouchesSafely, touched, untouched}
@@ -59,11 +59,11 @@ module _ (P Q R : List ℕ → Type 0) (first : (name : List ℕ) → P name →
 -- ---- one file that is put in
 
 one_safe : (leaf : List ℕ) (folder : List Held) (file : File) → AllIdle folder → has_name leaf folder ≡ true
-    → (IsLongEnough (seen_named leaf folder) → (image : List ℕ) → IsFileImage file image → OpensAlike (seen_named leaf folder) image) → AreSafe (λ name. name ≡ leaf) folder (with_file leaf (Some file) folder)
+    → (IsLongEnough (seen_named leaf folder) → (image : List ℕ) → IsFileImage file image → StaysLike OpensAlike (seen_named leaf folder) image) → AreSafe (λ name. name ≡ leaf) folder (with_file leaf (Some file) folder)
 one_safe leaf [] file idle there images = tt
 one_safe leaf (held ∷ folder) file idle there images = by_name (bytes_eq held.name leaf) refl (one_safe leaf folder file (rest_idle held folder idle)) where
   Images : List ℕ → Type 0
-  Images bytes = IsLongEnough bytes → (image : List ℕ) → IsFileImage file image → OpensAlike bytes image
+  Images bytes = IsLongEnough bytes → (image : List ℕ) → IsFileImage file image → StaysLike OpensAlike bytes image
 
   by_name : (b : Bool) → bytes_eq held.name leaf ≡ b → (has_name leaf folder ≡ true → Images (seen_named leaf folder) → AreSafe (λ name. name ≡ leaf) folder (with_file leaf (Some file) folder))
       → AreSafe (λ name. name ≡ leaf) (held ∷ folder) (with_file leaf (Some file) (held ∷ folder))
@@ -81,13 +81,13 @@ one_safe leaf (held ∷ folder) file idle there images = by_name (bytes_eq held.
 -- ---- a file that is lent, opened and given back
 
 safe_at : (leaf : List ℕ) (folder : List Held) (u : Trace) → AllIdle folder → has_name leaf folder ≡ true
-    → (IsLongEnough (seen_named leaf folder) → ChangesOnly 0 (OpensAlike (seen_named leaf folder)) (attached_trace (leaf ∷ []) folder) u)
+    → (IsLongEnough (seen_named leaf folder) → ChangesOnly 0 (StaysLike OpensAlike (seen_named leaf folder)) (attached_trace (leaf ∷ []) folder) u)
     → (k : ℕ) → k ≤ moment u → AreSafe (λ name. name ≡ leaf) folder (with_file leaf (Some (file_of (at_moment k u) 0)) folder)
 unfolding moment
 safe_at leaf folder u idle there changes k within =
     one_safe leaf folder (file_of (at_moment k u) 0) idle there (λ long image is. ((changes long).each k (omega arith) within).images image is)
 
-back_at : (leaf : List ℕ) (folder : List Held) (u : Trace) → u.attached ≡ (attached_trace (leaf ∷ []) folder).attached → (k : ℕ) (disk : Disk)
+pub back_at : (leaf : List ℕ) (folder : List Held) (u : Trace) → u.attached ≡ (attached_trace (leaf ∷ []) folder).attached → (k : ℕ) (disk : Disk)
     → folder_at k (come_back disk u (with_file leaf None folder)) ≡ with_file leaf (Some (file_of (at_moment k u) 0)) folder
 back_at leaf folder u same k disk =
     ap (λ files. back_from 0 files (at_moment k u) (with_file leaf None folder)) (attached-at_moment k u ∙ same) ∙ twice leaf (Some (file_of (at_moment k u) 0)) None folder
@@ -104,22 +104,22 @@ opened_safely leaf old mid now lent disk idle lends kept images back_is past_is 
     let lent_told : lent.told ≡ Some (attached_trace (leaf ∷ []) f) = ap (λ (d : Disk). d.told) lends.disk_is ∙ ap (option_map (attached_trace (leaf ∷ []))) told in
     let mid_folder : mid.folder ≡ Some rest = ap (λ (h : Hosted). h.folder) lends.host_is ∙ ap (option_map (without (leaf ∷ []))) told in
     let mid_past : mid.past ≡ old.past = ap (λ (h : Hosted). h.past) lends.host_is in
-    let same = attached_same _ _ ((b.2).kept).only in
-    let changes : IsLongEnough (seen_named leaf f) → ChangesOnly 0 (OpensAlike (seen_named leaf f)) (attached_trace (leaf ∷ []) f) u = by_both f u lent_told b.1 in
+    let same = attached_same _ _ (b.2).only in
+    let changes : IsLongEnough (seen_named leaf f) → ChangesOnly 0 (StaysLike OpensAlike (seen_named leaf f)) (attached_trace (leaf ∷ []) f) u = by_both f u lent_told b.1 in
     let came : Returned = come_back disk u rest in
     throughout_back (AreSafe (λ name. name ≡ leaf) f) old now came (subst (λ p. IsKept came p now.past) mid_past (past_is u b.1 rest mid_folder))
     (λ k within. subst (AreSafe (λ name. name ≡ leaf) f) (sym (back_at leaf f u same k disk)) (safe_at leaf f u (idle f told) there changes k within))
     (λ g is.
     subst (AreSafe (λ name. name ≡ leaf) f) (ap (λ t. with_file leaf (Some (file_of t 0)) f) (at_moment-now u) ∙ same_Some _ _ (sym (b.2).after_is ∙ is))
     (safe_at leaf f u (idle f told) there changes (moment u) (omega arith))) where
-      by_both : (f : List Held) (u : Trace) → lent.told ≡ Some (attached_trace (leaf ∷ []) f) → disk.told ≡ Some u → IsLongEnough (seen_named leaf f) → ChangesOnly 0 (OpensAlike (seen_named leaf f)) (attached_trace (leaf ∷ []) f) u
+      by_both : (f : List Held) (u : Trace) → lent.told ≡ Some (attached_trace (leaf ∷ []) f) → disk.told ≡ Some u → IsLongEnough (seen_named leaf f) → ChangesOnly 0 (StaysLike OpensAlike (seen_named leaf f)) (attached_trace (leaf ∷ []) f) u
       by_both f u lent_told disk_told long =
           let first = attached_trace (leaf ∷ []) f in
           let all = images first lent_told (synced_attached leaf f) (subst IsLongEnough (sym (seen-attached leaf f)) long) in
-          let both : ChangesOnly 0 (OpensAlike (seen (file_of first 0))) first u =
-          subst (λ o. WhereBothTold (ChangesOnly 0 (OpensAlike (seen (file_of first 0)))) o (Some u)) lent_told
-          (subst (λ o. WhereBothTold (ChangesOnly 0 (OpensAlike (seen (file_of first 0)))) lent.told o) disk_told all) in
-          subst (λ bytes. ChangesOnly 0 (OpensAlike bytes) first u) (seen-attached leaf f) both
+          let both : ChangesOnly 0 (StaysLike OpensAlike (seen (file_of first 0))) first u =
+          subst (λ o. WhereBothTold (ChangesOnly 0 (StaysLike OpensAlike (seen (file_of first 0)))) o (Some u)) lent_told
+          (subst (λ o. WhereBothTold (ChangesOnly 0 (StaysLike OpensAlike (seen (file_of first 0)))) lent.told o) disk_told all) in
+          subst (λ bytes. ChangesOnly 0 (StaysLike OpensAlike bytes) first u) (seen-attached leaf f) both
 
 -- ---- one that isn't
 

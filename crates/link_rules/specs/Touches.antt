@@ -4,7 +4,7 @@ use Rattle.store_model.specs.Disk.{WhereTold}
 use Rattle.store_model.specs.File.{File, IsFileImage, seen}
 use Rattle.store_model.specs.Folder.{Held, Hosted}
 use Rattle.store_model.specs.Moments.{Throughout}
-use Rattle.file_open.specs.Effects.{IsLongEnough, OpensAlike}
+use Rattle.file_open.specs.Effects.{IsLongEnough, OpensAlike, StaysLike}
 use Rattle.vhdx_format.specs.declared.locator.Pair.{Pair}
 use Rattle.vx_base.specs.declared.parts.Parts.{Parts}
 use Rattle.link_rules.specs.Chains.{IsNext, NamesParent, OpensIn, is_among}
@@ -14,12 +14,12 @@ use Rattle.link_rules.specs.declared.linked.LinkedFile.{LinkedFile}
 use Rattle.link_rules.specs.declared.refusal.LinkRefusal.{LinkRefusal}
 use Rattle.link_rules.specs.declared.retired.Found.{Found}
 
--- A file at a later moment: untouched, or one that may be touched, of which each image is opened as the file was, where this was
--- no shorter than what it stood for.
+-- A file at a later moment: untouched, or one that may be touched, of which each image is opened as the file was and is no shorter,
+-- where this was no shorter than what it stood for.
 pub data IsSafeFile (may : List ℕ → Type 0) (held : Held) : Held → Type 0 where
   untouched : IsSafeFile may held held
   touched : (before after : File) → may held.name → held.file ≡ Some before
-      → (IsLongEnough (seen before) → (image : List ℕ) → IsFileImage after image → OpensAlike (seen before) image)
+      → (IsLongEnough (seen before) → (image : List ℕ) → IsFileImage after image → StaysLike OpensAlike (seen before) image)
       → IsSafeFile may held (record held { file = Some after })
 
 -- so it is with each file of a folder

@@ -9,6 +9,7 @@ use Rattle.layer_session.proofs.Handing.{fails_then, few_bytes, few_rows, front_
 use Rattle.layer_session.proofs.RunsRead.{end_at, fit_front, not_none, reads_rest, rest_smaller}
 use Rattle.layer_session.proofs.Known.{end_fits}
 use Rattle.layer_session.proofs.Sectors.{first_below}
+use Rattle.layer_session.proofs.Finding.{others_front, others_none, others_then}
 use Rattle.layer_session.proofs.reading.+own_all.Goals as goal
 
 pub returns-clause-reads : goal.returns-clause-reads
@@ -100,3 +101,13 @@ run_in_block-len-requires-clause-count g n c = not_none c.args.count c.if-count-
 
 pub run_in_block-len-requires-clause-first : goal.run_in_block-len-requires-clause-first
 run_in_block-len-requires-clause-first g n c = first_below c.args.first c.args.count c.args.tables.now.parts.sectors (not_none c.args.count c.if-count-eq0.false) c.requires.on_disk
+
+pub returns-clause-others : goal.returns-clause-others
+returns-clause-others g n c =
+    others_then c.args.at c.run_in_block-len.result c.args.count c.args.mask.now c.own_run.new.mask c.own_all.new.mask c.run_in_block-len.ensures.most c.own_run.auto.mask c.own_run.ensures.others c.own_all.ensures.others
+
+pub returns-in_err-own_run-clause-others : goal.returns-in_err-own_run-clause-others
+returns-in_err-own_run-clause-others g n c = others_front c.args.at c.run_in_block-len.result c.args.count c.args.mask.now c.own_run.new.mask c.run_in_block-len.ensures.most c.own_run.ensures.others
+
+pub returns-then-count-eq0-clause-others : goal.returns-then-count-eq0-clause-others
+returns-then-count-eq0-clause-others g n c = others_none c.args.at c.args.count c.args.mask.now

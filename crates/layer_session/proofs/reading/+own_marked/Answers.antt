@@ -1,4 +1,4 @@
-use Rattle.std.proofs.Common.{◌++◌, List, ℕ, ap, sym, subst, ◌∙◌, ◌+◌, ◌<◌, length, refl}
+use Rattle.std.proofs.Common.{◌++◌, List, ℕ, ap, sym, subst, ◌∙◌, ◌<◌, length, refl}
 use Rattle.store_model.specs.File.{seen}
 use Rattle.store_model.specs.Trace.{file_of}
 use Rattle.layer_session.specs.Calls.{HasOwned}
@@ -8,6 +8,7 @@ use Rattle.store_model.specs.Disk.{Disk}
 use Rattle.vx_base.proofs.Handed.{failed_for, not_ok, ok_then}
 use Rattle.layer_session.proofs.Handing.{fails_then, front_in, front_within, none_owned, stays_then}
 use Rattle.layer_session.proofs.RunsRead.{end_at, fit_front, fit_rest, not_none, rest_end, rest_rows, rest_smaller}
+use Rattle.layer_session.proofs.Finding.{others_front, others_none, others_then}
 use Rattle.layer_session.proofs.reading.+own_marked.Goals as goal
 
 pub returns-clause-owned : goal.returns-clause-owned
@@ -117,3 +118,13 @@ overflow_add-skip g n c = end_at c.args.skip c.first_run-run.result.count c.args
 
 pub returns-then-count-eq0-clause-err : goal.returns-then-count-eq0-clause-err
 returns-then-count-eq0-clause-err g n c = tt
+
+pub returns-clause-others : goal.returns-clause-others
+returns-clause-others g n c =
+    others_then c.args.at c.first_run-run.result.count c.args.count c.args.mask.now c.take_run.new.mask c.own_marked.new.mask c.first_run-run.ensures.most c.take_run.auto.mask c.take_run.ensures.others c.own_marked.ensures.others
+
+pub returns-in_err-take_run-clause-others : goal.returns-in_err-take_run-clause-others
+returns-in_err-take_run-clause-others g n c = others_front c.args.at c.first_run-run.result.count c.args.count c.args.mask.now c.take_run.new.mask c.first_run-run.ensures.most c.take_run.ensures.others
+
+pub returns-then-count-eq0-clause-others : goal.returns-then-count-eq0-clause-others
+returns-then-count-eq0-clause-others g n c = others_none c.args.at c.args.count c.args.mask.now

@@ -8,6 +8,7 @@ use Rattle.layer_session.proofs.Handing.{fails_then, few_bytes, few_rows, front_
 use Rattle.table_pages.specs.declared.tables.TableParts.{TableParts}
 use Rattle.layer_session.proofs.RunsRead.{end_at, fit_front, none_added, not_none, reads_rest, rest_smaller}
 use Rattle.layer_session.proofs.Known.{end_fits}
+use Rattle.layer_session.proofs.Finding.{found_none, found_then}
 use Rattle.layer_session.proofs.reading.+own_missing.Goals as goal
 
 pub returns-clause-reads : goal.returns-clause-reads
@@ -100,3 +101,12 @@ first_run-run-requires-clause-some g n c = not_none c.args.count c.if-count-eq0.
 
 pub returns-then-count-eq0-clause-added : goal.returns-then-count-eq0-clause-added
 returns-then-count-eq0-clause-added g n c = λ t told. none_added _ c.args.tables.now.parts.sector c.args.first c.args.count c.args.at c.args.mask.now c.args.out.now c.if-count-eq0.true
+
+pub returns-clause-found : goal.returns-clause-found
+returns-clause-found g n c = found_then c.args.mask.now c.add_run.new.mask c.own_missing.new.mask c.add_run.auto.mask c.add_run.ensures.found c.own_missing.ensures.found
+
+pub returns-in_err-add_run-clause-found : goal.returns-in_err-add_run-clause-found
+returns-in_err-add_run-clause-found g n c = c.add_run.ensures.found
+
+pub returns-then-count-eq0-clause-found : goal.returns-then-count-eq0-clause-found
+returns-then-count-eq0-clause-found g n c = found_none c.args.mask.now

@@ -9,6 +9,7 @@ use Rattle.layer_session.proofs.RunsRead.{bitmap_front, bitmap_rest, byte_small,
 use Rattle.vx_base.proofs.Handed.{failed_for, not_ok, ok_then}
 use Rattle.layer_session.proofs.Handing.{fails_then, few_bytes, few_rows, front_in, none_owned, stays_then}
 use Rattle.layer_session.proofs.Known.{end_fits}
+use Rattle.layer_session.proofs.Finding.{others_front, others_none, others_then}
 use Rattle.layer_session.proofs.reading.+own_part.Goals as goal
 
 pub returns-clause-reads : goal.returns-clause-reads
@@ -133,3 +134,14 @@ own_few-requires-clause-some g n c = once_some c.args.first c.args.count c.min-l
 
 pub returns-then-count-eq0-clause-err : goal.returns-then-count-eq0-clause-err
 returns-then-count-eq0-clause-err g n c = tt
+
+pub returns-clause-others : goal.returns-clause-others
+returns-clause-others g n c =
+    others_then c.args.at c.min-len.result c.args.count c.args.mask.now c.own_few.new.mask c.own_part.new.mask (once_few c.args.first c.args.count c.min-len.result c.min-len.ensures) c.own_few.auto.mask c.own_few.ensures.others c.own_part.ensures.others
+
+pub returns-in_err-own_few-clause-others : goal.returns-in_err-own_few-clause-others
+returns-in_err-own_few-clause-others g n c =
+    others_front c.args.at c.min-len.result c.args.count c.args.mask.now c.own_few.new.mask (once_few c.args.first c.args.count c.min-len.result c.min-len.ensures) c.own_few.ensures.others
+
+pub returns-then-count-eq0-clause-others : goal.returns-then-count-eq0-clause-others
+returns-then-count-eq0-clause-others g n c = others_none c.args.at c.args.count c.args.mask.now

@@ -4,6 +4,7 @@ use Rattle.vhdx_format.specs.SectorBitmaps.{bit_value}
 use Rattle.layer_session.specs.Reading.{layer_by}
 use Rattle.layer_session.proofs.Owned.{adds_found, adds_owned}
 use Rattle.layer_session.proofs.Planned.{read_none}
+use Rattle.layer_session.proofs.Finding.{found_missing, found_none}
 use Rattle.layer_session.proofs.reading.add_run.Goals as goal
 
 pub returns-then-found-clause-added : goal.returns-then-found-clause-added
@@ -46,3 +47,9 @@ returns-then-found-clause-stays g c = refl
 
 pub returns-then-found-clause-err : goal.returns-then-found-clause-err
 returns-then-found-clause-err g c = tt
+
+pub returns-clause-found : goal.returns-clause-found
+returns-clause-found g c = found_missing c.args.at c.args.count c.args.mask.now c.own_all.new.mask (λ i a b. c.requires.all i a b ∙ ap bit_value c.if-found.false) c.own_all.ensures.others
+
+pub returns-then-found-clause-found : goal.returns-then-found-clause-found
+returns-then-found-clause-found g c = found_none c.args.mask.now

@@ -6,6 +6,7 @@ use Rattle.layer_session.proofs.Parted.{part_owned, part_within}
 use Rattle.vx_base.proofs.Handed.{failed_for, not_ok, ok_then}
 use Rattle.layer_session.proofs.Handing.{fails_then, stays_then, there_still}
 use Rattle.layer_session.proofs.RunsRead.{bits_asked, bits_were_read, byte_before, byte_begins, byte_on_disk, bytes_few, skip_fits, skip_small}
+use Rattle.layer_session.proofs.Finding.{others_none}
 use Rattle.layer_session.proofs.reading.own_few.Goals as goal
 
 pub returns-clause-owned : goal.returns-clause-owned
@@ -88,3 +89,9 @@ own_marked-requires-clause-fits g c = skip_small c.args.first c.args.count c.req
 
 pub slice_bounds-bits-end : goal.slice_bounds-bits-end
 slice_bounds-bits-end g c = bytes_few c.args.first c.args.count c.div_ceil-bytes.result c.div_ceil-bytes.ensures c.requires.few
+
+pub returns-clause-others : goal.returns-clause-others
+returns-clause-others g c = c.own_marked.ensures.others
+
+pub returns-in_err-bits-clause-others : goal.returns-in_err-bits-clause-others
+returns-in_err-bits-clause-others g c = others_none c.args.at c.args.count c.args.mask.now

@@ -19,6 +19,7 @@ use Rattle.bat_entry.proofs.Standing as standing
 use Rattle.vx_base.proofs.Handed.{failed_for, not_ok, ok_then}
 use Rattle.layer_session.proofs.Handing.{fails_then, sectors_of, stays_then, there_still}
 use Rattle.layer_session.proofs.Sectors.{first_below}
+use Rattle.layer_session.proofs.Finding.{others_none, others_set}
 use Rattle.layer_session.proofs.reading.own_run.Goals as goal
 
 pub returns-in-Here-clause-owned : goal.returns-in-Here-clause-owned
@@ -219,3 +220,18 @@ returns-in-Absent-clause-err g c = tt
 
 pub returns-in-Zeros-clause-err : goal.returns-in-Zeros-clause-err
 returns-in-Zeros-clause-err g c = tt
+
+pub returns-in-Here-clause-others : goal.returns-in-Here-clause-others
+returns-in-Here-clause-others g c = c.take_run.ensures.others
+
+pub returns-in-Marked-clause-others : goal.returns-in-Marked-clause-others
+returns-in-Marked-clause-others g c = c.own_part.ensures.others
+
+pub returns-in-Absent-clause-others : goal.returns-in-Absent-clause-others
+returns-in-Absent-clause-others g c = others_set c.args.mask.now c.set_range.new.bits c.args.at c.args.count false c.set_range.ensures c.requires.room.bits
+
+pub returns-in-Zeros-clause-others : goal.returns-in-Zeros-clause-others
+returns-in-Zeros-clause-others g c = others_set c.args.mask.now c.set_range-in-Zeros.new.bits c.args.at c.args.count true c.set_range-in-Zeros.ensures c.requires.room.bits
+
+pub returns-in_err-word-clause-others : goal.returns-in_err-word-clause-others
+returns-in_err-word-clause-others g c = others_none c.args.at c.args.count c.args.mask.now

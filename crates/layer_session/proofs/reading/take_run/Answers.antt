@@ -1,8 +1,9 @@
-use Rattle.std.proofs.Common.{◌+◌, ◌≤◌, length, refl, subst, sym}
+use Rattle.std.proofs.Common.{◌+◌, ◌≤◌, length, refl, subst, sym, true, false}
 use Rattle.vx_base.proofs.Handed.{failed_for, not_ok}
 use Rattle.store_model.specs.File.{seen}
 use Rattle.store_model.specs.Trace.{file_of}
 use Rattle.layer_session.proofs.Owned.{run_left, run_taken}
+use Rattle.layer_session.proofs.Finding.{others_none, others_set}
 use Rattle.layer_session.proofs.reading.take_run.Goals as goal
 
 pub returns-clause-owned : goal.returns-clause-owned
@@ -53,3 +54,12 @@ returns-then-not-has-clause-stays g c = refl
 
 pub returns-then-not-has-clause-err : goal.returns-then-not-has-clause-err
 returns-then-not-has-clause-err g c = tt
+
+pub returns-clause-others : goal.returns-clause-others
+returns-clause-others g c = others_set c.args.mask.now c.set_range-2.new.bits c.args.at c.args.count true c.set_range-2.ensures c.requires.room.bits
+
+pub returns-then-not-has-clause-others : goal.returns-then-not-has-clause-others
+returns-then-not-has-clause-others g c = others_set c.args.mask.now c.set_range.new.bits c.args.at c.args.count false c.set_range.ensures c.requires.room.bits
+
+pub returns-in_err-read_at-clause-others : goal.returns-in_err-read_at-clause-others
+returns-in_err-read_at-clause-others g c = others_none c.args.at c.args.count c.args.mask.now

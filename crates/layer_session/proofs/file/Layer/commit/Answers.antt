@@ -1,10 +1,10 @@
-use Rattle.std.proofs.Common.{◌≡◌, ◌<◌, inl, inr, refl, sym, subst, List, [], map, ◌∙◌}
+use Rattle.std.proofs.Common.{◌≡◌, ◌<◌, ◌≤◌, ◌+◌, ap, inl, inr, refl, sym, subst, List, [], map, ◌∙◌}
 use Rattle.store_model.specs.Plans.{FailsToChange}
-use Rattle.vx_base.proofs.Handed.{failed_for, not_ok}
+use Rattle.vx_base.proofs.Handed.{failed_for, not_ok, ok_then, on_ok_any}
 use Rattle.layer_session.specs.ByLayers.{TellsAllSame}
 use Rattle.layer_session.proofs.Exits.{le_more}
-use Rattle.layer_session.proofs.Leading.{keeps_now}
-use Rattle.layer_session.proofs.Known.{both_untold}
+use Rattle.layer_session.proofs.Known.{counts_still}
+use Rattle.layer_session.proofs.Untold.{both_none, on_two, reads_plainly, untold_at}
 use Rattle.layer_session.proofs.WriteSteps.{open_for}
 use Rattle.store_model.specs.Disk.{WhereBothTold}
 use Rattle.block_alloc.specs.Spaces as spaces
@@ -12,7 +12,7 @@ use Rattle.vhdx_format.specs.declared.log_entry.Page.{Page}
 use Rattle.log_write.specs.Sessions.{LogState}
 use Rattle.log_write.specs.Writing.{committed}
 use Rattle.layer_session.specs.declared.file.Layer.{Layer}
-use Rattle.layer_session.specs.Calls.{HasCommitted, HoldsRest}
+use Rattle.layer_session.specs.Calls.{HasCommitted, HoldsRest, KeepsOver}
 use Rattle.layer_session.specs.Keeping.{IsReadable, IsReady}
 use Rattle.log_write.proofs.Failed.{on_err}
 use Rattle.layer_session.proofs.Committed.{layer_behind}
@@ -83,48 +83,68 @@ returns-clause-says g c =
     subst (λ (p : List Page). WhereBothTold (λ before after. SaysAllSame (shape_of l.tables.parts) (held l.tables.pending (seen (file_of before l.tables.parts.file))) (held p (seen (file_of after l.tables.parts.file)))) old.told new.told) (sym taken)
     (commit_says_told l old new c.requires.ready c.in_ok-commit.ensures.content)
 
+-- over a store that tells nothing: one that tells never comes here
+pub commit_plainly-requires-clause-there : goal.commit_plainly-requires-clause-there
+commit_plainly-requires-clause-there g c = c.requires.ready.readable.there
+
+pub commit_plainly-requires-clause-untold : goal.commit_plainly-requires-clause-untold
+commit_plainly-requires-clause-untold g c = untold_at c.args.self.now (g.S.Store.disk c.args.store.now) c.requires.ready (λ all. true_false (sym (c.can_commit.ensures.1 all) ∙ c.if-not-can_commit.true))
+
 pub returns-then-not-can_commit-clause-ready : goal.returns-then-not-can_commit-clause-ready
 returns-then-not-can_commit-clause-ready g c =
     let l : Layer = c.args.self.now in
-    subst (λ (pages : List Page). (let n : Layer = record l { tables = record (l.tables) { pending = pages } } in IsReady n (g.S.Store.disk c.args.store.now))) (sym c.clear.ensures)
-    (left_out l (g.S.Store.disk c.args.store.now) c.requires.ready (λ all. true_false (sym (c.can_commit.ensures.1 all) ∙ c.if-not-can_commit.true)))
+    on_two c.commit_plainly.result
+    (λ w d.
+    subst (λ (n : Layer). IsReady n (g.S.Store.disk c.commit_plainly.new.store)) (sym w)
+    (subst (IsReady (record l { tables = record (l.tables) { pending = [] } })) (sym d) (left_out l (g.S.Store.disk c.args.store.now) c.requires.ready (λ all. true_false (sym (c.can_commit.ensures.1 all) ∙ c.if-not-can_commit.true)))))
+    c.commit_plainly.ensures.written c.commit_plainly.ensures.done
 
 pub returns-then-not-can_commit-clause-moments : goal.returns-then-not-can_commit-clause-moments
-returns-then-not-can_commit-clause-moments g c = keeps_now c.args.self.now (g.S.Store.disk c.args.store.now).told
+returns-then-not-can_commit-clause-moments g c =
+    both_none (KeepsOver c.args.self.now) _ _ (untold_at c.args.self.now (g.S.Store.disk c.args.store.now) c.requires.ready (λ all. true_false (sym (c.can_commit.ensures.1 all) ∙ c.if-not-can_commit.true))) c.commit_plainly.ensures.untold
 
 pub returns-then-not-can_commit-clause-committed : goal.returns-then-not-can_commit-clause-committed
 returns-then-not-can_commit-clause-committed g c =
-    let n : Layer = record (c.args.self.now) { tables = record (c.args.self.now.tables) { pending = c.clear.new.self } } in
-    both_untold (HasCommitted c.args.self.now n) (g.S.Store.disk c.args.store.now).told (λ t e. true_false (sym (c.can_commit.ensures.1 (c.requires.ready.told t e).1.can) ∙ c.if-not-can_commit.true))
+    on_ok_any c.commit_plainly.result _
+    (both_none (HasCommitted c.args.self.now c.commit_plainly.new.self) _ _ (untold_at c.args.self.now (g.S.Store.disk c.args.store.now) c.requires.ready (λ all. true_false (sym (c.can_commit.ensures.1 all) ∙ c.if-not-can_commit.true))) c.commit_plainly.ensures.untold)
 
 pub returns-then-not-can_commit-clause-empty : goal.returns-then-not-can_commit-clause-empty
-returns-then-not-can_commit-clause-empty g c = c.clear.ensures
+returns-then-not-can_commit-clause-empty g c = ok_then c.commit_plainly.result (λ w. ap (λ (n : Layer). n.tables.pending) w) c.commit_plainly.ensures.written
 
 pub returns-then-not-can_commit-clause-number : goal.returns-then-not-can_commit-clause-number
-returns-then-not-can_commit-clause-number g c = le_more c.args.self.now.log.number 1
+returns-then-not-can_commit-clause-number g c =
+    subst (λ (n : Layer). n.log.number ≤ c.args.self.now.log.number + 1) (sym c.commit_plainly.ensures.only) (le_more c.args.self.now.log.number 1)
 
 pub returns-then-not-can_commit-clause-header : goal.returns-then-not-can_commit-clause-header
-returns-then-not-can_commit-clause-header g c = refl
+returns-then-not-can_commit-clause-header g c = ap (λ (n : Layer). n.log.header) c.commit_plainly.ensures.only
 
 pub returns-then-not-can_commit-clause-parts : goal.returns-then-not-can_commit-clause-parts
-returns-then-not-can_commit-clause-parts g c = refl
+returns-then-not-can_commit-clause-parts g c = c.commit_plainly.ensures.parts
 
 pub returns-then-not-can_commit-clause-leave : goal.returns-then-not-can_commit-clause-leave
-returns-then-not-can_commit-clause-leave g c = refl
+returns-then-not-can_commit-clause-leave g c = ap (λ (n : Layer). n.leave) c.commit_plainly.ensures.only
 
 pub returns-then-not-can_commit-clause-plans : goal.returns-then-not-can_commit-clause-plans
-returns-then-not-can_commit-clause-plans g c = refl
+returns-then-not-can_commit-clause-plans g c = ap (λ (n : Layer). n.plans) c.commit_plainly.ensures.only
 
 pub returns-then-not-can_commit-clause-counts : goal.returns-then-not-can_commit-clause-counts
-returns-then-not-can_commit-clause-counts g c = refl
+returns-then-not-can_commit-clause-counts g c = ok_then c.commit_plainly.result (λ d. counts_still (g.S.Store.disk c.args.store.now) (g.S.Store.disk c.commit_plainly.new.store) d) c.commit_plainly.ensures.done
 
 pub returns-then-not-can_commit-clause-says : goal.returns-then-not-can_commit-clause-says
 returns-then-not-can_commit-clause-says g c =
-    let n : Layer = record (c.args.self.now) { tables = record (c.args.self.now.tables) { pending = c.clear.new.self } } in
-    both_untold (TellsAllSame c.args.self.now n) (g.S.Store.disk c.args.store.now).told (λ t e. true_false (sym (c.can_commit.ensures.1 (c.requires.ready.told t e).1.can) ∙ c.if-not-can_commit.true))
+    on_ok_any c.commit_plainly.result _
+    (both_none (TellsAllSame c.args.self.now c.commit_plainly.new.self) _ _ (untold_at c.args.self.now (g.S.Store.disk c.args.store.now) c.requires.ready (λ all. true_false (sym (c.can_commit.ensures.1 all) ∙ c.if-not-can_commit.true))) c.commit_plainly.ensures.untold)
 
 pub returns-then-not-can_commit-clause-space : goal.returns-then-not-can_commit-clause-space
-returns-then-not-can_commit-clause-space g c = inl refl
+returns-then-not-can_commit-clause-space g c = on_ok_any c.commit_plainly.result _ (inl (ap (λ (n : Layer). n.space) c.commit_plainly.ensures.only))
+
+pub returns-then-not-can_commit-clause-broken : goal.returns-then-not-can_commit-clause-broken
+returns-then-not-can_commit-clause-broken g c =
+    reads_plainly c.args.self.now c.commit_plainly.new.self (g.S.Store.disk c.args.store.now) (g.S.Store.disk c.commit_plainly.new.store) c.commit_plainly.result c.requires.ready c.commit_plainly.ensures.parts
+    (untold_at c.args.self.now (g.S.Store.disk c.args.store.now) c.requires.ready (λ all. true_false (sym (c.can_commit.ensures.1 all) ∙ c.if-not-can_commit.true))) c.commit_plainly.ensures.untold c.commit_plainly.ensures.err
+
+pub returns-then-not-can_commit-clause-err : goal.returns-then-not-can_commit-clause-err
+returns-then-not-can_commit-clause-err g c = c.commit_plainly.ensures.err
 
 pub commit-requires-clause-there : goal.commit-requires-clause-there
 commit-requires-clause-there g c = subst (λ f. f < (g.S.Store.disk c.args.store.now).files) (sym c.requires.ready.one_file) c.requires.ready.readable.there

@@ -11,24 +11,45 @@ use Rattle.layer_session.specs.declared.file.Layer.{Layer}
 use Rattle.layer_session.specs.Calls.{HoldsRest}
 use Rattle.layer_session.specs.Keeping.{IsReadable, IsReady}
 use Rattle.layer_session.specs.Updating.{HasUpdated, UpdatesOver}
-use Rattle.layer_session.proofs.Updates.{behind_is, keeps_same, never_left_out, puts_all, runs_behind, torn_is, untold, update_moments, update_readable, update_ready, update_rest, update_served}
+use Rattle.layer_session.proofs.Known.{counts_still}
+use Rattle.layer_session.proofs.Untold.{both_none, no_told, reads_plainly}
+use Rattle.layer_session.proofs.Updates.{behind_is, keeps_same, never_left_out, puts_all, runs_behind, torn_is, update_moments, update_readable, update_ready, update_rest, update_served}
 use Rattle.layer_session.proofs.Equal.{true_false}
-use Rattle.vx_base.proofs.Handed.{not_ok}
+use Rattle.vx_base.proofs.Handed.{not_ok, ok_then, on_ok_any}
 use Rattle.layer_session.proofs.file.Layer.update.Goals as goal
 
+-- over a store that tells nothing: one that tells never comes here
+pub write_plainly-requires-clause-there : goal.write_plainly-requires-clause-there
+write_plainly-requires-clause-there g c = c.requires.ready.readable.there
+
+pub write_plainly-requires-clause-untold : goal.write_plainly-requires-clause-untold
+write_plainly-requires-clause-untold g c = no_told _ (never_left_out c.args.self.now c.args.pages.now (g.S.Store.disk c.args.store.now) c.requires.empty c.requires.turns (λ all. true_false (sym (c.can_take.ensures.1 all) ∙ c.if-not-can_take.true)))
+
 pub returns-then-not-can_take-clause-moments : goal.returns-then-not-can_take-clause-moments
-returns-then-not-can_take-clause-moments g c =
-    let l : Layer = c.args.self.now in
-    untold (g.S.Store.disk c.args.store.now).told
-    (never_left_out l c.args.pages.now (g.S.Store.disk c.args.store.now) c.requires.empty c.requires.turns (λ all. true_false (sym (c.can_take.ensures.1 all) ∙ c.if-not-can_take.true)))
-    (UpdatesOver l c.args.pages.now)
+returns-then-not-can_take-clause-moments g c = both_none (UpdatesOver c.args.self.now c.args.pages.now) _ _ (no_told _ (never_left_out c.args.self.now c.args.pages.now (g.S.Store.disk c.args.store.now) c.requires.empty c.requires.turns (λ all. true_false (sym (c.can_take.ensures.1 all) ∙ c.if-not-can_take.true)))) c.write_plainly.ensures.untold
 
 pub returns-then-not-can_take-clause-updated : goal.returns-then-not-can_take-clause-updated
-returns-then-not-can_take-clause-updated g c =
-    let l : Layer = c.args.self.now in
-    untold (g.S.Store.disk c.args.store.now).told
-    (never_left_out l c.args.pages.now (g.S.Store.disk c.args.store.now) c.requires.empty c.requires.turns (λ all. true_false (sym (c.can_take.ensures.1 all) ∙ c.if-not-can_take.true)))
-    (HasUpdated l l c.args.pages.now)
+returns-then-not-can_take-clause-updated g c = on_ok_any c.write_plainly.result _ (both_none (HasUpdated c.args.self.now c.args.self.now c.args.pages.now) _ _ (no_told _ (never_left_out c.args.self.now c.args.pages.now (g.S.Store.disk c.args.store.now) c.requires.empty c.requires.turns (λ all. true_false (sym (c.can_take.ensures.1 all) ∙ c.if-not-can_take.true)))) c.write_plainly.ensures.untold)
+
+pub returns-then-not-can_take-clause-ready : goal.returns-then-not-can_take-clause-ready
+returns-then-not-can_take-clause-ready g c = ok_then c.write_plainly.result (λ d. subst (IsReady c.args.self.now) (sym d) c.requires.ready) c.write_plainly.ensures.done
+
+pub returns-then-not-can_take-clause-empty : goal.returns-then-not-can_take-clause-empty
+returns-then-not-can_take-clause-empty g c = on_ok_any c.write_plainly.result _ c.requires.empty
+
+pub returns-then-not-can_take-clause-space : goal.returns-then-not-can_take-clause-space
+returns-then-not-can_take-clause-space g c = on_ok_any c.write_plainly.result _ (inl refl)
+
+pub returns-then-not-can_take-clause-broken : goal.returns-then-not-can_take-clause-broken
+returns-then-not-can_take-clause-broken g c =
+    reads_plainly c.args.self.now c.args.self.now (g.S.Store.disk c.args.store.now) (g.S.Store.disk c.write_plainly.new.store) c.write_plainly.result c.requires.ready refl
+    (no_told _ (never_left_out c.args.self.now c.args.pages.now (g.S.Store.disk c.args.store.now) c.requires.empty c.requires.turns (λ all. true_false (sym (c.can_take.ensures.1 all) ∙ c.if-not-can_take.true)))) c.write_plainly.ensures.untold c.write_plainly.ensures.err
+
+pub returns-then-not-can_take-clause-counts : goal.returns-then-not-can_take-clause-counts
+returns-then-not-can_take-clause-counts g c = ok_then c.write_plainly.result (λ d. counts_still (g.S.Store.disk c.args.store.now) (g.S.Store.disk c.write_plainly.new.store) d) c.write_plainly.ensures.done
+
+pub returns-then-not-can_take-clause-err : goal.returns-then-not-can_take-clause-err
+returns-then-not-can_take-clause-err g c = c.write_plainly.ensures.err
 
 pub returns-in_err-commit-clause-moments : goal.returns-in_err-commit-clause-moments
 returns-in_err-commit-clause-moments g c =
@@ -93,18 +114,6 @@ returns-clause-ready g c =
     subst (λ (then : Layer). IsReady then new) (behind_is l pages made c.put_pages.ensures.parts c.put_pages.ensures.pending c.commit.new.self c.commit.new.pending c.committed.new.self c.in_ok-commit.ensures.log c.in_ok-commit.ensures.taken c.committed.ensures)
     (update_ready l pages old new c.requires.ready.one_file c.requires.numbers c.requires.empty c.commit.ensures.only made.cache puts keeps c.requires.ready c.requires.turns c.in_ok-commit.ensures.counts served)
 
-pub returns-then-not-can_take-clause-broken : goal.returns-then-not-can_take-clause-broken
-returns-then-not-can_take-clause-broken g c = tt
-
-pub returns-then-not-can_take-clause-counts : goal.returns-then-not-can_take-clause-counts
-returns-then-not-can_take-clause-counts g c = refl
-
-pub returns-then-not-can_take-clause-empty : goal.returns-then-not-can_take-clause-empty
-returns-then-not-can_take-clause-empty g c = c.requires.empty
-
-pub returns-then-not-can_take-clause-err : goal.returns-then-not-can_take-clause-err
-returns-then-not-can_take-clause-err g c = tt
-
 pub returns-then-not-can_take-clause-header : goal.returns-then-not-can_take-clause-header
 returns-then-not-can_take-clause-header g c = refl
 
@@ -116,12 +125,6 @@ returns-then-not-can_take-clause-parts g c = refl
 
 pub returns-then-not-can_take-clause-plans : goal.returns-then-not-can_take-clause-plans
 returns-then-not-can_take-clause-plans g c = refl
-
-pub returns-then-not-can_take-clause-ready : goal.returns-then-not-can_take-clause-ready
-returns-then-not-can_take-clause-ready g c = c.requires.ready
-
-pub returns-then-not-can_take-clause-space : goal.returns-then-not-can_take-clause-space
-returns-then-not-can_take-clause-space g c = inl refl
 
 pub returns-clause-broken : goal.returns-clause-broken
 returns-clause-broken g c = tt
