@@ -1,0 +1,4 @@
+pub mod Meaning
+pub mod Told
+pub mod Soundness
+mod OneList
