@@ -1,0 +1,79 @@
+-- What a guest's call tells it, by what its seat knew before and knows behind it.
+use Rattle.std.specs.Prelude.{◌≡◌, ◌⊎◌, ◌+◌, ◌^◌, ◌≤◌, ℕ, [], ◌∷◌, ◌++◌, length, None, Some, Result, Ok, Err, IfSome}
+use Rattle.store_model.specs.Disk.{Disk}
+use Rattle.guest_model.specs.declared.call.Call.{Call}
+use Rattle.guest_model.specs.declared.call.Caller.{Caller}
+use Rattle.guest_model.specs.declared.call.Reply.{Reply}
+use Rattle.guest_model.specs.declared.refusal.ChainRefusal.{ChainRefusal}
+use Rattle.guest_model.specs.declared.refusal.ChainRefusal.TheVariants as refusals
+use Rattle.guest_model.specs.History.{History}
+use Rattle.chain_core.specs.States.{entry}
+use Rattle.shared_chain.specs.declared.basis.Basis.{Basis}
+use Rattle.shared_chain.specs.declared.basis.Note.TheVariants as notes
+use Rattle.shared_chain.specs.declared.basis.Step.{Step}
+use Rattle.shared_chain.specs.declared.basis.Step.TheVariants.{Broke, Done}
+use Rattle.shared_chain.specs.Answers.{IsCausedIn, RepliesBehind, misplaced_in}
+use Rattle.shared_chain.specs.Bases.{Contains}
+use Rattle.shared_chain.specs.Notes.{HasNote}
+use Rattle.shared_chain.specs.Steps.{breach_of, done_steps}
+use Rattle.turn_lock.specs.Histories.{StartsWith}
+use Rattle.turn_lock.specs.Seats.{Known, TableId}
+
+-- a guest's call of this number
+abbrev pub caller_of : ℕ → ℕ → Caller
+caller_of guest number = record { guest = guest; no = number }
+
+module _ {S T : Type 0} where
+  -- the seat is of this lock, and holds no turn
+  abbrev pub IsFree : TableId → Known Step (Basis S T) → Type 0
+  IsFree lock seat = (seat.lock ≡ lock) × (seat.turn ≡ None)
+
+  -- What stays of a seat, whatever its call is answered: it has its lock, and no turn; it goes on having seen what it had, and knowing what
+  -- it knew.
+  pub record KeepsSeat (old new : Known Step (Basis S T)) : Type 0 where
+    pub lock : new.lock ≡ old.lock
+    pub free : new.turn ≡ None
+    pub family : new.family ≡ old.family
+    pub first_ticket : new.first_ticket ≡ old.first_ticket
+    pub known : new.known ≡ old.known
+    pub seen : StartsWith new.seen old.seen
+    pub basis : Contains new.basis old.basis
+
+  -- The call is the last entry of the one history, which begins with all that the seat had seen; it stands at the place that is answered, which
+  -- the seat has for its own; and the reply is that of the disk on which the session began, with the calls before it made on it.
+  pub record IsDone (disk : S → Disk) (who : Caller) (call : Call) (r : Reply) (old new : Known Step (Basis S T)) (place : ℕ) : Type 0 where
+    pub before : History
+    pub begins : StartsWith (done_steps before) old.seen
+    pub seen : new.seen ≡ done_steps before ++ Done (entry who call) ∷ []
+    pub place_is : place ≡ length before + 1
+    pub mine : new.mine ≡ old.mine ++ place ∷ []
+    pub placed : misplaced_in new.basis call None
+    pub replies : IfSome new.basis.first (λ first. RepliesBehind disk first before call r)
+
+  -- The call broke the session: it stands behind the whole history, which begins with all that the seat had seen, and the seat has it for its
+  -- own.
+  pub record HasBroken (who : Caller) (call : Call) (old new : Known Step (Basis S T)) : Type 0 where
+    pub before : History
+    pub begins : StartsWith (done_steps before) old.seen
+    pub seen : new.seen ≡ done_steps before ++ Broke (breach_of who call) ∷ []
+    pub mine : new.mine ≡ old.mine ++ (length before + 1) ∷ []
+
+  -- A refused call adds nothing of its own to the history; the one that breaks the session is noted behind it.
+  abbrev pub AddsNothing : Caller → Call → ChainRefusal → Known Step (Basis S T) → Known Step (Basis S T) → Type 0
+  AddsNothing who call (refusals.Broken file count) old new = (new.mine ≡ old.mine) ⊎ HasBroken who call old new
+  AddsNothing who call refusal old new = new.mine ≡ old.mine
+
+  -- What shows a refusal: that of the events' count is noted, or it is the lock's, of the seat for good; any other has its cause in what the seat
+  -- knew before and knows now.
+  abbrev pub IsShown : Call → ChainRefusal → Known Step (Basis S T) → Known Step (Basis S T) → Type 0
+  IsShown call (refusals.Spent t) old new = (2 ^ 63 ≤ t) × ((new.refused ≡ Some t) ⊎ HasNote new.basis.notes (notes.Spent t))
+  IsShown call refusal old new = IsCausedIn call old.basis new.basis (Err refusal)
+
+  abbrev pub Answers : (S → Disk) → Caller → Call → Reply → Known Step (Basis S T) → Known Step (Basis S T) → Result ℕ ChainRefusal → Type 0
+  Answers disk who call r old new (Ok place) = IsDone disk who call r old new place
+  Answers disk who call r old new (Err refusal) = AddsNothing who call refusal old new × IsShown call refusal old new
+
+  -- A guest's call.
+  pub record IsCall (disk : S → Disk) (who : Caller) (call : Call) (r : Reply) (old new : Known Step (Basis S T)) (answer : Result ℕ ChainRefusal) : Type 0 where
+    pub keeps : KeepsSeat old new
+    pub answers : Answers disk who call r old new answer

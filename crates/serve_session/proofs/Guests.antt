@@ -1,0 +1,165 @@
+-- Lists of what guests were told, by one more call and by one more guest.
+use Rattle.std.proofs.Common.{◌≡◌, ◌≢◌, eq-eqb, ne_eqb, ◌⊎◌, ◌+◌, ◌<◌, ◌≤◌, ◌==◌, ◌++◌, ◌∷◌, ℕ, Bool, true, false, [], List, length, Some, Ok, Err, inl, inr, refl, sym, ap, ap₂, subst, ◌∙◌, arith}
+use Rattle.std.specs.Prelude.{◌&&◌, if◌then◌else◌, get_or, take, map}
+use Rattle.std.specs.List.{AllByRecursion, flat_map}
+use Rattle.std.proofs.lemmas.List.{append-nil, append_assoc, length-append, take-append-le, take_all, take_more}
+use Rattle.script.specs.Grammar.{is_call}
+use Rattle.script.specs.declared.form.Form.{Form}
+use Rattle.script.specs.declared.form.Line.{Line}
+use Rattle.script.specs.declared.told.ToldCall.{ToldCall}
+use Rattle.script_session.specs.Told.{Told}
+use Rattle.shared_chain.specs.declared.basis.Breach.{Breach}
+use Rattle.serve_session.specs.Actors.{HasBreach, HasBreacher, called_form}
+use Rattle.serve_session.specs.Served.{EachGuest, Has, IsRising, Outcome, SomeGuest, all_told, as_told, forms_of, places_in, told_call, told_calls, told_guests}
+
+-- a slice that fills its vector is all that is in it then
+pub written_all : {X : Type 0} (n : ℕ) (xs ys : List X) → n ≡ length xs → take n (xs ++ ys) ≡ xs
+written_all n xs ys whole = take-append-le n xs ys (omega (arith, whole)) ∙ take_all n xs (omega (arith, whole))
+
+-- ---- one more call
+
+pub has_left : (p : ℕ) (ps qs : List ℕ) → Has p ps → Has p (ps ++ qs)
+has_left p [] qs h = absurd h
+has_left p (q ∷ ps) qs (inl e) = inl e
+has_left p (q ∷ ps) qs (inr h) = inr (has_left p ps qs h)
+
+pub has_last : (p : ℕ) (ps : List ℕ) → Has p (ps ++ p ∷ [])
+has_last p [] = inl refl
+has_last p (q ∷ ps) = inr (has_last p ps)
+
+above_all : (p q : ℕ) (ps : List ℕ) → p < q → AllByRecursion (λ r. p < r) ps → AllByRecursion (λ r. p < r) (ps ++ q ∷ [])
+above_all p q [] less all = (less, tt)
+above_all p q (r ∷ ps) less all = (all.0, above_all p q ps less all.1)
+
+pub rising_snoc : (ps : List ℕ) (p : ℕ) → IsRising ps → AllByRecursion (λ q. q < p) ps → IsRising (ps ++ p ∷ [])
+rising_snoc [] p rising below = (tt, tt)
+rising_snoc (q ∷ ps) p rising below = (above_all q p ps below.0 rising.0, rising_snoc ps p rising.1 below.1)
+
+pub all_below : (ps : List ℕ) (n : ℕ) → ((p : ℕ) → Has p ps → p < n) → AllByRecursion (λ q. q < n) ps
+all_below [] n h = tt
+all_below (p ∷ ps) n h = (h p (inl refl), all_below ps n (λ q k. h q (inr k)))
+
+pub places_snoc : (outcomes : List Outcome) (o : Outcome) → places_in (outcomes ++ o ∷ []) ≡ places_in outcomes ++ places_in (o ∷ [])
+places_snoc [] o = refl
+places_snoc (Ok done ∷ outcomes) o = ap (λ ps. done.0 ∷ ps) (places_snoc outcomes o)
+places_snoc (Err x ∷ outcomes) o = places_snoc outcomes o
+
+pub told_snoc : (names : List (List ℕ)) (forms : List Form) (outcomes : List Outcome) (form : Form) (o : Outcome) → length outcomes ≡ length forms
+    → told_calls names (forms ++ form ∷ []) (outcomes ++ o ∷ []) ≡ told_calls names forms outcomes ++ told_call names form o ∷ []
+told_snoc names [] [] form o same = refl
+told_snoc names [] (x ∷ outcomes) form o same = absurd (omega (arith, same))
+told_snoc names (f ∷ forms) [] form o same = absurd (omega (arith, same))
+told_snoc names (f ∷ forms) (x ∷ outcomes) form o same = ap (λ ts. told_call names f x ∷ ts) (told_snoc names forms outcomes form o (omega (arith, same)))
+
+pub told_count : (names : List (List ℕ)) (forms : List Form) (outcomes : List Outcome) → length outcomes ≡ length forms → length (told_calls names forms outcomes) ≡ length outcomes
+told_count names [] [] same = refl
+told_count names [] (x ∷ outcomes) same = absurd (omega (arith, same))
+told_count names (f ∷ forms) [] same = refl
+told_count names (f ∷ forms) (x ∷ outcomes) same = omega (arith, told_count names forms outcomes (omega (arith, same)))
+
+pub breaker_left : (b : Breach) (guest number : ℕ) (forms more : List Form) (outcomes later : List Outcome) → HasBreacher b guest number forms outcomes → HasBreacher b guest number (forms ++ more) (outcomes ++ later)
+breaker_left b guest number forms more [] later h = absurd h
+breaker_left b guest number [] more (o ∷ outcomes) later h = absurd h
+breaker_left b guest number (f ∷ forms) more (o ∷ outcomes) later (inl h) = inl h
+breaker_left b guest number (f ∷ forms) more (o ∷ outcomes) later (inr h) = inr (breaker_left b guest (number + 1) forms more outcomes later h)
+
+pub breaker_last : (b : Breach) (guest number : ℕ) (forms : List Form) (outcomes : List Outcome) (form : Form) (o : Outcome) → length outcomes ≡ length forms → HasBreach guest (number + length outcomes) form b o
+    → HasBreacher b guest number (forms ++ form ∷ []) (outcomes ++ o ∷ [])
+breaker_last b guest number [] [] form o same h = inl (subst (λ n. HasBreach guest n form b o) {x = number + 0} (omega arith) h)
+breaker_last b guest number [] (x ∷ outcomes) form o same h = absurd (omega (arith, same))
+breaker_last b guest number (f ∷ forms) [] form o same h = absurd (omega (arith, same))
+breaker_last b guest number (f ∷ forms) (x ∷ outcomes) form o same h =
+    inr (breaker_last b guest (number + 1) forms outcomes form o (omega (arith, same)) (subst (λ n. HasBreach guest n form b o) {x = number + length (x ∷ outcomes)} {y = number + 1 + length outcomes} (omega arith) h))
+
+-- ---- the forms of a guest's calls
+
+forms_append : (guest : ℕ) (lines more : List Line) → forms_of guest (lines ++ more) ≡ forms_of guest lines ++ forms_of guest more
+forms_append guest [] more = refl
+forms_append guest (line ∷ lines) more = go (forms_append guest lines more) ((line.guest == guest) && is_call line.form)
+  where
+    go : forms_of guest (lines ++ more) ≡ forms_of guest lines ++ forms_of guest more → (b : Bool)
+        → (if b then line.form ∷ forms_of guest (lines ++ more) else forms_of guest (lines ++ more)) ≡ (if b then line.form ∷ forms_of guest lines else forms_of guest lines) ++ forms_of guest more
+    go rest true = ap (λ fs. line.form ∷ fs) rest
+    go rest false = rest
+
+own_form : (guest : ℕ) (line : Line) → (line.guest == guest) ≡ true → forms_of guest (line ∷ []) ≡ called_form line.form
+own_form guest line own = ap (λ b. if b && is_call line.form then line.form ∷ [] else []) own ∙ go (is_call line.form)
+  where
+    go : (b : Bool) → (if true && b then line.form ∷ [] else []) ≡ (if b then line.form ∷ [] else [])
+    go true = refl
+    go false = refl
+
+other_form : (guest : ℕ) (line : Line) → (line.guest == guest) ≡ false → forms_of guest (line ∷ []) ≡ []
+other_form guest line other = ap (λ b. if b && is_call line.form then line.form ∷ [] else []) other
+
+pub forms_more : (guest : ℕ) (lines : List Line) (i : ℕ) (d : Line) → i < length lines → (get_or lines i d).guest ≡ guest → forms_of guest (take (i + 1) lines) ≡ forms_of guest (take i lines) ++ called_form (get_or lines i d).form
+forms_more guest lines i d within own =
+    let line = get_or lines i d in
+    ap (forms_of guest) (take_more lines i d within) ∙ forms_append guest (take i lines) (line ∷ []) ∙ ap (λ fs. forms_of guest (take i lines) ++ fs) (own_form guest line (eq-eqb line.guest guest own))
+
+pub forms_same : (guest : ℕ) (lines : List Line) (i : ℕ) (d : Line) → i < length lines → (get_or lines i d).guest ≢ guest → forms_of guest (take (i + 1) lines) ≡ forms_of guest (take i lines)
+forms_same guest lines i d within other =
+    let line = get_or lines i d in
+    ap (forms_of guest) (take_more lines i d within) ∙ forms_append guest (take i lines) (line ∷ []) ∙ ap (λ fs. forms_of guest (take i lines) ++ fs) (other_form guest line (ne_eqb line.guest guest other))
+    ∙ append-nil (forms_of guest (take i lines))
+
+pub forms_few : (guest : ℕ) (lines : List Line) → length (forms_of guest lines) ≤ length lines
+forms_few guest [] = omega arith
+forms_few guest (line ∷ lines) = go (forms_few guest lines) ((line.guest == guest) && is_call line.form)
+  where
+    go : length (forms_of guest lines) ≤ length lines → (b : Bool) → length (if b then line.form ∷ forms_of guest lines else forms_of guest lines) ≤ length (line ∷ lines)
+    go rest true = omega (arith, rest)
+    go rest false = omega (arith, rest)
+
+-- ---- one more guest
+
+pub each_snoc : (P : ℕ → List Outcome → Type 0) (guest : ℕ) (guests : List (List Outcome)) (outcomes : List Outcome) → EachGuest P guest guests → P (guest + length guests) outcomes → EachGuest P guest (guests ++ outcomes ∷ [])
+each_snoc P guest [] outcomes h last = (subst (λ n. P n outcomes) {x = guest + 0} (omega arith) last, tt)
+each_snoc P guest (os ∷ guests) outcomes h last =
+    (h.0, each_snoc P (guest + 1) guests outcomes h.1 (subst (λ n. P n outcomes) {x = guest + length (os ∷ guests)} {y = guest + 1 + length guests} (omega arith) last))
+
+pub each_map : (P Q : ℕ → List Outcome → Type 0) (guest : ℕ) (guests : List (List Outcome)) → ((g : ℕ) (os : List Outcome) → P g os → Q g os) → EachGuest P guest guests → EachGuest Q guest guests
+each_map P Q guest [] f h = tt
+each_map P Q guest (os ∷ guests) f h = (f guest os h.0, each_map P Q (guest + 1) guests f h.1)
+
+pub some_left : (P : ℕ → List Outcome → Type 0) (guest : ℕ) (guests more : List (List Outcome)) → SomeGuest P guest guests → SomeGuest P guest (guests ++ more)
+some_left P guest [] more h = absurd h
+some_left P guest (os ∷ guests) more (inl h) = inl h
+some_left P guest (os ∷ guests) more (inr h) = inr (some_left P (guest + 1) guests more h)
+
+pub some_last : (P : ℕ → List Outcome → Type 0) (guest : ℕ) (guests : List (List Outcome)) (outcomes : List Outcome) → P (guest + length guests) outcomes → SomeGuest P guest (guests ++ outcomes ∷ [])
+some_last P guest [] outcomes h = inl (subst (λ n. P n outcomes) {x = guest + 0} (omega arith) h)
+some_last P guest (os ∷ guests) outcomes h = inr (some_last P (guest + 1) guests outcomes (subst (λ n. P n outcomes) {x = guest + length (os ∷ guests)} {y = guest + 1 + length guests} (omega arith) h))
+
+pub some_map : (P Q : ℕ → List Outcome → Type 0) (guest : ℕ) (guests : List (List Outcome)) → ((g : ℕ) (os : List Outcome) → P g os → Q g os) → SomeGuest P guest guests → SomeGuest Q guest guests
+some_map P Q guest [] f h = absurd h
+some_map P Q guest (os ∷ guests) f (inl h) = inl (f guest os h)
+some_map P Q guest (os ∷ guests) f (inr h) = inr (some_map P Q (guest + 1) guests f h)
+
+-- what holds of each holds of the one
+pub some_and : (P Q R : ℕ → List Outcome → Type 0) (guest : ℕ) (guests : List (List Outcome)) → ((g : ℕ) (os : List Outcome) → P g os → Q g os → R g os) → EachGuest P guest guests → SomeGuest Q guest guests → SomeGuest R guest guests
+some_and P Q R guest [] f each h = absurd h
+some_and P Q R guest (os ∷ guests) f each (inl h) = inl (f guest os each.0 h)
+some_and P Q R guest (os ∷ guests) f each (inr h) = inr (some_and P Q R (guest + 1) guests f each.1 h)
+
+pub told_guests_snoc : (names : List (List ℕ)) (guest : ℕ) (lines : List Line) (guests : List (List Outcome)) (outcomes : List Outcome)
+    → told_guests names guest lines (guests ++ outcomes ∷ []) ≡ told_guests names guest lines guests ++ told_calls names (forms_of (guest + length guests) lines) outcomes ∷ []
+told_guests_snoc names guest lines [] outcomes = ap (λ n. told_calls names (forms_of n lines) outcomes ∷ []) {x = guest} {y = guest + 0} (omega arith)
+told_guests_snoc names guest lines (os ∷ guests) outcomes =
+    ap (λ ts. told_calls names (forms_of guest lines) os ∷ ts)
+    (told_guests_snoc names (guest + 1) lines guests outcomes
+    ∙ ap (λ n. told_guests names (guest + 1) lines guests ++ told_calls names (forms_of n lines) outcomes ∷ []) {x = guest + 1 + length guests} {y = guest + length (os ∷ guests)} (omega arith))
+
+pub told_guests_count : (names : List (List ℕ)) (guest : ℕ) (lines : List Line) (guests : List (List Outcome)) → length (told_guests names guest lines guests) ≡ length guests
+told_guests_count names guest lines [] = refl
+told_guests_count names guest lines (os ∷ guests) = omega (arith, told_guests_count names (guest + 1) lines guests)
+
+-- ---- all that was told
+
+all_append : (P : Told → Type 0) (xs ys : List Told) → AllByRecursion P xs → AllByRecursion P ys → AllByRecursion P (xs ++ ys)
+all_append P [] ys h k = k
+all_append P (x ∷ xs) ys h k = (h.0, all_append P xs ys h.1 k)
+
+pub all_told_are : (P : Told → Type 0) (guest : ℕ) (guests : List (List Outcome)) → EachGuest (λ g os. AllByRecursion P (map as_told os)) guest guests → AllByRecursion P (all_told guests)
+all_told_are P guest [] h = tt
+all_told_are P guest (os ∷ guests) h = all_append P (map as_told os) (all_told guests) h.0 (all_told_are P (guest + 1) guests h.1)

@@ -1,0 +1,398 @@
+-- What a seat has heard of a guest's calls, as it sees more, and by one more call.
+use Rattle.std.proofs.Common.{◌≡◌, ◌⊎◌, ◌+◌, ◌-◌, ◌*◌, ◌/◌, ◌^◌, ◌<◌, ◌≤◌, ◌==◌, ◌++◌, ◌∷◌, ℕ, Bool, true, false, [], List, length, replicate, Option, Some, None, Result, Ok, Err, inl, inr, refl, sym, ap, ap₂, subst, ◌∙◌, arith, eqb-true, length-append, lt-ltb, leb-true, take}
+use Rattle.std.specs.Prelude.{◌&&◌, IfSome, MatchBool, OnOk, if◌then◌else◌, is_some, nat_le, nat_lt}
+use Rattle.std.proofs.lemmas.Bool.{ltb-true, ne_eqb}
+use Rattle.std.proofs.lemmas.List.{length-map, length-replicate}
+use Rattle.store_model.specs.Disk.{Disk}
+use Rattle.guest_model.specs.declared.call.Call.{Call}
+use Rattle.guest_model.specs.declared.call.Call.TheVariants as calls
+use Rattle.guest_model.specs.declared.call.Caller.{Caller}
+use Rattle.guest_model.specs.declared.call.Reply.{Reply}
+use Rattle.guest_model.specs.declared.call.Reply.TheVariants as replies
+use Rattle.guest_model.specs.declared.recorder.KeepAll.{KeepAll}
+use Rattle.guest_model.specs.declared.refusal.ChainRefusal.{ChainRefusal}
+use Rattle.guest_model.specs.declared.refusal.ChainRefusal.TheVariants.{Abandoned, Broken, EmptyRange, FileFull, NoMerge, NoPiece, NoRoom, NoStripe, NotYet, OutOfRange, ReadFault, ReadOnly, Spent, Stale, TooLong}
+use Rattle.guest_model.specs.Calls.{is_named}
+use Rattle.guest_model.specs.Counts.{one_more}
+use Rattle.guest_model.specs.Ranges.{range_refusal}
+use Rattle.chain_core.specs.declared.chain.Chain.{Chain}
+use Rattle.chain_core.specs.Refusing.{barred, misplaced, out_of}
+use Rattle.layer_session.proofs.Equal.{none_some, some_same}
+use Rattle.seats.specs.Counting.{once_at, times}
+use Rattle.seats.proofs.Counting.{times-push}
+use Rattle.script.specs.declared.form.Form.{Form}
+use Rattle.script.specs.declared.form.Form.TheVariants.{Copy, Fetch, Finish, Flush, Put, Read, Trim, Write}
+use Rattle.turn_lock.specs.Histories.{StartsWith}
+use Rattle.turn_lock.specs.Seats.{Known, TableId}
+use Rattle.turn_lock.proofs.Fronts.{starts-itself, starts-length, starts-through}
+use Rattle.shared_chain.specs.declared.basis.Basis.{Basis}
+use Rattle.shared_chain.specs.declared.basis.Breach.{Breach}
+use Rattle.shared_chain.specs.declared.basis.Note.{Note}
+use Rattle.shared_chain.specs.declared.basis.Note.TheVariants as notes
+use Rattle.shared_chain.specs.declared.basis.Step.{Step}
+use Rattle.shared_chain.specs.declared.basis.Step.TheVariants.{Broke, Done}
+use Rattle.shared_chain.specs.Answers.{IsCausedIn, RepliesBehind}
+use Rattle.shared_chain.specs.Bases.{Contains}
+use Rattle.shared_chain.specs.Laws.{contains_through}
+use Rattle.shared_chain.specs.Notes.{HasNote}
+use Rattle.shared_chain.specs.Steps.{breach_of, done_steps, open_by}
+use Rattle.guest_io.specs.Guests.{AddsNothing, Answers, HasBroken, IsCall, IsDone, IsFree, IsShown, caller_of}
+use Rattle.serve_session.specs.Actors.{AreHeard, BreaksAt, HasBreach, HasBreacher, HasHeard, HasPlace, IsHeard, IsHeardOf, OwnsAt, first_basis, first_notes}
+use Rattle.serve_session.specs.Asking.{IsAsked, IsTooLong, asks_too_many, count_of, emptied, is_want, outcome_of, reply_in, shown_in, too_long}
+use Rattle.serve_session.specs.Served.{Has, IsRising, Outcome, call_of, entry_of, places_in}
+use Rattle.serve_session.proofs.Guests.{all_below, breaker_last, breaker_left, has_last, has_left, places_snoc, rising_snoc}
+
+-- the next call's number
+pub next_one : (n told : ℕ) → n ≡ told + 1 → told < 2 ^ 32 → one_more n ≡ told + 1 + 1
+next_one n told is few = ap (λ b. if b then n + 1 else n) (lt-ltb (n + 1) (2 ^ 64) (omega (arith, is, few))) ∙ ap (λ k. k + 1) is
+
+-- a call that changes no sector opens none
+nothing : (from s : ℕ) → (nat_le from s && nat_lt s (from + 0)) ≡ false
+nothing from s = go (nat_le from s) (nat_lt s (from + 0)) refl refl
+  where
+    go : (a b : Bool) → nat_le from s ≡ a → nat_lt s (from + 0) ≡ b → (a && b) ≡ false
+    go false b le lt = refl
+    go true false le lt = refl
+    go true true le lt = let low : from ≤ s = leb-true from s le in let high : s < from + 0 = ltb-true s (from + 0) lt in absurd (omega (arith, low, high))
+
+-- ---- more is seen, and known
+
+breaks_later : (seen more : List Step) (p guest : ℕ) (forms fs : List Form) (outcomes os : List Outcome) → StartsWith more seen → BreaksAt seen p guest forms outcomes → BreaksAt more p guest (forms ++ fs) (outcomes ++ os)
+breaks_later seen more p guest forms fs outcomes os starts b = record {
+  before = b.before;
+  breach = b.breach;
+  begins = starts-through more seen _ starts b.begins;
+  place_is = b.place_is;
+  breaker = breaker_left b.breach guest 1 forms fs outcomes os b.breaker;
+}
+
+owns_later : (seen more : List Step) (p guest : ℕ) (forms fs : List Form) (outcomes os : List Outcome) → StartsWith more seen → (places_in (outcomes ++ os) ≡ places_in outcomes ++ places_in os) → OwnsAt seen p guest forms outcomes
+    → OwnsAt more p guest (forms ++ fs) (outcomes ++ os)
+owns_later seen more p guest forms fs outcomes os starts places (inl h) = inl (subst (Has p) (sym places) (has_left p (places_in outcomes) (places_in os) h))
+owns_later seen more p guest forms fs outcomes os starts places (inr b) = inr (breaks_later seen more p guest forms fs outcomes os starts b)
+
+-- the same calls
+pub owns_still : (seen more : List Step) (p guest : ℕ) (forms : List Form) (outcomes : List Outcome) → StartsWith more seen → OwnsAt seen p guest forms outcomes → OwnsAt more p guest forms outcomes
+owns_still seen more p guest forms outcomes starts (inl h) = inl h
+owns_still seen more p guest forms outcomes starts (inr b) = inr (record { before = b.before; breach = b.breach; begins = starts-through more seen _ starts b.begins; place_is = b.place_is; breaker = b.breaker })
+
+module _ {S T : Type 0} (disk : S → Disk) (first : Chain S KeepAll T) where
+  abbrev Knows : List Note → List Note → Type 0
+  Knows more noted = (n : Note) → HasNote noted n → HasNote more n
+
+  heard_of_later : (noted more : List Note) (call : Call) (x : ChainRefusal) → Knows more noted → IsHeardOf disk first noted call x → IsHeardOf disk first more call x
+  heard_of_later noted more call EmptyRange k h = h
+  heard_of_later noted more call (OutOfRange a b c) k h = h
+  heard_of_later noted more call (TooLong a b) k h = h
+  heard_of_later noted more call ReadOnly k h = h
+  heard_of_later noted more call (Broken file count) k h = k (notes.ChangeFailed file count) h
+  heard_of_later noted more call (Spent t) k h = h
+  heard_of_later noted more call (FileFull next) k h = (h.0, k (notes.Full next) h.1)
+  heard_of_later noted more call (ReadFault file count) k h = (h.0, k (notes.ReadFailed file count) h.1, h.2)
+  heard_of_later noted more call NoMerge k h = absurd h
+  heard_of_later noted more call (Stale taken now) k h = absurd h
+  heard_of_later noted more call (NotYet stripe) k h = absurd h
+  heard_of_later noted more call (Abandoned file count) k h = absurd h
+  heard_of_later noted more call (NoStripe stripe stripes) k h = absurd h
+  heard_of_later noted more call NoPiece k h = absurd h
+  heard_of_later noted more call NoRoom k h = absurd h
+
+  heard_later : (seen seen' : List Step) (noted more : List Note) (guest number : ℕ) (form : Form) (o : Outcome) → StartsWith seen' seen → Knows more noted → IsHeard disk first seen noted guest number form o → IsHeard disk first seen' more guest number form o
+  heard_later seen seen' noted more guest number form (Ok done) starts k h = record { before = h.before; begins = starts-through seen' seen _ starts h.begins; place_is = h.place_is; placed = h.placed; replies = h.replies }
+  heard_later seen seen' noted more guest number form (Err x) starts k h = heard_of_later noted more (call_of form) x k h
+
+  pub all_heard_later : (seen seen' : List Step) (noted more : List Note) (guest number : ℕ) (forms : List Form) (outcomes : List Outcome) → StartsWith seen' seen → Knows more noted → AreHeard disk first seen noted guest number forms outcomes
+      → AreHeard disk first seen' more guest number forms outcomes
+  all_heard_later seen seen' noted more guest number forms [] starts k h = tt
+  all_heard_later seen seen' noted more guest number [] (o ∷ outcomes) starts k h = absurd h
+  all_heard_later seen seen' noted more guest number (f ∷ forms) (o ∷ outcomes) starts k h =
+      (heard_later seen seen' noted more guest number f o starts k h.0, all_heard_later seen seen' noted more guest (number + 1) forms outcomes starts k h.1)
+
+  heard_more : (seen : List Step) (noted : List Note) (guest number : ℕ) (forms fs : List Form) (outcomes : List Outcome) → AreHeard disk first seen noted guest number forms outcomes → AreHeard disk first seen noted guest number (forms ++ fs) outcomes
+  heard_more seen noted guest number forms fs [] h = tt
+  heard_more seen noted guest number [] fs (o ∷ outcomes) h = absurd h
+  heard_more seen noted guest number (f ∷ forms) fs (o ∷ outcomes) h = (h.0, heard_more seen noted guest (number + 1) forms fs outcomes h.1)
+
+  heard_snoc : (seen : List Step) (noted : List Note) (guest number : ℕ) (forms : List Form) (outcomes : List Outcome) (form : Form) (o : Outcome) → length outcomes ≡ length forms → AreHeard disk first seen noted guest number forms outcomes
+      → IsHeard disk first seen noted guest (number + length outcomes) form o → AreHeard disk first seen noted guest number (forms ++ form ∷ []) (outcomes ++ o ∷ [])
+  heard_snoc seen noted guest number [] [] form o same h last = (subst (λ n. IsHeard disk first seen noted guest n form o) {x = number + 0} (omega arith) last, tt)
+  heard_snoc seen noted guest number [] (x ∷ outcomes) form o same h last = absurd h
+  heard_snoc seen noted guest number (f ∷ forms) [] form o same h last = absurd (omega (arith, same))
+  heard_snoc seen noted guest number (f ∷ forms) (x ∷ outcomes) form o same h last = (
+    h.0,
+    heard_snoc seen noted guest (number + 1) forms outcomes form o (omega (arith, same)) h.1
+        (subst (λ n. IsHeard disk first seen noted guest n form o) {x = number + length (x ∷ outcomes)} {y = number + 1 + length outcomes} (omega arith) last),
+  )
+
+  -- a place is within what was seen
+  pub place_within : (seen : List Step) (noted : List Note) (guest number p : ℕ) (forms : List Form) (outcomes : List Outcome) → AreHeard disk first seen noted guest number forms outcomes → Has p (places_in outcomes) → (1 ≤ p) × (p ≤ length seen)
+  place_within seen noted guest number p forms [] h has = absurd has
+  place_within seen noted guest number p [] (o ∷ outcomes) h has = absurd h
+  place_within seen noted guest number p (f ∷ forms) (Err x ∷ outcomes) h has = place_within seen noted guest (number + 1) p forms outcomes h.1 has
+  place_within seen noted guest number p (f ∷ forms) (Ok done ∷ outcomes) h (inl e) =
+      let at = h.0 in
+      let long = starts-length seen (done_steps at.before ++ Done (entry_of guest number (call_of f)) ∷ []) at.begins in
+      let size : length (done_steps at.before ++ Done (entry_of guest number (call_of f)) ∷ []) ≡ length at.before + 1 =
+      length-append (done_steps at.before) (Done (entry_of guest number (call_of f)) ∷ []) ∙ ap (λ n. n + 1) (length-map at.before (λ e. Done e)) in
+      (omega (arith, e, at.place_is), omega (arith, e, at.place_is, long, size))
+  place_within seen noted guest number p (f ∷ forms) (Ok done ∷ outcomes) h (inr has) = place_within seen noted guest (number + 1) p forms outcomes h.1 has
+
+  -- ---- one more call
+
+  module _ (guest : ℕ) (forms : List Form) (outcomes : List Outcome) (form : Form) (old new : Known Step (Basis S T)) (hears : HasHeard disk first guest forms old outcomes) where
+    abbrev number : ℕ
+    number = length outcomes + 1
+
+    abbrev who : Caller
+    who = caller_of guest number
+
+    module _ (seen : StartsWith new.seen old.seen) (basis : Contains new.basis old.basis) where
+      knows_now : Contains new.basis (first_basis disk first)
+      knows_now = contains_through new.basis old.basis (first_basis disk first) basis hears.knows
+
+      old_heard : (fs : List Form) → AreHeard disk first new.seen new.basis.notes guest 1 (forms ++ fs) outcomes
+      old_heard fs = heard_more new.seen new.basis.notes guest 1 forms fs outcomes (all_heard_later old.seen new.seen old.basis.notes new.basis.notes guest 1 forms outcomes seen basis.notes hears.heard)
+
+      -- nothing was told
+      pub nothing_more : (fs : List Form) → new.mine ≡ old.mine → HasHeard disk first guest (forms ++ fs) new outcomes
+      nothing_more fs same = record {
+        knows = knows_now;
+        heard = old_heard fs;
+        order = hears.order;
+        owns = λ p own. go p (hears.owns p (subst (λ ms. 0 < times p ms) same own));
+      }
+        where
+          go : (p : ℕ) → OwnsAt old.seen p guest forms outcomes → OwnsAt new.seen p guest (forms ++ fs) outcomes
+          go p (inl h) = inl h
+          go p (inr b) = inr (record { before = b.before; breach = b.breach; begins = starts-through new.seen old.seen _ seen b.begins; place_is = b.place_is; breaker = more_forms b.breach 1 forms outcomes b.breaker })
+            where
+              more_forms : (b : Breach) (n : ℕ) (xs : List Form) (os : List Outcome) → HasBreacher b guest n xs os → HasBreacher b guest n (xs ++ fs) os
+              more_forms b n xs [] h = absurd h
+              more_forms b n [] (o ∷ os) h = absurd h
+              more_forms b n (x ∷ xs) (o ∷ os) (inl h) = inl h
+              more_forms b n (x ∷ xs) (o ∷ os) (inr h) = inr (more_forms b (n + 1) xs os h)
+
+      module _ (all : length outcomes ≡ length forms) where
+        last_number : (P : ℕ → Type 0) → P number → P (1 + length outcomes)
+        last_number P p = subst P {x = number} {y = 1 + length outcomes} (omega arith) p
+
+        -- it was refused, and the seat has no more of its own
+        refused : (x : ChainRefusal) → IsHeardOf disk first new.basis.notes (call_of form) x → ((p : ℕ) → 0 < times p new.mine → (0 < times p old.mine) ⊎ BreaksAt new.seen p guest (forms ++ form ∷ []) (outcomes ++ Err x ∷ []))
+            → HasHeard disk first guest (forms ++ form ∷ []) new (outcomes ++ Err x ∷ [])
+        refused x heard mine = record {
+          knows = knows_now;
+          heard = heard_snoc new.seen new.basis.notes guest 1 forms outcomes form (Err x) all
+              (all_heard_later old.seen new.seen old.basis.notes new.basis.notes guest 1 forms outcomes seen basis.notes hears.heard) heard;
+          order = subst IsRising (sym (places_snoc outcomes (Err x) ∙ append_nil (places_in outcomes))) hears.order;
+          owns = λ p own. go p (mine p own);
+        }
+          where
+            append_nil : (ps : List ℕ) → ps ++ [] ≡ ps
+            append_nil [] = refl
+            append_nil (p ∷ ps) = ap (λ qs. p ∷ qs) (append_nil ps)
+
+            go : (p : ℕ) → (0 < times p old.mine) ⊎ BreaksAt new.seen p guest (forms ++ form ∷ []) (outcomes ++ Err x ∷ []) → OwnsAt new.seen p guest (forms ++ form ∷ []) (outcomes ++ Err x ∷ [])
+            go p (inl own) = owns_later old.seen new.seen p guest forms (form ∷ []) outcomes (Err x ∷ []) seen (places_snoc outcomes (Err x)) (hears.owns p own)
+            go p (inr b) = inr b
+
+        -- it was done
+        done : (place : ℕ) (r : Reply) → IsDone disk who (call_of form) r old new place → HasHeard disk first guest (forms ++ form ∷ []) new (outcomes ++ Ok (place, r) ∷ [])
+        done place r d = record {
+          knows = knows_now;
+          heard = heard_snoc new.seen new.basis.notes guest 1 forms outcomes form (Ok (place, r)) all
+              (all_heard_later old.seen new.seen old.basis.notes new.basis.notes guest 1 forms outcomes seen basis.notes hears.heard)
+              (last_number (λ n. HasPlace disk first new.seen guest n (call_of form) (place, r)) here);
+          order = subst IsRising (sym (places_snoc outcomes (Ok (place, r)))) (rising_snoc (places_in outcomes) place hears.order (all_below (places_in outcomes) place earlier));
+          owns = λ p own. by_place p (place == p) refl (subst (λ ms. 0 < times p ms) d.mine own);
+        }
+          where
+            starts : StartsWith new.seen (done_steps d.before ++ Done (entry_of guest number (call_of form)) ∷ [])
+            starts = subst (λ xs. StartsWith new.seen xs) d.seen (starts-itself new.seen)
+
+            here : HasPlace disk first new.seen guest number (call_of form) (place, r)
+            here = record {
+              before = d.before;
+              begins = starts;
+              place_is = d.place_is;
+              placed = subst (λ o. IfSome o (λ (chain : Chain S KeepAll T). misplaced (call_of form) chain.layers ≡ None)) knows_now.first d.placed;
+              replies = subst (λ o. IfSome o (λ (chain : Chain S KeepAll T). RepliesBehind disk chain d.before (call_of form) r)) knows_now.first d.replies;
+            }
+
+            earlier : (p : ℕ) → Has p (places_in outcomes) → p < place
+            earlier p has =
+                let low = place_within old.seen old.basis.notes guest 1 p forms outcomes hears.heard has in
+                let long = starts-length (done_steps d.before) old.seen d.begins in
+                omega (arith, low.1, long, d.place_is, length-map d.before (λ e. Done e))
+
+            by_place : (p : ℕ) (b : Bool) → (place == p) ≡ b → 0 < times p (old.mine ++ place ∷ []) → OwnsAt new.seen p guest (forms ++ form ∷ []) (outcomes ++ Ok (place, r) ∷ [])
+            by_place p true same own =
+                let is : place ≡ p = eqb-true place p same in
+                inl (subst (Has p) (sym (places_snoc outcomes (Ok (place, r)))) (subst (λ q. Has p (places_in outcomes ++ q ∷ [])) (sym is) (has_last p (places_in outcomes))))
+            by_place p false other own =
+                let none : once_at p place ≡ 0 = ap (λ b. if b then 1 else 0) other in
+                owns_later old.seen new.seen p guest forms (form ∷ []) outcomes (Ok (place, r) ∷ []) seen (places_snoc outcomes (Ok (place, r))) (hears.owns p (omega (arith, own, times-push p old.mine place, none)))
+
+        -- the seat has the break for its own, if the call was what broke the session
+        module _ (call : Call) (opens : (s : ℕ) → is_named 512 (call_of form) s ≡ false → open_by (Some (breach_of who call)) s ≡ false) where
+          broken : (file count : ℕ) → HasNote new.basis.notes (notes.ChangeFailed file count) → (new.mine ≡ old.mine) ⊎ HasBroken who call old new → HasHeard disk first guest (forms ++ form ∷ []) new (outcomes ++ Err (Broken file count) ∷ [])
+          broken file count noted (inl same) = refused (Broken file count) noted (λ p own. inl (subst (λ ms. 0 < times p ms) same own))
+          broken file count noted (inr b) = refused (Broken file count) noted (λ p own. by_place p (length b.before + 1 == p) refl (subst (λ ms. 0 < times p ms) b.mine own))
+            where
+              at : (p : ℕ) → length b.before + 1 ≡ p → BreaksAt new.seen p guest (forms ++ form ∷ []) (outcomes ++ Err (Broken file count) ∷ [])
+              at p is = record {
+                before = b.before;
+                breach = breach_of who call;
+                begins = subst (λ xs. StartsWith new.seen xs) b.seen (starts-itself new.seen);
+                place_is = sym is;
+                breaker = breaker_last (breach_of who call) guest 1 forms outcomes form (Err (Broken file count)) all (refl, omega arith, opens);
+              }
+
+              by_place : (p : ℕ) (t : Bool) → (length b.before + 1 == p) ≡ t → 0 < times p (old.mine ++ (length b.before + 1) ∷ []) → (0 < times p old.mine) ⊎ BreaksAt new.seen p guest (forms ++ form ∷ []) (outcomes ++ Err (Broken file count) ∷ [])
+              by_place p true same own = inr (at p (eqb-true (length b.before + 1) p same))
+              by_place p false other own =
+                  let none : once_at p (length b.before + 1) ≡ 0 = ap (λ t. if t then 1 else 0) other in
+                  inl (omega (arith, own, times-push p old.mine (length b.before + 1), none))
+
+        -- ---- as the line asks for it
+
+        stays : (x : ChainRefusal) → IsHeardOf disk first new.basis.notes (call_of form) x → new.mine ≡ old.mine → HasHeard disk first guest (forms ++ form ∷ []) new (outcomes ++ Err x ∷ [])
+        stays x heard same = refused x heard (λ p own. inl (subst (λ ms. 0 < times p ms) same own))
+
+        at_place : (x : Option ChainRefusal) (call : Call) → IfSome new.basis.first (λ (chain : Chain S KeepAll T). misplaced call chain.layers ≡ x) → misplaced call first.layers ≡ x
+        at_place x call h = subst (λ o. IfSome o (λ (chain : Chain S KeepAll T). misplaced call chain.layers ≡ x)) knows_now.first h
+
+        -- what is kept of it
+        abbrev kept_outcomes : Reply → Result ℕ ChainRefusal → List Outcome
+        kept_outcomes r answer = if is_want answer then outcomes else outcomes ++ outcome_of r answer ∷ []
+
+        abbrev Kept : Result ℕ ChainRefusal → Reply → Type 0
+        Kept answer r = HasHeard disk first guest (forms ++ form ∷ []) new (kept_outcomes r answer)
+
+        own_opens : (s : ℕ) → is_named 512 (call_of form) s ≡ false → open_by (Some (breach_of who (call_of form))) s ≡ false
+        own_opens s = go form
+          where
+            go : (f : Form) → is_named 512 (call_of f) s ≡ false → open_by (Some (breach_of who (call_of f))) s ≡ false
+            go (Read from count) h = nothing from s
+            go (Write from count byte) h = h
+            go (Trim from count) h = h
+            go Flush h = nothing 0 s
+            go (Fetch stripe) h = nothing 0 s
+            go Put h = nothing 0 s
+            go Copy h = nothing 0 s
+            go Finish h = nothing 0 s
+
+        by_call : (r : Reply) (answer : Result ℕ ChainRefusal) → Answers disk who (call_of form) r old new answer → Kept answer r
+        by_call r (Ok place) a = done place r a
+        by_call r (Err EmptyRange) a = stays EmptyRange (at_place (Some EmptyRange) (call_of form) a.1) a.0
+        by_call r (Err (OutOfRange x y z)) a = stays (OutOfRange x y z) (at_place (Some (OutOfRange x y z)) (call_of form) a.1) a.0
+        by_call r (Err (TooLong x y)) a = stays (TooLong x y) (at_place (Some (TooLong x y)) (call_of form) a.1) a.0
+        by_call r (Err ReadOnly) a = stays ReadOnly (at_place (Some ReadOnly) (call_of form) a.1) a.0
+        by_call r (Err (Broken file count)) a = broken (call_of form) own_opens file count a.1 a.0
+        by_call r (Err (Spent t)) a = stays (Spent t) a.1.0 a.0
+        by_call r (Err (FileFull next)) a = stays (FileFull next) (at_place None (call_of form) a.1.0, a.1.1) a.0
+        by_call r (Err (ReadFault file count)) a =
+            stays (ReadFault file count) (at_place None (call_of form) a.1.0, a.1.1, λ was. a.1.2 (hears.knows.notes (notes.ReadFailed file count) was)) a.0
+        by_call r (Err NoMerge) a = absurd a.1
+        by_call r (Err (Stale taken now)) a = absurd a.1
+        by_call r (Err (NotYet stripe)) a = absurd a.1
+        by_call r (Err (Abandoned file count)) a = absurd a.1
+        by_call r (Err (NoStripe stripe stripes)) a = absurd a.1
+        by_call r (Err NoPiece) a = absurd a.1
+        by_call r (Err NoRoom) a = nothing_more (form ∷ []) a.0
+
+        module _ (sector : first.layers.geometry.sector ≡ 512) (many : asks_too_many form ≡ true) where
+          -- without sectors it is an empty range
+          empty : misplaced (emptied form) first.layers ≡ Some EmptyRange
+          empty = go form many
+            where
+              go : (f : Form) → asks_too_many f ≡ true → misplaced (emptied f) first.layers ≡ Some EmptyRange
+              go (Read from count) e = refl
+              go (Write from count byte) e =
+                  ap (λ z. out_of (range_refusal from (0 / z) 2048 first.layers.geometry.sectors) (barred (calls.Write from []) (is_some first.layers.leaf))) sector
+              go (Trim from count) e = cc
+              go Flush e = cc
+              go (Fetch stripe) e = cc
+              go Put e = cc
+              go Copy e = cc
+              go Finish e = cc
+
+          -- with them it is too long
+          long : misplaced (call_of form) first.layers ≡ Some (TooLong (count_of form) 2048)
+          long = go form many
+            where
+              longer : (from count sectors : ℕ) (later : Option ChainRefusal) → nat_lt 2048 count ≡ true → out_of (range_refusal from count 2048 sectors) later ≡ Some (TooLong count 2048)
+              longer from count sectors later e =
+                  let some : (count == 0) ≡ false = ne_eqb count 0 (λ z. let less : 2048 < count = ltb-true 2048 count e in absurd (omega (arith, less, z))) in
+                  ap₂ (λ a b. out_of (if a then Err EmptyRange else if b then Err (TooLong count 2048) else if nat_lt sectors (from + count) then Err (OutOfRange from count sectors) else Ok tt) later) some e
+
+              go : (f : Form) → asks_too_many f ≡ true → misplaced (call_of f) first.layers ≡ Some (TooLong (count_of f) 2048)
+              go (Read from count) e = longer from count first.layers.geometry.sectors _ e
+              go (Write from count byte) e =
+                  let size : length (replicate (512 * count) byte) / first.layers.geometry.sector ≡ count = ap₂ (λ a z. a / z) (length-replicate (512 * count) byte) sector ∙ whole count in
+                  ap (λ n. out_of (range_refusal from n 2048 first.layers.geometry.sectors) (barred (calls.Write from (replicate (512 * count) byte)) (is_some first.layers.leaf))) size
+                  ∙ longer from count first.layers.geometry.sectors _ e
+                where
+                  whole : (n : ℕ) → 512 * n / 512 ≡ n
+                  whole n = omega arith
+              go (Trim from count) e = cc
+              go Flush e = cc
+              go (Fetch stripe) e = cc
+              go Put e = cc
+              go Copy e = cc
+              go Finish e = cc
+
+          never : (x : ChainRefusal) → misplaced (emptied form) first.layers ≡ Some x → EmptyRange ≡ x
+          never x h = some_same (sym empty ∙ h)
+
+          never_placed : {P : Type 0} → misplaced (emptied form) first.layers ≡ None → P
+          never_placed h = absurd (none_some (sym h ∙ empty))
+
+          no_opens : (s : ℕ) → is_named 512 (call_of form) s ≡ false → open_by (Some (breach_of who (emptied form))) s ≡ false
+          no_opens s h = go form
+            where
+              go : (f : Form) → open_by (Some (breach_of who (emptied f))) s ≡ false
+              go (Read from count) = nothing from s
+              go (Write from count byte) = nothing from s
+              go (Trim from count) = nothing 0 s
+              go Flush = nothing 0 s
+              go (Fetch stripe) = nothing 0 s
+              go Put = nothing 0 s
+              go Copy = nothing 0 s
+              go Finish = nothing 0 s
+
+          by_empty : (r kept : Reply) (made : Result ℕ ChainRefusal) → Answers disk who (emptied form) r old new made → Kept (too_long (count_of form) made) kept
+          by_empty r kept (Ok place) a = never_placed (at_place None (emptied form) a.placed)
+          by_empty r kept (Err EmptyRange) a = stays (TooLong (count_of form) 2048) long a.0
+          by_empty r kept (Err (OutOfRange x y z)) a = let e = never (OutOfRange x y z) (at_place (Some (OutOfRange x y z)) (emptied form) a.1) in cc
+          by_empty r kept (Err (TooLong x y)) a = let e = never (TooLong x y) (at_place (Some (TooLong x y)) (emptied form) a.1) in cc
+          by_empty r kept (Err ReadOnly) a = let e = never ReadOnly (at_place (Some ReadOnly) (emptied form) a.1) in cc
+          by_empty r kept (Err (Broken file count)) a = broken (emptied form) no_opens file count a.1 a.0
+          by_empty r kept (Err (Spent t)) a = stays (Spent t) a.1.0 a.0
+          by_empty r kept (Err (FileFull next)) a = never_placed (at_place None (emptied form) a.1.0)
+          by_empty r kept (Err (ReadFault file count)) a = never_placed (at_place None (emptied form) a.1.0)
+          by_empty r kept (Err NoMerge) a = absurd a.1
+          by_empty r kept (Err (Stale taken now)) a = absurd a.1
+          by_empty r kept (Err (NotYet stripe)) a = absurd a.1
+          by_empty r kept (Err (Abandoned file count)) a = absurd a.1
+          by_empty r kept (Err (NoStripe stripe stripes)) a = absurd a.1
+          by_empty r kept (Err NoPiece) a = absurd a.1
+          by_empty r kept (Err NoRoom) a = nothing_more (form ∷ []) a.0
+
+        -- whichever it asks for
+        pub asked_kept : first.layers.geometry.sector ≡ 512 → (room : List ℕ) (answer : Result ℕ ChainRefusal) → IsAsked disk who form room old new answer → Kept answer (shown_in room form)
+        asked_kept sector room answer = go (asks_too_many form) refl
+          where
+            shown_is : (f : Form) → asks_too_many f ≡ false → shown_in room f ≡ reply_in room f
+            shown_is (Read from count) e = ap (λ b. replies.Bytes (if b then [] else take (512 * count) room)) e
+            shown_is (Write from count byte) e = refl
+            shown_is (Trim from count) e = refl
+            shown_is Flush e = refl
+            shown_is (Fetch stripe) e = refl
+            shown_is Put e = refl
+            shown_is Copy e = refl
+            shown_is Finish e = refl
+
+            go : (b : Bool) → asks_too_many form ≡ b → MatchBool b ((made : Result ℕ ChainRefusal) × (r : Reply) × IsCall disk who (emptied form) r old new made × (answer ≡ too_long (count_of form) made)) (IsCall disk who (call_of form) (reply_in room form) old new answer)
+                → Kept answer (shown_in room form)
+            go true many h = subst (λ a. Kept a (shown_in room form)) (sym h.3) (by_empty sector many h.1 (shown_in room form) h.0 h.2.answers)
+            go false few h = subst (λ r. Kept answer r) (sym (shown_is form few)) (by_call (reply_in room form) answer h.answers)

@@ -1,0 +1,160 @@
+-- Guests' seats are split from the first, and joined into it again.
+use Rattle.std.proofs.Common.{◌≡◌, ◌≢◌, ◌⊎◌, ◌+◌, ◌-◌, ◌<◌, ◌≤◌, ◌==◌, ◌++◌, ◌∷◌, ℕ, zero, suc, Bool, true, false, [], List, length, Option, None, Some, inl, inr, refl, sym, ap, ap₂, subst, ◌∙◌, arith, length-append}
+use Rattle.std.specs.Prelude.{◌||◌, All, get_or}
+use Rattle.std.proofs.lemmas.Bool.{cases_eq, or_parts}
+use Rattle.std.proofs.lemmas.List.Elements.{All-cons}
+use Rattle.store_model.specs.Disk.{Disk}
+use Rattle.guest_model.specs.declared.recorder.KeepAll.{KeepAll}
+use Rattle.chain_core.specs.declared.chain.Chain.{Chain}
+use Rattle.script.specs.declared.form.Line.{Line}
+use Rattle.script.specs.declared.told.ToldCall.{ToldCall}
+use Rattle.seats.specs.Counting.{times}
+use Rattle.seats.specs.Families.{with_join, with_split}
+use Rattle.seats.specs.declared.Family.{Family}
+use Rattle.seats.proofs.Counting.{times-append}
+use Rattle.turn_lock.specs.Histories.{StartsWith}
+use Rattle.turn_lock.specs.Seats.{Known, TableId, first_seat, split_off, together_of}
+use Rattle.shared_chain.specs.declared.basis.Basis.{Basis}
+use Rattle.shared_chain.specs.declared.basis.Step.{Step}
+use Rattle.shared_chain.specs.Bases.{Contains, together}
+use Rattle.shared_chain.specs.Laws.{contains_through}
+use Rattle.guest_io.specs.Guests.{IsFree}
+use Rattle.serve_session.specs.declared.actor.Actor.{Actor}
+use Rattle.serve_session.specs.Actors.{AreHeard, AreJoined, HasHeard, HasRun, IsActor, OwnsAt, first_basis}
+use Rattle.serve_session.specs.Lists.{AreActors, AreFresh, HasJoined, IsFresh, IsReady, RunsEach, with_splits}
+use Rattle.serve_session.specs.Served.{EachGuest, IsRising, Outcome, SomeGuest, forms_of, places_in, told_calls, told_guests}
+use Rattle.serve_session.proofs.Guests.{each_map, each_snoc, some_last, some_left, some_map, told_guests_snoc}
+use Rattle.serve_session.proofs.Hearing.{all_heard_later, owns_still}
+
+-- one more was joined
+pub join_more : (f now new : Family) (n m : ℕ) → now ≡ record f { joins = f.joins + n } → new ≡ with_join now → m ≡ n + 1 → new ≡ record f { joins = f.joins + m }
+join_more f now new n m is new_is more = new_is ∙ ap with_join is ∙ ap (λ k. record f { joins = k }) {x = f.joins + n + 1} {y = f.joins + m} (omega (arith, more))
+
+module _ {S T : Type 0} where
+  -- one more was split off
+  pub split_more : (first now new : Known Step (Basis S T)) (n m : ℕ) → now ≡ with_splits first n → new ≡ record now { family = with_split (now.family) } → m ≡ n + 1 → new ≡ with_splits first m
+  split_more first now new n m is new_is more =
+      new_is ∙ ap (λ (s : Known Step (Basis S T)). record s { family = with_split (s.family) }) is
+      ∙ ap (λ k. record first { family = record (first.family) { splits = k } }) {x = first.family.splits + n + 1} {y = first.family.splits + m} (omega (arith, more))
+
+  -- ---- guests that have made no call
+
+  pub fresh_snoc : (seat : Known Step (Basis S T)) (n : ℕ) (actors : List (Actor S T)) (actor : Actor S T) → AreFresh seat n actors → IsFresh seat (n - length actors) actor → AreFresh seat n (actors ++ actor ∷ [])
+  fresh_snoc seat n [] actor h last = (subst (λ k. IsFresh seat k actor) {x = n - 0} (omega arith) last, tt)
+  fresh_snoc seat n (a ∷ actors) actor h last = (h.0, fresh_snoc seat (n - 1) actors actor h.1 (subst (λ k. IsFresh seat k actor) {x = n - length (a ∷ actors)} {y = n - 1 - length actors} (omega arith) last))
+
+  pub fresh_ready : (seat : Known Step (Basis S T)) (lock : TableId) (n : ℕ) (actors : List (Actor S T)) → seat.lock ≡ lock → AreFresh seat n actors → All (IsReady lock) actors
+  fresh_ready seat lock n [] of_lock h = λ i x within. absurd (omega (arith, within))
+  fresh_ready seat lock n (a ∷ actors) of_lock h =
+      All-cons (IsReady lock) a actors ((ap (λ (s : Known Step (Basis S T)). s.lock) h.0.seat ∙ of_lock, ap (λ (s : Known Step (Basis S T)). s.turn) h.0.seat), h.0.room) (fresh_ready seat lock (n - 1) actors of_lock h.1)
+
+  module _ (disk : S → Disk) (first : Chain S KeepAll T) (lock : TableId) (names : List (List ℕ)) (lines : List Line) where
+    fresh_actor : (seat : Known Step (Basis S T)) (n : ℕ) (a : Actor S T) → seat.lock ≡ lock → Contains seat.basis (first_basis disk first) → first.layers.geometry.sector ≡ 512 → IsFresh seat n a → IsActor disk first lock names [] a
+    fresh_actor seat n a of_lock knows sector h = record {
+      free = (ap (λ (s : Known Step (Basis S T)). s.lock) h.seat ∙ of_lock, ap (λ (s : Known Step (Basis S T)). s.turn) h.seat);
+      number = h.guest ∙ sym h.number_is;
+      room = h.room;
+      sector = sector;
+      outcomes = [];
+      hears = record {
+        knows = subst (λ (s : Known Step (Basis S T)). Contains s.basis (first_basis disk first)) (sym h.seat) knows;
+        heard = tt;
+        order = tt;
+        owns = λ p own. absurd (none p (subst (λ ms. 0 < times p ms) (ap (λ (s : Known Step (Basis S T)). s.mine) h.seat) own));
+      };
+      kept = λ short. record { all = refl; next = h.next; told = h.told };
+    }
+      where
+        none : (p : ℕ) → 0 < times p [] → ⊥
+        none p less = absurd (omega (arith, less))
+
+    -- and those that have made all
+    pub all_run : (seat : Known Step (Basis S T)) (n : ℕ) (old new : List (Actor S T)) → seat.lock ≡ lock → Contains seat.basis (first_basis disk first) → first.layers.geometry.sector ≡ 512 → AreFresh seat n old
+        → RunsEach disk lock names lines old new → AreActors (HasRun disk first lock names lines) n new
+    all_run seat n [] [] of_lock knows sector h runs = tt
+    all_run seat n [] (b ∷ new) of_lock knows sector h runs = absurd (omega (arith, runs.count))
+    all_run seat n (a ∷ old) [] of_lock knows sector h runs = absurd (omega (arith, runs.count))
+    all_run seat n (a ∷ old) (b ∷ new) of_lock knows sector h runs =
+        let one = runs.each 0 a (omega arith) in (
+          one.0 ∙ h.0.number_is,
+          one.1 first (fresh_actor seat n a of_lock knows sector h.0),
+          all_run seat (n - 1) old new of_lock knows sector h.1 (record { count = omega (arith, runs.count); each = λ i d within. runs.each (suc i) d (omega (arith, within)) }),
+        )
+
+    -- the last of them
+    pub last_actor : (P : Actor S T → Type 0) (n : ℕ) (actors : List (Actor S T)) (a : Actor S T) → AreActors P n (actors ++ a ∷ []) → AreActors P n actors × (a.number ≡ n - length actors) × P a
+    last_actor P n [] a h = (tt, subst (λ k. a.number ≡ k) {x = n} {y = n - 0} (omega arith) h.0, h.1)
+    last_actor P n (b ∷ actors) a h =
+        let rest = last_actor P (n - 1) actors a h.2 in
+        ((h.0, h.1, rest.0), subst (λ k. a.number ≡ k) {x = n - 1 - length actors} {y = n - length (b ∷ actors)} (omega arith) rest.1, rest.2)
+
+    -- ---- joining
+
+    -- no seat was joined yet
+    pub none_joined : (seat : Known Step (Basis S T)) → IsFree lock seat → seat.family.is_first ≡ true → Contains seat.basis (first_basis disk first) → seat.mine ≡ [] → AreJoined disk first lock names lines seat [] false []
+    none_joined seat free leads knows mine = record {
+      free = free;
+      leads = leads;
+      knows = knows;
+      heard = tt;
+      order = tt;
+      owns = λ p own. absurd (none p (subst (λ ms. 0 < times p ms) mine own));
+      count = refl;
+      kept = λ short. (tt, refl);
+    }
+      where
+        none : (p : ℕ) → 0 < times p [] → ⊥
+        none p less = absurd (omega (arith, less))
+
+    module _ (seat new : Known Step (Basis S T)) (told : List (List ToldCall)) (short : Bool) (guests : List (List Outcome)) (j : AreJoined disk first lock names lines seat told short guests) (a : Actor S T) (run : HasRun disk first lock names lines a)
+        (number : a.number ≡ length guests + 1) (both : new ≡ together_of together seat a.guest.seat) (seen : StartsWith new.seen seat.seen × StartsWith new.seen a.guest.seat.seen) (basis : Contains new.basis seat.basis × Contains new.basis a.guest.seat.basis) where
+      abbrev number_is : a.number ≡ 1 + length guests
+      number_is = omega (arith, number)
+
+      hears : HasHeard disk first (1 + length guests) (forms_of (1 + length guests) lines) a.guest.seat run.outcomes
+      hears = subst (λ n. HasHeard disk first n (forms_of n lines) a.guest.seat run.outcomes) number_is run.hears
+
+      abbrev Heard : Known Step (Basis S T) → ℕ → List Outcome → Type 0
+      Heard s guest outcomes = AreHeard disk first s.seen s.basis.notes guest 1 (forms_of guest lines) outcomes
+
+      abbrev Owns : Known Step (Basis S T) → ℕ → ℕ → List Outcome → Type 0
+      Owns s p guest outcomes = OwnsAt s.seen p guest (forms_of guest lines) outcomes
+
+      owns_now : (p : ℕ) → 0 < times p new.mine → SomeGuest (Owns new p) 1 (guests ++ run.outcomes ∷ [])
+      owns_now p own = go (cases_eq (times p seat.mine) 0)
+        where
+          mine : times p new.mine ≡ times p seat.mine + times p a.guest.seat.mine
+          mine = ap (λ (s : Known Step (Basis S T)). times p s.mine) both ∙ times-append p seat.mine a.guest.seat.mine
+
+          go : (times p seat.mine ≡ 0) ⊎ (times p seat.mine ≢ 0) → SomeGuest (Owns new p) 1 (guests ++ run.outcomes ∷ [])
+          go (inl none) = some_last (Owns new p) 1 guests run.outcomes (owns_still a.guest.seat.seen new.seen p (1 + length guests) (forms_of (1 + length guests) lines) run.outcomes seen.1 (hears.owns p (omega (arith, own, mine, none))))
+          go (inr some) =
+              some_left (Owns new p) 1 guests (run.outcomes ∷ [])
+              (some_map (Owns seat p) (Owns new p) 1 guests (λ g os. owns_still seat.seen new.seen p g (forms_of g lines) os seen.0) (j.owns p (positive (times p seat.mine) some)))
+            where
+              positive : (n : ℕ) → n ≢ 0 → 0 < n
+              positive zero ne = absurd (ne refl)
+              positive (suc n) ne = omega arith
+
+      pub one_joined : AreJoined disk first lock names lines new (told ++ a.told.items ∷ []) (short || a.is_short) (guests ++ run.outcomes ∷ [])
+      one_joined = record {
+        free = (ap (λ (s : Known Step (Basis S T)). s.lock) both ∙ j.free.0, ap (λ (s : Known Step (Basis S T)). s.turn) both ∙ j.free.1);
+        leads = ap (λ (s : Known Step (Basis S T)). s.family.is_first) both ∙ j.leads;
+        knows = contains_through new.basis seat.basis (first_basis disk first) basis.0 j.knows;
+        heard = each_snoc (Heard new) 1 guests run.outcomes
+            (each_map (Heard seat) (Heard new) 1 guests (λ g os. all_heard_later disk first seat.seen new.seen seat.basis.notes new.basis.notes g 1 (forms_of g lines) os seen.0 basis.0.notes) j.heard)
+            (all_heard_later disk first a.guest.seat.seen new.seen a.guest.seat.basis.notes new.basis.notes (1 + length guests) 1 (forms_of (1 + length guests) lines) run.outcomes seen.1 basis.1.notes hears.heard);
+        order = each_snoc (λ g os. IsRising (places_in os)) 1 guests run.outcomes j.order hears.order;
+        owns = owns_now;
+        count = length-append told (a.told.items ∷ []) ∙ ap (λ n. n + 1) j.count ∙ sym (length-append guests (run.outcomes ∷ []));
+        kept = λ e. whole (or_parts short a.is_short e);
+      }
+        where
+          whole : (short ≡ false) × (a.is_short ≡ false)
+              → EachGuest (λ g os. length os ≡ length (forms_of g lines)) 1 (guests ++ run.outcomes ∷ []) × (told ++ a.told.items ∷ [] ≡ told_guests names 1 lines (guests ++ run.outcomes ∷ []))
+          whole e =
+              let k = j.kept e.0 in
+              let l = run.kept e.1 in (
+                each_snoc (λ g os. length os ≡ length (forms_of g lines)) 1 guests run.outcomes k.0 (subst (λ n. length run.outcomes ≡ length (forms_of n lines)) number_is l.all),
+                ap₂ (λ ts t. ts ++ t ∷ []) k.1 (l.told ∙ ap (λ n. told_calls names (forms_of n lines) run.outcomes) number_is) ∙ sym (told_guests_snoc names 1 lines guests run.outcomes),
+              )

@@ -1,0 +1,109 @@
+-- A guest of a script, behind one of its lines.
+use Rattle.std.proofs.Common.{◌≡◌, ◌+◌, ◌^◌, ◌<◌, ◌++◌, ◌∷◌, ℕ, Bool, true, false, [], List, length, Option, None, Result, refl, sym, ap, subst, ◌∙◌, arith, length-append}
+use Rattle.std.specs.Prelude.{◌||◌, MatchBool, if◌then◌else◌, not}
+use Rattle.std.proofs.lemmas.List.{append-nil}
+use Rattle.store_model.specs.Disk.{Disk}
+use Rattle.guest_model.specs.declared.call.Call.{Call}
+use Rattle.guest_model.specs.declared.call.Caller.{Caller}
+use Rattle.guest_model.specs.declared.call.Reply.{Reply}
+use Rattle.guest_model.specs.declared.recorder.KeepAll.{KeepAll}
+use Rattle.guest_model.specs.declared.refusal.ChainRefusal.{ChainRefusal}
+use Rattle.guest_model.specs.Counts.{one_more}
+use Rattle.chain_core.specs.declared.chain.Chain.{Chain}
+use Rattle.layer_session.proofs.Equal.{true_false}
+use Rattle.script.specs.Grammar.{is_call}
+use Rattle.script.specs.declared.form.Form.{Form}
+use Rattle.turn_lock.specs.Seats.{Known, TableId}
+use Rattle.turn_lock.proofs.Fronts.{starts-itself}
+use Rattle.shared_chain.specs.declared.basis.Basis.{Basis}
+use Rattle.shared_chain.specs.declared.basis.Step.{Step}
+use Rattle.shared_chain.specs.Laws.{contains_itself}
+use Rattle.guest_io.specs.Guests.{IsCall, IsFree, KeepsSeat, caller_of}
+use Rattle.serve_session.specs.declared.actor.Actor.{Actor}
+use Rattle.serve_session.specs.Actors.{HasHeard, HasKept, IsActor, called_form}
+use Rattle.serve_session.specs.Asking.{IsAsked, asks_too_many, count_of, emptied, is_want, outcome_of, reply_in, shown_in, too_long}
+use Rattle.serve_session.specs.Served.{Outcome, call_of, told_call}
+use Rattle.serve_session.proofs.Guests.{told_snoc}
+use Rattle.serve_session.proofs.Hearing.{asked_kept, next_one, nothing_more}
+
+module _ {S T : Type 0} where
+  -- whatever a line asks for, the call keeps the seat
+  asked_seat : (disk : S → Disk) (who : Caller) (form : Form) (room : List ℕ) (old new : Known Step (Basis S T)) (answer : Result ℕ ChainRefusal) → IsAsked disk who form room old new answer → KeepsSeat old new
+  asked_seat disk who form room old new answer = go (asks_too_many form)
+    where
+      go : (b : Bool) → MatchBool b ((made : Result ℕ ChainRefusal) × (r : Reply) × IsCall disk who (emptied form) r old new made × (answer ≡ too_long (count_of form) made)) (IsCall disk who (call_of form) (reply_in room form) old new answer) → KeepsSeat old new
+      go true h = h.2.keeps
+      go false h = h.keeps
+
+  pub asked_free : (disk : S → Disk) (who : Caller) (form : Form) (room : List ℕ) (lock : TableId) (old new : Known Step (Basis S T)) (answer : Result ℕ ChainRefusal) → IsAsked disk who form room old new answer → IsFree lock old → IsFree lock new
+  asked_free disk who form room lock old new answer asked free = let k = asked_seat disk who form room old new answer asked in (k.lock ∙ free.0, k.free)
+
+  module _ (disk : S → Disk) (first : Chain S KeepAll T) (lock : TableId) (names : List (List ℕ)) (forms : List Form) (form : Form) (old : Actor S T) (is : IsActor disk first lock names forms old) where
+    more_heard : (fs : List Form) → HasHeard disk first old.number (forms ++ fs) old.guest.seat is.outcomes
+    more_heard fs =
+        nothing_more disk first old.number forms is.outcomes form old.guest.seat old.guest.seat is.hears (starts-itself old.guest.seat.seen) (contains_itself old.guest.seat.basis) fs refl
+
+    -- memory has run out before
+    pub short_passes : old.is_short ≡ true → IsActor disk first lock names (forms ++ called_form form) old
+    short_passes short = record {
+      free = is.free;
+      number = is.number;
+      room = is.room;
+      sector = is.sector;
+      outcomes = is.outcomes;
+      hears = more_heard (called_form form);
+      kept = λ e. absurd (true_false (sym short ∙ e));
+    }
+
+    -- it is no call
+    pub other_passes : is_call form ≡ false → IsActor disk first lock names (forms ++ called_form form) old
+    other_passes other = subst (λ fs. IsActor disk first lock names fs old) (sym (ap (λ b. forms ++ (if b then form ∷ [] else [])) other ∙ append-nil forms)) is
+
+    pub passes : (old.is_short || not (is_call form)) ≡ true → IsActor disk first lock names (forms ++ called_form form) old
+    passes h = go old.is_short refl (is_call form) refl h
+      where
+        go : (a : Bool) → old.is_short ≡ a → (b : Bool) → is_call form ≡ b → (a || not b) ≡ true → IsActor disk first lock names (forms ++ called_form form) old
+        go true short b call h = short_passes short
+        go false short true call h = absurd (true_false (sym h))
+        go false short false call h = other_passes call
+
+    -- the call was made
+    module _ (room : List ℕ) (seat : Known Step (Basis S T)) (answer : Result ℕ ChainRefusal) (asked : IsAsked disk (caller_of old.guest.number old.guest.next) form room old.guest.seat seat answer) (few : length forms < 2 ^ 32) (memory : old.is_short ≡ false)
+        (call : is_call form ≡ true) where
+      kept : HasKept disk first names forms old is.outcomes
+      kept = is.kept memory
+
+      told : length is.outcomes + 1 ≡ old.guest.next
+      told = sym kept.next
+
+      asked_by : IsAsked disk (caller_of old.number (length is.outcomes + 1)) form room old.guest.seat seat answer
+      asked_by =
+          subst (λ n. IsAsked disk (caller_of old.number n) form room old.guest.seat seat answer) (sym told)
+          (subst (λ k. IsAsked disk (caller_of k old.guest.next) form room old.guest.seat seat answer) is.number asked)
+
+      abbrev outcomes_after : List Outcome
+      outcomes_after = if is_want answer then is.outcomes else is.outcomes ++ outcome_of (shown_in room form) answer ∷ []
+
+      heard : HasHeard disk first old.number (forms ++ form ∷ []) seat outcomes_after
+      heard =
+          let k = asked_seat disk (caller_of old.guest.number old.guest.next) form room old.guest.seat seat answer asked in
+          asked_kept disk first old.number forms is.outcomes form old.guest.seat seat is.hears k.seen k.basis kept.all is.sector room answer asked_by
+
+      pub called : (a : Actor S T) → a.guest.seat ≡ seat → a.guest.number ≡ old.guest.number → a.guest.next ≡ one_more old.guest.next → a.number ≡ old.number → length a.room.items ≡ 1048576
+          → (a.is_short ≡ false → (is_want answer ≡ false) × (a.told.items ≡ old.told.items ++ told_call names form (outcome_of (shown_in room form) answer) ∷ [])) → IsActor disk first lock names (forms ++ called_form form) a
+      called a seat_is guest next number rooms keeps = subst (λ fs. IsActor disk first lock names (forms ++ fs) a) (sym (ap (λ b. if b then form ∷ [] else []) call)) (record {
+        free = subst (λ s. IsFree lock s) (sym seat_is) (asked_free disk (caller_of old.guest.number old.guest.next) form room lock old.guest.seat seat answer asked is.free);
+        number = guest ∙ is.number ∙ sym number;
+        room = rooms;
+        sector = is.sector;
+        outcomes = outcomes_after;
+        hears = subst (λ n. HasHeard disk first n (forms ++ form ∷ []) a.guest.seat outcomes_after) (sym number) (subst (λ s. HasHeard disk first old.number (forms ++ form ∷ []) s outcomes_after) (sym seat_is) heard);
+        kept = λ short.
+            let k = keeps short in
+            subst (λ b. HasKept disk first names (forms ++ form ∷ []) a (if b then is.outcomes else is.outcomes ++ outcome_of (shown_in room form) answer ∷ [])) (sym k.0)
+            (record {
+              all = length-append is.outcomes (outcome_of (shown_in room form) answer ∷ []) ∙ ap (λ n. n + 1) kept.all ∙ sym (length-append forms (form ∷ []));
+              next = next ∙ next_one old.guest.next (length is.outcomes) kept.next (subst (λ n. n < 2 ^ 32) (sym kept.all) few) ∙ ap (λ n. n + 1) (sym (length-append is.outcomes (outcome_of (shown_in room form) answer ∷ [])));
+              told = k.1 ∙ ap (λ ts. ts ++ told_call names form (outcome_of (shown_in room form) answer) ∷ []) kept.told ∙ sym (told_snoc names forms is.outcomes form (outcome_of (shown_in room form) answer) kept.all);
+            });
+      })

@@ -1,0 +1,54 @@
+use Rattle.std.proofs.Common.{◌≡◌, ◌+◌, ◌++◌, ◌∷◌, [], ap, length, length-append, map, sym, subst, ◌∙◌, arith}
+use Rattle.std.specs.Prelude.{◌||◌}
+use Rattle.turn_lock.specs.Histories.{StartsWith}
+use Rattle.turn_lock.specs.Seats.{together_of}
+use Rattle.shared_chain.specs.Bases.{Contains, together}
+use Rattle.serve_session.specs.Actors.{AreJoined, HasRun}
+use Rattle.serve_session.specs.Lists.{AreActors}
+use Rattle.serve_session.proofs.Joining.{join_more, last_actor, one_joined}
+use Rattle.serve_session.proofs.serving.end_actors.Goals as goal
+use Rattle.serve_session.proofs.serving.end_actors.Goals.{then-is_short, else-is_short}
+
+pub join-requires-clause-own : goal.join-requires-clause-own
+join-requires-clause-own g c =
+    let P = HasRun g.S.Store.disk c.args.chain.now.value.first c.args.lock.now (map g.N.AsStr.text c.args.names.now) c.args.lines.now in
+    let n = length c.args.actors.now.items in
+    let last = last_actor g.S.Store.disk c.args.chain.now.value.first c.args.lock.now (map g.N.AsStr.text c.args.names.now) c.args.lines.now P n c.pop.new.self.items c.in-Some.actor (subst (AreActors P n) c.in-Some.ensures.items c.loop-actor.invariant.left) in
+    (c.loop-actor.invariant.joined.free.0, ap (λ s. s.lock) c.end-seat.ensures.0 ∙ last.2.free.0)
+
+pub join-requires-clause-free : goal.join-requires-clause-free
+join-requires-clause-free g c =
+    let P = HasRun g.S.Store.disk c.args.chain.now.value.first c.args.lock.now (map g.N.AsStr.text c.args.names.now) c.args.lines.now in
+    let n = length c.args.actors.now.items in
+    let last = last_actor g.S.Store.disk c.args.chain.now.value.first c.args.lock.now (map g.N.AsStr.text c.args.names.now) c.args.lines.now P n c.pop.new.self.items c.in-Some.actor (subst (AreActors P n) c.in-Some.ensures.items c.loop-actor.invariant.left) in
+    (c.loop-actor.invariant.joined.free.1, ap (λ s. s.turn) c.end-seat.ensures.0 ∙ last.2.free.1)
+
+pub loop-actor-preserved : goal.loop-actor-preserved
+loop-actor-preserved g c =
+    let disk = g.S.Store.disk in
+    let names = map g.N.AsStr.text c.args.names.now in
+    let P = HasRun disk c.args.chain.now.value.first c.args.lock.now names c.args.lines.now in
+    let n = length c.args.actors.now.items in
+    let i = c.loop-actor.invariant in
+    let a = c.in-Some.actor in
+    let last = last_actor disk c.args.chain.now.value.first c.args.lock.now names c.args.lines.now P n c.pop.new.self.items a (subst (AreActors P n) c.in-Some.ensures.items i.left) in
+    let popped : length c.loop-actor.actors.items ≡ length c.pop.new.self.items + 1 = ap length c.in-Some.ensures.items ∙ length-append c.pop.new.self.items (a ∷ []) in
+    let outcomes = last.2.outcomes in
+    let more : length (i.guests ++ outcomes ∷ []) ≡ length i.guests + 1 = length-append i.guests (outcomes ∷ []) in
+    let met = subst (λ s. (c.join.new.first ≡ together_of together c.loop-actor.first s) × (StartsWith c.join.new.first.seen c.loop-actor.first.seen × StartsWith c.join.new.first.seen s.seen) × (Contains c.join.new.first.basis c.loop-actor.first.basis × Contains c.join.new.first.basis s.basis))
+    c.end-seat.ensures.0 (c.join.ensures.both, c.join.ensures.seen, c.join.ensures.basis) in
+    let told = c.push_reserved.ensures.items ∙ ap (λ t. c.loop-actor.told.items ++ t ∷ []) (c.from_vec.ensures ∙ ap (λ v. v.items) c.end-seat.ensures.1) in
+    let short : c.if-is_short.is_short ≡ (c.loop-actor.is_short || a.is_short) = elim c.if-is_short.branch [
+      | then-is_short w ↦ w.is_short-is ∙ w.if-is_short.true ∙ sym (ap (λ b. b || a.is_short) w.if-is_short.true)
+      | else-is_short w ↦ w.is_short-is ∙ c.end-seat.ensures.2 ∙ sym (ap (λ b. b || a.is_short) w.if-is_short.false)
+    ] in
+    let joined = one_joined disk c.args.chain.now.value.first c.args.lock.now names c.args.lines.now c.loop-actor.first c.join.new.first c.loop-actor.told.items c.loop-actor.is_short i.guests i.joined a last.2 (last.1 ∙ omega (arith, i.count, popped)) met.0 met.1 met.2 in
+    record {
+      guests = i.guests ++ outcomes ∷ [];
+      joined = subst (λ t. AreJoined disk c.args.chain.now.value.first c.args.lock.now names c.args.lines.now c.join.new.first t c.if-is_short.is_short (i.guests ++ outcomes ∷ [])) (sym told)
+          (subst (λ b. AreJoined disk c.args.chain.now.value.first c.args.lock.now names c.args.lines.now c.join.new.first (c.loop-actor.told.items ++ a.told.items ∷ []) b (i.guests ++ outcomes ∷ [])) (sym short) joined);
+      left = last.0;
+      count = omega (arith, more, i.count, popped);
+      family = join_more c.args.first.now.family c.loop-actor.first.family c.join.new.first.family (length i.guests) (length (i.guests ++ outcomes ∷ [])) i.family (ap (λ s. s.family) c.join.ensures.both) more;
+      reserved = c.push_reserved.ensures.capacity ∙ i.reserved;
+    }

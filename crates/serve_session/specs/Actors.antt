@@ -1,0 +1,145 @@
+-- What a guest of a script has done so far, by its seat and what it was told.
+use Rattle.std.specs.Prelude.{◌≡◌, ◌⊎◌, ◌+◌, ◌-◌, ◌^◌, ◌<◌, ◌≤◌, ⊤, ℕ, Bool, false, true, List, [], ◌∷◌, ◌++◌, if◌then◌else◌, length, Option, Some, None, Result, Ok, Err}
+use Rattle.store_model.specs.Disk.{Disk}
+use Rattle.guest_model.specs.declared.call.Call.{Call}
+use Rattle.guest_model.specs.declared.recorder.KeepAll.{KeepAll}
+use Rattle.guest_model.specs.declared.call.Reply.{Reply}
+use Rattle.guest_model.specs.declared.refusal.ChainRefusal.{ChainRefusal}
+use Rattle.guest_model.specs.declared.refusal.ChainRefusal.TheVariants as refusals
+use Rattle.guest_model.specs.Calls.{is_named}
+use Rattle.guest_model.specs.History.{History}
+use Rattle.chain_core.specs.declared.chain.Chain.{Chain}
+use Rattle.chain_core.specs.Refusing.{misplaced}
+use Rattle.script.specs.Grammar.{is_call}
+use Rattle.script.specs.declared.form.Form.{Form}
+use Rattle.script.specs.declared.form.Line.{Line}
+use Rattle.script.specs.declared.told.ToldCall.{ToldCall}
+use Rattle.script_session.specs.Told.{sector_size}
+use Rattle.seats.specs.Counting.{times}
+use Rattle.turn_lock.specs.Histories.{StartsWith}
+use Rattle.turn_lock.specs.Seats.{Known, TableId}
+use Rattle.shared_chain.specs.declared.basis.Basis.{Basis}
+use Rattle.shared_chain.specs.declared.basis.Breach.{Breach}
+use Rattle.shared_chain.specs.declared.basis.Note.{Note}
+use Rattle.shared_chain.specs.declared.basis.Note.TheVariants as notes
+use Rattle.shared_chain.specs.declared.basis.Step.{Step}
+use Rattle.shared_chain.specs.declared.basis.Step.TheVariants.{Broke, Done}
+use Rattle.shared_chain.specs.Answers.{RepliesBehind}
+use Rattle.shared_chain.specs.Bases.{Contains, notes_in}
+use Rattle.shared_chain.specs.Notes.{HasNote}
+use Rattle.shared_chain.specs.Steps.{done_steps, open_by}
+use Rattle.guest_io.specs.Guests.{IsFree}
+use Rattle.serve_session.specs.declared.actor.Actor.{Actor}
+use Rattle.serve_session.specs.Served.{EachGuest, Has, IsRising, IsWhole, Outcome, SomeGuest, call_of, entry_of, forms_of, places_in, told_calls, told_guests}
+
+-- The call of this form broke a session: it was told so, and what a crash may leave otherwise for it are sectors that it names.
+abbrev pub HasBreach : ℕ → ℕ → Form → Breach → Outcome → Type 0
+HasBreach guest number form b (Err (refusals.Broken file count)) =
+    (b.guest ≡ guest) × (b.no ≡ number) × ((s : ℕ) → is_named sector_size (call_of form) s ≡ false → open_by (Some b) s ≡ false)
+HasBreach guest number form b other = ⊥
+
+-- one of these calls did
+abbrev pub HasBreacher : Breach → ℕ → ℕ → List Form → List Outcome → Type 0
+HasBreacher b guest number forms [] = ⊥
+HasBreacher b guest number [] (o ∷ outcomes) = ⊥
+HasBreacher b guest number (form ∷ forms) (o ∷ outcomes) = HasBreach guest number form b o ⊎ HasBreacher b guest (number + 1) forms outcomes
+
+-- ---- what a seat has heard
+
+module _ {S T : Type 0} (disk : S → Disk) (first : Chain S KeepAll T) where
+  -- what is noted of a chain whose session has just begun
+  abbrev pub first_notes : List Note
+  first_notes = notes_in (disk first.store) None None None
+
+  abbrev pub first_basis : Basis S T
+  first_basis = record { first = Some first; notes = first_notes }
+
+  -- A call was done: it stands in the history, behind others, and its reply is that of the disk with these.
+  pub record HasPlace (seen : List Step) (guest number : ℕ) (call : Call) (done : ℕ × Reply) : Type 0 where
+    pub before : History
+    pub begins : StartsWith seen (done_steps before ++ Done (entry_of guest number call) ∷ [])
+    pub place_is : done.0 ≡ length before + 1
+    pub placed : misplaced call first.layers ≡ None
+    pub replies : RepliesBehind disk first before call done.1
+
+  -- it was refused, for what is noted or by its place
+  abbrev pub IsHeardOf : List Note → Call → ChainRefusal → Type 0
+  IsHeardOf noted call refusals.EmptyRange = misplaced call first.layers ≡ Some refusals.EmptyRange
+  IsHeardOf noted call (refusals.OutOfRange from count sectors) = misplaced call first.layers ≡ Some (refusals.OutOfRange from count sectors)
+  IsHeardOf noted call (refusals.TooLong count limit) = misplaced call first.layers ≡ Some (refusals.TooLong count limit)
+  IsHeardOf noted call refusals.ReadOnly = misplaced call first.layers ≡ Some refusals.ReadOnly
+  IsHeardOf noted call (refusals.Broken file count) = HasNote noted (notes.ChangeFailed file count)
+  IsHeardOf noted call (refusals.Spent t) = 2 ^ 63 ≤ t
+  IsHeardOf noted call (refusals.FileFull next) = (misplaced call first.layers ≡ None) × HasNote noted (notes.Full next)
+  IsHeardOf noted call (refusals.ReadFault file count) =
+      (misplaced call first.layers ≡ None) × HasNote noted (notes.ReadFailed file count) × (HasNote first_notes (notes.ReadFailed file count) → 2 ^ 64 - 1 ≤ count)
+  IsHeardOf noted call other = ⊥
+
+  abbrev pub IsHeard : List Step → List Note → ℕ → ℕ → Form → Outcome → Type 0
+  IsHeard seen noted guest number form (Ok done) = HasPlace seen guest number (call_of form) done
+  IsHeard seen noted guest number form (Err refusal) = IsHeardOf noted (call_of form) refusal
+
+  -- so it is of a guest's calls, the first of which has this number
+  abbrev pub AreHeard : List Step → List Note → ℕ → ℕ → List Form → List Outcome → Type 0
+  AreHeard seen noted guest number forms [] = ⊤
+  AreHeard seen noted guest number [] (o ∷ outcomes) = ⊥
+  AreHeard seen noted guest number (form ∷ forms) (o ∷ outcomes) = IsHeard seen noted guest number form o × AreHeard seen noted guest (number + 1) forms outcomes
+
+-- the call at this place, behind the whole history, is what broke the session: one of this guest's
+pub record BreaksAt (seen : List Step) (p guest : ℕ) (forms : List Form) (outcomes : List Outcome) : Type 0 where
+  pub before : History
+  pub breach : Breach
+  pub begins : StartsWith seen (done_steps before ++ Broke breach ∷ [])
+  pub place_is : p ≡ length before + 1
+  pub breaker : HasBreacher breach guest 1 forms outcomes
+
+-- what stands at a place is what a guest was told of
+abbrev pub OwnsAt : List Step → ℕ → ℕ → List Form → List Outcome → Type 0
+OwnsAt seen p guest forms outcomes = Has p (places_in outcomes) ⊎ BreaksAt seen p guest forms outcomes
+
+-- ---- guests
+
+-- what a line asks for, if it is a call
+abbrev pub called_form : Form → List Form
+called_form form = if is_call form then form ∷ [] else []
+
+module _ {S T : Type 0} (disk : S → Disk) (first : Chain S KeepAll T) where
+  -- What a guest with this seat was told of its calls, and nothing else is its own.
+  pub record HasHeard (guest : ℕ) (forms : List Form) (seat : Known Step (Basis S T)) (outcomes : List Outcome) : Type 0 where
+    pub knows : Contains seat.basis (first_basis disk first)
+    pub heard : AreHeard disk first seat.seen seat.basis.notes guest 1 forms outcomes
+    pub order : IsRising (places_in outcomes)
+    pub owns : (p : ℕ) → 0 < times p seat.mine → OwnsAt seat.seen p guest forms outcomes
+
+  -- all calls of these forms were made, and what they were told is kept
+  pub record HasKept (names : List (List ℕ)) (forms : List Form) (actor : Actor S T) (outcomes : List Outcome) : Type 0 where
+    pub all : length outcomes ≡ length forms
+    pub next : actor.guest.next ≡ length outcomes + 1
+    pub told : actor.told.items ≡ told_calls names forms outcomes
+
+  -- A guest whose lines have asked for these calls so far may make its next one, or memory ran out for it.
+  pub record IsActor (lock : TableId) (names : List (List ℕ)) (forms : List Form) (actor : Actor S T) : Type 0 where
+    pub free : IsFree lock actor.guest.seat
+    pub number : actor.guest.number ≡ actor.number
+    pub room : length actor.room.items ≡ 1048576
+    pub sector : first.layers.geometry.sector ≡ sector_size
+    pub outcomes : List Outcome
+    pub hears : HasHeard actor.number forms actor.guest.seat outcomes
+    pub kept : actor.is_short ≡ false → HasKept names forms actor outcomes
+
+  -- a guest that has made all its calls of a script, or those for which there was memory
+  abbrev pub HasRun : TableId → List (List ℕ) → List Line → Actor S T → Type 0
+  HasRun lock names lines actor = IsActor lock names (forms_of actor.number lines) actor
+
+  -- ---- all of them
+
+  -- What guests were told whose seats were joined into this one.
+  pub record AreJoined (lock : TableId) (names : List (List ℕ)) (lines : List Line) (seat : Known Step (Basis S T)) (told : List (List ToldCall)) (short : Bool) (guests : List (List Outcome)) : Type 0 where
+    pub free : IsFree lock seat
+    pub leads : seat.family.is_first ≡ true
+    pub knows : Contains seat.basis (first_basis disk first)
+    pub heard : EachGuest (λ guest outcomes. AreHeard disk first seat.seen seat.basis.notes guest 1 (forms_of guest lines) outcomes) 1 guests
+    pub order : EachGuest (λ guest outcomes. IsRising (places_in outcomes)) 1 guests
+    pub owns : (p : ℕ) → 0 < times p seat.mine → SomeGuest (λ guest outcomes. OwnsAt seat.seen p guest (forms_of guest lines) outcomes) 1 guests
+    pub count : length told ≡ length guests
+    pub kept : short ≡ false → IsWhole lines guests × (told ≡ told_guests names 1 lines guests)

@@ -1,0 +1,58 @@
+-- The guests of a script, one after the other.
+use Rattle.std.specs.Prelude.{◌≡◌, ◌+◌, ◌-◌, ◌<◌, ⊤, ℕ, Bool, false, List, [], ◌∷◌, length, slice_index_or}
+use Rattle.store_model.specs.Disk.{Disk}
+use Rattle.guest_model.specs.declared.recorder.KeepAll.{KeepAll}
+use Rattle.chain_core.specs.declared.chain.Chain.{Chain}
+use Rattle.script.specs.declared.form.Line.{Line}
+use Rattle.script.specs.declared.told.ToldCall.{ToldCall}
+use Rattle.seats.specs.declared.Family.{Family}
+use Rattle.turn_lock.specs.Seats.{Known, TableId, split_off}
+use Rattle.shared_chain.specs.declared.basis.Basis.{Basis}
+use Rattle.shared_chain.specs.declared.basis.Step.{Step}
+use Rattle.guest_io.specs.Guests.{IsFree}
+use Rattle.serve_session.specs.Actors.{AreJoined, HasRun, IsActor}
+use Rattle.serve_session.specs.declared.actor.Actor.{Actor}
+use Rattle.serve_session.specs.Served.{Outcome}
+
+module _ {S T : Type 0} where
+  -- so many more seats were split from the first
+  abbrev pub with_splits : Known Step (Basis S T) → ℕ → Known Step (Basis S T)
+  with_splits seat n = record seat { family = record (seat.family) { splits = seat.family.splits + n } }
+
+  -- a guest of this number with a seat that was split from this one, which has made no call
+  pub record IsFresh (first : Known Step (Basis S T)) (number : ℕ) (actor : Actor S T) : Type 0 where
+    pub seat : actor.guest.seat ≡ split_off first
+    pub number_is : actor.number ≡ number
+    pub guest : actor.guest.number ≡ number
+    pub next : actor.guest.next ≡ 1
+    pub room : length actor.room.items ≡ 1048576
+    pub told : actor.told.items ≡ []
+    pub memory : actor.is_short ≡ false
+
+  -- those from the guest of a number down
+  abbrev pub AreFresh : Known Step (Basis S T) → ℕ → List (Actor S T) → Type 0
+  AreFresh first number [] = ⊤
+  AreFresh first number (actor ∷ actors) = IsFresh first number actor × AreFresh first (number - 1) actors
+
+  abbrev pub AreActors : (Actor S T → Type 0) → ℕ → List (Actor S T) → Type 0
+  AreActors P number [] = ⊤
+  AreActors P number (actor ∷ actors) = (actor.number ≡ number) × P actor × AreActors P (number - 1) actors
+
+  -- it may make calls
+  abbrev pub IsReady : TableId → Actor S T → Type 0
+  IsReady lock actor = IsFree lock actor.guest.seat × (length actor.room.items ≡ 1048576)
+
+  -- it has made its calls of the lines, if it had made none
+  abbrev pub RunsTo : (S → Disk) → TableId → List (List ℕ) → List Line → Actor S T → Actor S T → Type 0
+  RunsTo disk lock names lines old new = (new.number ≡ old.number) × ((first : Chain S KeepAll T) → IsActor disk first lock names [] old → HasRun disk first lock names lines new)
+
+  pub record RunsEach (disk : S → Disk) (lock : TableId) (names : List (List ℕ)) (lines : List Line) (old new : List (Actor S T)) : Type 0 where
+    pub count : length new ≡ length old
+    pub each : (i : ℕ) (d : Actor S T) → i < length old → RunsTo disk lock names lines (slice_index_or old i d) (slice_index_or new i d)
+
+  -- the seats of so many guests were joined
+  pub record HasJoined (disk : S → Disk) (first : Chain S KeepAll T) (lock : TableId) (names : List (List ℕ)) (lines : List Line) (count : ℕ) (old new : Known Step (Basis S T)) (told : List (List ToldCall)) (short : Bool) : Type 0 where
+    pub guests : List (List Outcome)
+    pub joined : AreJoined disk first lock names lines new told short guests
+    pub count_is : length guests ≡ count
+    pub family : new.family ≡ record (old.family) { joins = old.family.joins + count }

@@ -1,0 +1,164 @@
+-- What a script of several guests is told over one disk: there is one history of the calls that were done, and each call is told its
+-- reply at its place (profile).
+use Rattle.std.specs.Prelude.{◌≡◌, ◌⊎◌, ◌^◌, ◌+◌, ◌*◌, ◌<◌, ◌≤◌, ◌==◌, ◌&&◌, if◌then◌else◌, ⊤, ℕ, false, List, [], ◌∷◌, ◌++◌, length, map, max, min, replicate, Option, Some, None, Result, Ok, Err, IfSome}
+use Rattle.std.specs.List.{AllByRecursion, flat_map}
+use Rattle.store_model.specs.declared.fault.StoreFault.{StoreFault}
+use Rattle.guest_model.specs.declared.call.Call.{Call}
+use Rattle.guest_model.specs.declared.call.Call.TheVariants as calls
+use Rattle.guest_model.specs.declared.call.Entry.{Entry}
+use Rattle.guest_model.specs.declared.call.Reply.{Reply}
+use Rattle.guest_model.specs.declared.refusal.ChainRefusal.{ChainRefusal}
+use Rattle.guest_model.specs.declared.refusal.ChainRefusal.TheVariants as refusals
+use Rattle.guest_model.specs.Calls.{reply}
+use Rattle.guest_model.specs.History.{History, replay}
+use Rattle.chain_core.specs.Refusing.{barred, out_of, range_of}
+use Rattle.script.specs.Grammar.{is_call}
+use Rattle.script.specs.declared.form.Form.{Form}
+use Rattle.script.specs.declared.form.Form.TheVariants.{Copy, Fetch, Finish, Flush, Put, Read, Trim, Write}
+use Rattle.script.specs.declared.form.Line.{Line}
+use Rattle.script.specs.declared.told.ToldCall.{ToldCall}
+use Rattle.script.specs.Transcript.{answered, of_call, serve_text}
+use Rattle.script_session.specs.Histories.{Break, Drive}
+use Rattle.script_session.specs.Told.{Told, sector_size}
+use Rattle.turn_lock.specs.Histories.{StartsWith}
+
+-- ---- the script
+
+-- the call that a guest's line asks for; each byte of a write is the line's
+abbrev pub call_of : Form → Call
+call_of (Read first count) = calls.Read first count
+call_of (Write first count byte) = calls.Write first (replicate (sector_size * count) byte)
+call_of (Trim first count) = calls.Trim first count
+call_of other = calls.Flush
+
+-- the forms of one guest's calls, in the script's order
+abbrev pub forms_of : ℕ → List Line → List Form
+forms_of guest [] = []
+forms_of guest (line ∷ lines) = if (line.guest == guest) && is_call line.form then line.form ∷ forms_of guest lines else forms_of guest lines
+
+-- the greatest number of a guest, if it is above this one
+abbrev pub greatest_from : ℕ → List Line → ℕ
+greatest_from guest [] = guest
+greatest_from guest (line ∷ lines) = greatest_from (max guest line.guest) lines
+
+-- how many guests are run: up to the greatest number of one, and at most 64
+abbrev pub guest_count : List Line → ℕ
+guest_count lines = min (greatest_from 0 lines) 64
+
+-- ---- what is told
+
+-- What a guest is told of a call: its place in the history, counted from 1, and its reply; or why it was refused.
+abbrev pub Outcome : Type 0
+Outcome = Result (ℕ × Reply) ChainRefusal
+
+-- the same as the transcript has it: its place, and its words with the answer
+abbrev pub told_call : List (List ℕ) → Form → Outcome → ToldCall
+told_call names form (Ok done) = record { place = Some done.0; text = answered names form (Ok (of_call done.1)) }
+told_call names form (Err refusal) = record { place = None; text = answered names form (Err refusal) }
+
+abbrev pub told_calls : List (List ℕ) → List Form → List Outcome → List ToldCall
+told_calls names [] outcomes = []
+told_calls names (form ∷ forms) [] = []
+told_calls names (form ∷ forms) (o ∷ outcomes) = told_call names form o ∷ told_calls names forms outcomes
+
+-- so it is of each guest, the first being that of a number
+abbrev pub told_guests : List (List ℕ) → ℕ → List Line → List (List Outcome) → List (List ToldCall)
+told_guests names guest lines [] = []
+told_guests names guest lines (outcomes ∷ guests) = told_calls names (forms_of guest lines) outcomes ∷ told_guests names (guest + 1) lines guests
+
+-- and as the lines of one guest are told it
+abbrev pub as_told : Outcome → Told
+as_told (Ok done) = Ok (Some done.0, of_call done.1)
+as_told (Err refusal) = Err refusal
+
+-- all that guests were told
+abbrev pub all_told : List (List Outcome) → List Told
+all_told guests = flat_map (λ outcomes. map as_told outcomes) guests
+
+-- what each of some guests was told, the first being that of a number, or what one of them was
+abbrev pub EachGuest : (ℕ → List Outcome → Type 0) → ℕ → List (List Outcome) → Type 0
+EachGuest P guest [] = ⊤
+EachGuest P guest (outcomes ∷ guests) = P guest outcomes × EachGuest P (guest + 1) guests
+
+abbrev pub SomeGuest : (ℕ → List Outcome → Type 0) → ℕ → List (List Outcome) → Type 0
+SomeGuest P guest [] = ⊥
+SomeGuest P guest (outcomes ∷ guests) = P guest outcomes ⊎ SomeGuest P (guest + 1) guests
+
+-- the places of the calls that were done, in the order of the calls
+abbrev pub places_in : List Outcome → List ℕ
+places_in [] = []
+places_in (Ok done ∷ outcomes) = done.0 ∷ places_in outcomes
+places_in (Err refusal ∷ outcomes) = places_in outcomes
+
+abbrev pub Has : ℕ → List ℕ → Type 0
+Has p [] = ⊥
+Has p (q ∷ places) = (p ≡ q) ⊎ Has p places
+
+-- each is above all before it
+abbrev pub IsRising : List ℕ → Type 0
+IsRising [] = ⊤
+IsRising (p ∷ places) = AllByRecursion (λ q. p < q) places × IsRising places
+
+-- What refuses a call by its range, and then because the disk is only read.
+abbrev pub misplaced : Drive → Call → Option ChainRefusal
+misplaced drive call = out_of (range_of drive.geometry call) (barred call drive.can_change)
+
+-- What refuses a call: it is misplaced; the count of events, or of turns, is used up; a change of the leaf has failed, which has broken the
+-- session for all; or, of a call that isn't misplaced, a read of a file failed, or the file is full.
+pub data IsRefused (drive : Drive) (broken : Option StoreFault) (call : Call) : ChainRefusal → Type 0 where
+  is_misplaced : (e : ChainRefusal) → misplaced drive call ≡ Some e → IsRefused drive broken call e
+  is_spent : (t : ℕ) → 2 ^ 63 ≤ t → IsRefused drive broken call (refusals.Spent t)
+  is_broken : (fault : StoreFault) → broken ≡ Some fault → IsRefused drive broken call (refusals.Broken fault.file fault.count)
+  is_unread : (file count : ℕ) → misplaced drive call ≡ None → IsRefused drive broken call (refusals.ReadFault file count)
+  is_full : (next : ℕ) → misplaced drive call ≡ None → IsRefused drive broken call (refusals.FileFull next)
+
+abbrev pub entry_of : ℕ → ℕ → Call → Entry
+entry_of guest number call = record { guest = guest; no = number; call = call }
+
+-- A call was done: it stands in the history at its place, and its reply is that of the disk with the calls before it.
+pub record HasDone (drive : Drive) (h : History) (entry : Entry) (done : ℕ × Reply) : Type 0 where
+  pub before : History
+  pub begins : StartsWith h (before ++ entry ∷ [])
+  pub place_is : done.0 ≡ length before + 1
+  pub placed : misplaced drive entry.call ≡ None
+  pub reply_is : done.1 ≡ reply (replay sector_size drive.opening before) entry.call
+
+-- What a guest is told of its call of this number, in a session with this history at its end, which this fault has broken if one did.
+abbrev pub IsOutcome : Drive → History → Option StoreFault → ℕ → ℕ → Call → Outcome → Type 0
+IsOutcome drive h broken guest number call (Ok done) = HasDone drive h (entry_of guest number call) done
+IsOutcome drive h broken guest number call (Err e) = IsRefused drive broken call e
+
+-- so it is of its calls, the first of which has this number; where memory ran out not all of them were made
+abbrev pub AreOutcomes : Drive → History → Option StoreFault → ℕ → ℕ → List Form → List Outcome → Type 0
+AreOutcomes drive h broken guest number forms [] = ⊤
+AreOutcomes drive h broken guest number [] (o ∷ outcomes) = ⊥
+AreOutcomes drive h broken guest number (form ∷ forms) (o ∷ outcomes) = IsOutcome drive h broken guest number (call_of form) o × AreOutcomes drive h broken guest (number + 1) forms outcomes
+
+-- The call of this form broke the session: it was told so, by the fault that did.
+abbrev pub HasBroken : Form → Break → Outcome → Type 0
+HasBroken form b (Err (refusals.Broken file count)) = (b.fault ≡ record { file = file; count = count }) × (b.call ≡ Some (call_of form))
+HasBroken form b other = ⊥
+
+-- one of these calls did
+abbrev pub HasBreaker : Break → List Form → List Outcome → Type 0
+HasBreaker b forms [] = ⊥
+HasBreaker b [] (o ∷ outcomes) = ⊥
+HasBreaker b (form ∷ forms) (o ∷ outcomes) = HasBroken form b o ⊎ HasBreaker b forms outcomes
+
+-- What guests were told over one disk, the first list being guest 1's: each call its outcome. Of each guest the calls that were done stand in
+-- the history in the script's order, and the history has nothing else. The session's end is answered this fault, if it failed or if a fault
+-- had broken the session; the call that this one broke it in is one of theirs.
+pub record AreServed (drive : Drive) (lines : List Line) (guests : List (List Outcome)) (h : History) (ended : Option StoreFault) (broken : Option Break) : Type 0 where
+  pub told : EachGuest (λ guest outcomes. AreOutcomes drive h ended guest 1 (forms_of guest lines) outcomes) 1 guests
+  pub order : EachGuest (λ guest outcomes. IsRising (places_in outcomes)) 1 guests
+  pub all : (p : ℕ) → 1 ≤ p → p ≤ length h → SomeGuest (λ guest outcomes. Has p (places_in outcomes)) 1 guests
+  pub breaker : IfSome broken (λ b. SomeGuest (λ guest outcomes. HasBreaker b (forms_of guest lines) outcomes) 1 guests)
+
+-- all calls of the script were made
+abbrev pub IsWhole : List Line → List (List Outcome) → Type 0
+IsWhole lines guests = EachGuest (λ guest outcomes. length outcomes ≡ length (forms_of guest lines)) 1 guests
+
+-- The transcript of a script of which all calls were made.
+pub record IsTranscript (names : List (List ℕ)) (lines : List Line) (guests : List (List Outcome)) (h : History) (text : List ℕ) : Type 0 where
+  pub whole : IsWhole lines guests
+  pub text_is : text ≡ serve_text h (told_guests names 1 lines guests)

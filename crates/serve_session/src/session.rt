@@ -1,0 +1,71 @@
+//! A script's session with several guests over the files of a chain, from its start to its end.
+
+ghost use Rattle.std.specs.Prelude.{◌≡◌, ◌≤◌, ◌^◌, All, length, map, IfErr, IfOk, OnErr};
+ghost use Rattle.chain_core.specs.Starting.{EachOpensAlike, LeavesOthersFrom, RefusesStart};
+ghost use Rattle.chain_core.specs.declared.starting.Mode.TheVariants as modes;
+ghost use Rattle.merge_plan.specs.Attached.{CanStart};
+ghost use Rattle.serve_session.specs.Running.{HasRunServe};
+ghost use Rattle.serve_session.specs.Served.{guest_count};
+
+use crate::serving::serve;
+use chain_core::{Chain, Mode, StartRefusal};
+use guest_model::KeepAll;
+use link_rules::LinkedFile;
+use script::Line;
+use script_session::ScriptRun;
+use shared_chain::SharedChain;
+use std::alloc::Global;
+use std::convert::AsStr;
+use std::sync::Wait;
+use std::thread::Threads;
+use store_model::{Gate, Ids, Store};
+
+/// Runs a script of `serve` in a session over the files of a chain, each guest's calls in the script's order and in a thread of its own
+/// where one can be made, and ends the session. The store comes back, whatever is answered. The names are those of the files, from the leaf
+/// on; each guest has a room.
+pub fn run_serve<
+    S: Store + Send,
+    R: Threads + Wait + Sync,
+    I: Ids,
+    G: Gate + Sync,
+    N: AsStr + Sync,
+>(
+    rt: &R,
+    alloc: Global,
+    store: S,
+    files: &[LinkedFile],
+    names: &[N],
+    ids: &mut I,
+    lines: &[Line],
+    rooms: Vec<Vec<u8>>,
+    gate: &G,
+) -> (S, Result<ScriptRun, StartRefusal>)
+where
+    S::R: Send,
+    requires files { CanStart files.now (S.disk store) }
+    requires few { length lines.now ≤ 2 ^ 20 }
+    requires count { length rooms.items ≡ guest_count lines.now }
+    requires each { All (λ room. length room.items ≡ 1048576) rooms.items }
+    ensures ran { IfOk result.1 (λ run. HasRunServe files.now (map N.text names.now) lines.now run (S.disk store) (S.disk result.0)
+        (I.drawn ids.old) (I.drawn ids.new)) }
+    ensures refused { IfErr result.1 (RefusesStart modes.Guests files.now (S.disk store) (S.disk result.0) (I.drawn ids.old) (I.drawn ids.new)) }
+    // Where no session started.
+    ensures kept { OnErr result.1 (EachOpensAlike files.now (S.disk store).told (S.disk result.0).told) }
+    ensures still { OnErr result.1 (LeavesOthersFrom (S.disk store).told (S.disk result.0).told) }
+{
+    match Chain::start(alloc, store, files, Mode::Guests, KeepAll::new(alloc), ids) {
+        Ok(chain) => {
+            let (store, run) = serve(
+                rt,
+                alloc,
+                SharedChain::new(chain),
+                names,
+                lines,
+                rooms,
+                gate,
+            );
+            (store, Ok(run))
+        }
+        Err((store, refusal)) => (store, Err(refusal)),
+    }
+}

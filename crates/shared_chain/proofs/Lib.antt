@@ -1,0 +1,9 @@
+mod Refusals
+mod Noting
+mod Reaching
+mod Causing
+mod Homing
+mod Calling
+mod Ended
+pub mod Breaking
+mod Counting

@@ -1,0 +1,51 @@
+-- What the end of a shared chain's session leaves.
+use Rattle.std.specs.Prelude.{◌≡◌, Bool, false, true, is_some, [], Option, None, Result, Ok, Err, IfErr, IfSome, OnOk}
+use Rattle.std.specs.List.{AllByRecursion}
+use Rattle.store_model.specs.Disk.{Disk, WhereBothTold}
+use Rattle.store_model.specs.File.{is_synced, seen}
+use Rattle.store_model.specs.Trace.{Trace, file_of}
+use Rattle.store_model.specs.declared.fault.StoreFault.{StoreFault}
+use Rattle.guest_model.specs.History.{History}
+use Rattle.chain_model.specs.Images.{members_of}
+use Rattle.chain_model.specs.Members.{names_of}
+use Rattle.chain_model.specs.Moments.{EachOpens, EachOpensToPrefix}
+use Rattle.layer_session.specs.Unnamed.{NamesNoLog}
+use Rattle.chain_core.specs.Answering.{ClosesTold, EachLinks}
+use Rattle.chain_core.specs.Ending.{IsOfSession, SomeChangeFailed}
+use Rattle.chain_core.specs.Sessions.{Session}
+use Rattle.chain_core.specs.States.{IsServing, LeavesOthers, State, disk_now, files_of, sector_of}
+use Rattle.shared_chain.specs.declared.basis.Breach.{Breach}
+use Rattle.shared_chain.specs.Homes.{ComesTo, OpensLast}
+use Rattle.shared_chain.specs.Steps.{open_by}
+
+-- A session ended: one that a fault broke answers it and leaves the store, and so does the end of one in which the files are only read.
+pub record IsEnded (s : Session) (after : Disk) (closed : Result (Unit {0}) StoreFault) : Type 0 where
+  pub broken : IfSome s.broken (λ fault. (closed ≡ Err fault) × (after ≡ s.disk))
+  pub only_read : s.broken ≡ None → s.layers.leaf ≡ None → (closed ≡ Ok tt) × (after ≡ s.disk)
+  pub counts : s.broken ≡ None → OnOk closed (after ≡ record (s.disk) { told = after.told })
+  pub fails : s.broken ≡ None → IfErr closed (SomeChangeFailed (IsOfSession s.layers) s.disk after)
+  pub told : s.broken ≡ None → ClosesTold s after closed
+
+-- Each image opens to the disk of the history, on all sectors, by the files of the chain and no others; if there was a session nothing of
+-- these files is unsynced, and none that it could change names a log.
+pub record IsWhole (session : Bool) (v : State) (now : Trace) : Type 0 where
+  pub opens : EachOpens v.leaf (λ s. false) (disk_now v) now
+  pub links : EachLinks v.leaf.name (names_of (members_of (files_of v))) now
+  pub synced : session ≡ true → AllByRecursion (λ f. is_synced (file_of now f.number) ≡ true) (files_of v)
+  pub no_log : session ≡ true → AllByRecursion (λ f. v.writes f.number ≡ true → NamesNoLog (seen (file_of now f.number))) (files_of v)
+
+-- What is left of a session that came from this state, by this history: no file was changed but those that it may change; each moment since
+-- it began opens to a prefix of the history, outside the sectors that the call names which broke it, if one did, and the last one to all of
+-- it; and where its end was answered no fault, none did, and it is whole.
+pub record HasLeft (session : Bool) (from : State) (h : History) (broke : Option Breach) (closed : Result (Unit {0}) StoreFault) (now : Trace) : Type 0 where
+  pub to : State
+  pub comes : ComesTo from h to
+  pub still : LeavesOthers to now
+  pub past : EachOpensToPrefix (sector_of to) to.opening to.history (open_by broke) to.leaf to.began now
+  pub last : OpensLast to broke now
+  pub whole : OnOk closed (IsWhole session to now)
+
+-- so it is for each state that the session served when it had begun
+abbrev pub LeavesHistory : Session → History → Option Breach → Result (Unit {0}) StoreFault → Disk → Type 0
+LeavesHistory first h broke closed after =
+    WhereBothTold (λ trace now. (from : State) → IsServing first.layers from trace → from.history ≡ [] → HasLeft (is_some first.layers.leaf) from h broke closed now) first.disk.told after.told

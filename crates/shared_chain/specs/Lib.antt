@@ -1,0 +1,9 @@
+pub mod Shared
+pub mod Steps
+pub mod Faults
+pub mod Notes
+pub mod Bases
+pub mod Laws
+pub mod Homes
+pub mod Answers
+pub mod Closing

@@ -1,0 +1,227 @@
+//! The chain that threads share.
+
+ghost use Rattle.std.specs.Prelude.{◌≡◌, ◌%◌, ◌/◌, [], None, OnOk, length};
+ghost use Rattle.guest_model.specs.declared.call.Call.TheVariants as calls;
+ghost use Rattle.guest_model.specs.declared.call.Reply.TheVariants as replies;
+ghost use Rattle.chain_core.specs.Answering.{IsDurable};
+ghost use Rattle.chain_core.specs.Sessions.{IsSound};
+ghost use Rattle.shared_chain.specs.Notes.{full_after, spent_after};
+ghost use Rattle.shared_chain.specs.Faults.{EndsCounted, fault_after};
+ghost use Rattle.shared_chain.specs.Homes.{session_of};
+ghost use Rattle.shared_chain.specs.Answers.{IsCalled, RepliesFrom};
+ghost use Rattle.shared_chain.specs.Closing.{IsEnded, LeavesHistory};
+ghost use Rattle.shared_chain.specs.Steps.{broke_after, steps_of};
+
+use crate::basis::Breach;
+use chain_core::Chain;
+use guest_model::{Caller, ChainRefusal, KeepAll};
+use std::marker::Model;
+use std::snapshot::Snapshot;
+use store_model::{Store, StoreFault};
+
+// Bytes of a sector.
+const SECTOR: u64 = 512;
+
+/// A chain in a session whose history is kept whole. It is sound whenever nobody has it, and where its store tells its content it serves
+/// that history.
+pub struct SharedChain<S: Store> {
+    chain: Chain<S, KeepAll>,
+    // how it was when its session had begun
+    first: Snapshot<Chain<S, KeepAll>>,
+    // the greatest unit that a call was refused at for want of room
+    full: Option<u64>,
+    // the count of events that a call was refused at
+    spent: Option<u64>,
+    // the call that broke the session
+    broke: Option<Breach>,
+    // the last fault that a call was refused by
+    fault: Option<StoreFault>,
+}
+
+impl<S: Store> Model for SharedChain<S> {
+    ghost use Rattle.guest_model.specs.declared.recorder.KeepAll.{KeepAll};
+    ghost use Rattle.chain_core.specs.declared.chain.Chain.{Chain};
+    ghost use Rattle.shared_chain.specs.Shared.{Shared};
+
+    ghost Value = { Shared (Chain S KeepAll S.R) };
+
+    ghost use Rattle.shared_chain.specs.Homes.{IsHome, session_of};
+
+    ghost view = { λ s. record { chain = s.chain; first = s.first.value; full = s.full; spent = s.spent; broke = s.broke; fault = s.fault } };
+
+    ghost invariant = { λ s. IsHome (session_of S.disk s.first.value) (session_of S.disk s.chain) s.chain.recorder s.broke s.fault };
+}
+
+// The greatest unit that a call was refused at for want of room, behind this answer.
+fn full_behind(full: Option<u64>, answer: Result<u64, ChainRefusal>) -> Option<u64>
+    ensures { result ≡ full_after full answer }
+{
+    let Err(ChainRefusal::FileFull { next }) = answer else {
+        return full;
+    };
+    match full {
+        Some(known) => Some(known.max(next)),
+        None => Some(next),
+    }
+}
+
+// The greatest count of events that a call was refused at, behind this answer.
+fn spent_behind(spent: Option<u64>, answer: Result<u64, ChainRefusal>) -> Option<u64>
+    ensures { result ≡ spent_after spent answer }
+{
+    let Err(ChainRefusal::Spent { t }) = answer else {
+        return spent;
+    };
+    match spent {
+        Some(known) => Some(known.max(t)),
+        None => Some(t),
+    }
+}
+
+// The call that broke the session, behind the answer of the call that changes these sectors.
+fn broke_behind(
+    broke: Option<Breach>,
+    who: Caller,
+    first: u64,
+    count: u64,
+    answer: Result<u64, ChainRefusal>,
+) -> Option<Breach>
+    ensures { result ≡ broke_after broke (record { guest = who.guest; no = who.no; first = first; count = count }) answer }
+{
+    match (broke, answer) {
+        (None, Err(ChainRefusal::Broken { .. })) => Some(Breach {
+            guest: who.guest,
+            no: who.no,
+            first,
+            count,
+        }),
+        _ => broke,
+    }
+}
+
+// The last fault that a call was refused by, behind this answer.
+fn fault_behind(
+    fault: Option<StoreFault>,
+    answer: Result<u64, ChainRefusal>,
+) -> Option<StoreFault>
+    ensures { result ≡ fault_after fault answer }
+{
+    match answer {
+        Err(ChainRefusal::Broken { file, count } | ChainRefusal::ReadFault { file, count }) => {
+            Some(StoreFault { file, count })
+        }
+        _ => fault,
+    }
+}
+
+impl<S: Store> SharedChain<S> {
+    /// A chain whose session has just begun.
+    pub fn new(chain: Chain<S, KeepAll>) -> SharedChain<S>
+        requires sound { IsSound (session_of S.disk chain) }
+        requires fresh { (chain.events ≡ 0) × (chain.broken ≡ None) × (chain.recorder ≡ []) }
+        ensures { result ≡ record { chain = chain; first = chain; full = None; spent = None; broke = None; fault = None } }
+    {
+        let first = Snapshot::of(&chain);
+        SharedChain {
+            chain,
+            first,
+            full: None,
+            spent: None,
+            broke: None,
+            fault: None,
+        }
+    }
+
+    /// The length of the history.
+    pub fn len(&self) -> u64
+        ensures { result ≡ length self.now.chain.recorder }
+    {
+        self.chain.len()
+    }
+
+    /// The length of the history with the call that broke the session, if one did.
+    pub fn steps(&self) -> u64
+        ensures { result ≡ length (steps_of self.now.chain.recorder self.now.broke) }
+    {
+        let done = self.chain.len();
+        if self.broke.is_some() {
+            done + 1
+        } else {
+            done
+        }
+    }
+
+    /// Reads whole sectors. Answers the call's place in the history.
+    pub fn read(&mut self, who: Caller, first: u64, out: &mut [u8]) -> Result<u64, ChainRefusal>
+        requires { length out.old % 512 ≡ 0 }
+        ensures called { IsCalled S.disk who (calls.Read first (length out.old / 512)) self.old self.new result }
+        ensures replies { OnOk result (RepliesFrom S.disk self.old (calls.Read first (length out.old / 512)) (replies.Bytes out.new)) }
+    {
+        let answer = self.chain.read(who, first, out);
+        self.full = full_behind(self.full, answer);
+        self.spent = spent_behind(self.spent, answer);
+        self.broke = broke_behind(self.broke, who, first, 0, answer);
+        self.fault = fault_behind(self.fault, answer);
+        answer
+    }
+
+    /// Writes whole sectors. Answers the call's place in the history.
+    pub fn write(&mut self, who: Caller, first: u64, bytes: &[u8]) -> Result<u64, ChainRefusal>
+        requires { length bytes.now % 512 ≡ 0 }
+        ensures { IsCalled S.disk who (calls.Write first bytes.now) self.old self.new result }
+    {
+        let count = bytes.len() as u64 / SECTOR;
+        let answer = self.chain.write(who, first, bytes);
+        self.full = full_behind(self.full, answer);
+        self.spent = spent_behind(self.spent, answer);
+        self.broke = broke_behind(self.broke, who, first, count, answer);
+        self.fault = fault_behind(self.fault, answer);
+        answer
+    }
+
+    /// Makes sectors zeros. Answers the call's place in the history.
+    pub fn trim(&mut self, who: Caller, first: u64, count: u64) -> Result<u64, ChainRefusal>
+        ensures { IsCalled S.disk who (calls.Trim first count) self.old self.new result }
+    {
+        let answer = self.chain.trim(who, first, count);
+        self.full = full_behind(self.full, answer);
+        self.spent = spent_behind(self.spent, answer);
+        self.broke = broke_behind(self.broke, who, first, count, answer);
+        self.fault = fault_behind(self.fault, answer);
+        answer
+    }
+
+    /// Makes all that was written before outlast a crash. Answers the call's place in the history.
+    pub fn flush(&mut self, who: Caller) -> Result<u64, ChainRefusal>
+        ensures called { IsCalled S.disk who calls.Flush self.old self.new result }
+        ensures durable { OnOk result (IsDurable (session_of S.disk self.old.chain) (session_of S.disk self.new.chain)) }
+    {
+        let answer = self.chain.flush(who);
+        self.full = full_behind(self.full, answer);
+        self.spent = spent_behind(self.spent, answer);
+        self.broke = broke_behind(self.broke, who, 0, 0, answer);
+        self.fault = fault_behind(self.fault, answer);
+        answer
+    }
+
+    /// Ends the session of every file that has one. Gives back the store and the history, and tells the last fault that a call was refused
+    /// by, and how the session ended: one that a fault broke answers it, and its files are written no more.
+    pub fn close(self) -> (S, KeepAll, Option<StoreFault>, Result<(), StoreFault>)
+        ensures history { result.1 ≡ self.chain.recorder }
+        ensures fault { result.2 ≡ self.fault }
+        ensures ended { IsEnded (session_of S.disk self.chain) (S.disk result.0) result.3 }
+        ensures counted { EndsCounted (S.disk self.first.store) (S.disk result.0) self.fault result.3 }
+        ensures leaves { LeavesHistory (session_of S.disk self.first) self.chain.recorder self.broke result.3 (S.disk result.0) }
+    {
+        let SharedChain {
+            chain,
+            first: _,
+            full: _,
+            spent: _,
+            broke: _,
+            fault,
+        } = self;
+        let (store, history, closed) = chain.close();
+        (store, history, fault, closed)
+    }
+}
