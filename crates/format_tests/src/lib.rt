@@ -20,6 +20,8 @@ mod places;
 #[cfg(test)]
 mod questions;
 #[cfg(test)]
+mod sessions;
+#[cfg(test)]
 mod stores;
 #[cfg(test)]
 mod tables;

@@ -6,7 +6,7 @@ mod print;
 mod sectors;
 mod status;
 
-pub use line::send_told;
+pub use line::{send_named, send_told};
 pub use print::{deliver, out_of_memory, refuse, say, send};
 pub use sectors::show;
 pub use status::Status;

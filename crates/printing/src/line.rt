@@ -24,6 +24,9 @@ pub const PAGE_LEN: usize = 65_536;
 /// So many lines have room in a page, whatever their numbers.
 const PAGE_LINES: u64 = 62;
 
+/// Bytes of the longest line that tells a name alone, of 255 bytes.
+const NAMED_LEN: usize = 265;
+
 /// Bytes of the longest line that tells a name, of 255 bytes, and a number, of 20 digits.
 const TOLD_LEN: usize = 283;
 
@@ -99,6 +102,38 @@ fn write_told(line: &mut [u8], told: &[u8], name: &[u8], number: u64) -> usize
     let (space, end) = rest.split_at_mut(1);
     space[0] = b' ';
     told.len() + name.len() + 1 + write_end(end, number)
+}
+
+// Writes a line of what it tells, and of which thing, and gives its length.
+fn write_named(line: &mut [u8], told: &[u8], name: &[u8]) -> usize
+    requires told { length told.now ≤ 9 }
+    requires name { length name.now ≤ 255 }
+    requires room { length line.old ≡ 265 }
+    ensures inside { result ≤ 265 }
+    ensures line { take result line.new ≡ told.now ++ name.now ++ codes "\n" }
+{
+    let (head, behind) = line.split_at_mut(told.len());
+    head.copy_from_slice(told);
+    let (named, rest) = behind.split_at_mut(name.len());
+    named.copy_from_slice(name);
+    let (end, _) = rest.split_at_mut(1);
+    end[0] = b'\n';
+    told.len() + name.len() + 1
+}
+
+/// Prints a line of what it tells, and of which thing. It takes no memory.
+pub fn send_named<K: Sink>(out: &mut K, told: &[u8], name: &[u8]) -> Result<(), SinkFault>
+    requires told { length told.now ≤ 9 }
+    requires name { length name.now ≤ 255 }
+    ensures ok { OnOk result (Appends (K.written out.old) (K.written out.new) (told.now ++ name.now ++ codes "\n")) }
+    ensures cut { OnErr result ((n : ℕ) × Appends (K.written out.old) (K.written out.new) (take n (told.now ++ name.now ++ codes "\n"))) }
+    ensures quiet { OnOk result (K.faults out.new ≡ K.faults out.old) }
+    ensures told { IfErr result (λ fault. fault.count ≡ K.faults out.new) }
+    ensures rose { OnErr result (Rose (K.faults out.old) (K.faults out.new)) }
+{
+    let mut line = [0; NAMED_LEN];
+    let len = write_named(&mut line, told, name);
+    send(out, &line[..len])
 }
 
 /// Prints a line of what it tells, of which thing, and a number. It takes no memory.

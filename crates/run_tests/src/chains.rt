@@ -112,7 +112,7 @@ fn refused_links(rt: HostRuntime) {
 }
 
 // Makes the file 0 and so many children, each of the one before.
-fn make_chain<R: Abort + Threads + Wait>(
+fn make_chain<R: Abort + Threads + Wait + Sync>(
     rt: &R,
     alloc: Global,
     children: u32,

@@ -73,7 +73,7 @@ impl Merging {
 }
 
 // A chain to be merged.
-fn chain<R: Abort + Threads + Wait>(rt: &R, alloc: Global, of: &Merging) -> MemHost
+fn chain<R: Abort + Threads + Wait + Sync>(rt: &R, alloc: Global, of: &Merging) -> MemHost
     ensures { WhereTold (hosted_by result).folder AllIdle }
 {
     let mut host = empty_host(alloc);
@@ -143,7 +143,7 @@ fn are_same(files: &ChainBytes, others: &ChainBytes) -> bool {
 }
 
 /// Asks that each case over a chain ends as it says.
-pub fn each_is_told<R: Abort + Threads + Wait>(
+pub fn each_is_told<R: Abort + Threads + Wait + Sync>(
     rt: &R,
     alloc: Global,
     of: &Merging,
@@ -158,7 +158,7 @@ pub fn each_is_told<R: Abort + Threads + Wait>(
 }
 
 // Whether a merge that draws these is refused so, and no file changed.
-fn is_refused<R: Abort + Threads + Wait>(
+fn is_refused<R: Abort + Threads + Wait + Sync>(
     rt: &R,
     alloc: Global,
     of: &Merging,
@@ -174,7 +174,7 @@ fn is_refused<R: Abort + Threads + Wait>(
 }
 
 /// Asks that merges are refused so in which one of the identifiers that are drawn is of another byte.
-pub fn each_unfit_is_refused<R: Abort + Threads + Wait>(
+pub fn each_unfit_is_refused<R: Abort + Threads + Wait + Sync>(
     rt: &R,
     alloc: Global,
     of: &Merging,
@@ -235,7 +235,7 @@ const BEGUN: Shown = Shown {
     merged: false,
 };
 
-fn look_at<R: Abort + Threads + Wait>(
+fn look_at<R: Abort + Threads + Wait + Sync>(
     rt: &R,
     alloc: Global,
     of: &Merging,
@@ -256,7 +256,7 @@ fn look_at<R: Abort + Threads + Wait>(
 }
 
 // Merges to the end what was left, or is refused where the source has left the chain. Gives what stands behind it.
-fn end_merge<R: Abort + Threads + Wait>(
+fn end_merge<R: Abort + Threads + Wait + Sync>(
     rt: &R,
     alloc: Global,
     of: &Merging,
@@ -278,7 +278,7 @@ fn end_merge<R: Abort + Threads + Wait>(
 }
 
 // Opens what was left and merges it to the end, which changes nothing of the disk. Gives what it showed before.
-fn mended<R: Abort + Threads + Wait>(
+fn mended<R: Abort + Threads + Wait + Sync>(
     rt: &R,
     alloc: Global,
     of: &Merging,
@@ -296,7 +296,7 @@ fn mended<R: Abort + Threads + Wait>(
 }
 
 // The session's store as it comes back, behind those of the openings: it tells what was done to the chain's files.
-fn session<R: Abort + Threads + Wait>(
+fn session<R: Abort + Threads + Wait + Sync>(
     rt: &R,
     alloc: Global,
     of: &Merging,
@@ -337,7 +337,7 @@ fn goes_on<R: Abort>(rt: &R, of: &Merging, before: Shown, now: Shown, flushed: b
 }
 
 // The files of a new chain, which is whole and can be merged.
-fn new_files<R: Abort + Threads + Wait>(rt: &R, alloc: Global, of: &Merging) -> ChainBytes {
+fn new_files<R: Abort + Threads + Wait + Sync>(rt: &R, alloc: Global, of: &Merging) -> ChainBytes {
     let host = chain(rt, alloc, of);
     let files = held_bytes(rt, alloc, &host);
     let begun = mended(rt, alloc, of, &files) == BEGUN;
@@ -358,7 +358,7 @@ fn moment_of_copy<R: Abort>(rt: &R, alloc: Global, store: &MemStore, len: usize)
 
 // Asks that each crash of the session leaves the disk and a chain from which the merge goes on to its end, the flush being done from a
 // moment on. Gives what the last one showed, and whether the merge was done while the last change stood in the log alone.
-fn each_crash<R: Abort + Threads + Wait>(
+fn each_crash<R: Abort + Threads + Wait + Sync>(
     rt: &R,
     alloc: Global,
     of: &Merging,
@@ -388,7 +388,12 @@ fn each_crash<R: Abort + Threads + Wait>(
 }
 
 /// Asks it of crashes that leave these of the changes that weren't synced. The last one shows the whole merge.
-pub fn each_pick<R: Abort + Threads + Wait>(rt: &R, alloc: Global, of: &Merging, picks: &[Pick]) {
+pub fn each_pick<R: Abort + Threads + Wait + Sync>(
+    rt: &R,
+    alloc: Global,
+    of: &Merging,
+    picks: &[Pick],
+) {
     let files = new_files(rt, alloc, of);
     let store = session(rt, alloc, of, &files);
     ask(rt, store.order.len() >= 40, "too few moments");
@@ -401,7 +406,7 @@ pub fn each_pick<R: Abort + Threads + Wait>(rt: &R, alloc: Global, of: &Merging,
 }
 
 // Whether the session is done though this call of a store is to fail. If it isn't, the fault leaves what can be merged to the end.
-fn is_done<R: Abort + Threads + Wait>(
+fn is_done<R: Abort + Threads + Wait + Sync>(
     rt: &R,
     alloc: Global,
     of: &Merging,
@@ -430,7 +435,7 @@ fn is_done<R: Abort + Threads + Wait>(
 }
 
 /// Asks it of each second call, from the first one on.
-pub fn each_failing_call<R: Abort + Threads + Wait>(
+pub fn each_failing_call<R: Abort + Threads + Wait + Sync>(
     rt: &R,
     alloc: Global,
     of: &Merging,

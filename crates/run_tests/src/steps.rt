@@ -179,7 +179,7 @@ fn front_line<R: Abort>(rt: &R, alloc: Global, number: &str, n: usize) -> String
 const TORN: u8 = 0x0B;
 
 // The first bytes of sectors 0 and 1 of the disk of d.vhdx, as a dump has them, or that the second was written up to there.
-fn first_sectors<R: Abort + Threads + Wait>(
+fn first_sectors<R: Abort + Threads + Wait + Sync>(
     rt: &R,
     alloc: Global,
     host: &mut MemHost,
@@ -218,7 +218,7 @@ fn front_of(pick: Pick) -> usize {
 }
 
 // What a crash at this moment of the session leaves of the disk; None behind its end.
-fn crashed<R: Abort + Threads + Wait>(
+fn crashed<R: Abort + Threads + Wait + Sync>(
     rt: &R,
     alloc: Global,
     moment: u64,
@@ -244,7 +244,11 @@ fn crashed<R: Abort + Threads + Wait>(
 
 // What a crash at the last moment of the session leaves of the disk, and whether one at some moment left the second sector torn. At each
 // moment the second write is there only once the first one is, which was flushed before.
-fn each_crash<R: Abort + Threads + Wait>(rt: &R, alloc: Global, pick: Pick) -> ([u8; 2], bool) {
+fn each_crash<R: Abort + Threads + Wait + Sync>(
+    rt: &R,
+    alloc: Global,
+    pick: Pick,
+) -> ([u8; 2], bool) {
     let mut shown = [0, 0];
     let mut torn = false;
     for moment in 0..1000 {
@@ -285,7 +289,7 @@ const BROKEN: &str =
     "1 write 0 1 aa = done\n- flush = refused 35 Broken d.vhdx count 1\n- read 0 1 = refused 35 Broken d.vhdx count 1\n- flush = refused 35 Broken d.vhdx count 1\n";
 
 // A host after a script over d.vhdx in which this call of a store fails, and what was printed.
-fn failed<R: Abort + Threads + Wait>(
+fn failed<R: Abort + Threads + Wait + Sync>(
     rt: &R,
     alloc: Global,
     call: u64,
@@ -299,7 +303,12 @@ fn failed<R: Abort + Threads + Wait>(
 }
 
 // Asks that what the failing call has left opens, and that the same script runs over it.
-fn ask_unbroken<R: Abort + Threads + Wait>(rt: &R, alloc: Global, host: &MemHost, call: u64) {
+fn ask_unbroken<R: Abort + Threads + Wait + Sync>(
+    rt: &R,
+    alloc: Global,
+    host: &MemHost,
+    call: u64,
+) {
     let bytes = bytes_of(host, "d.vhdx").expect(rt, "no file");
     let mut again = host_with(rt, alloc, "d.vhdx", bytes);
     let mut ids = ids_of(rt, alloc, &[[7; 16], [8; 16], [9; 16]]);

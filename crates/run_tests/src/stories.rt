@@ -64,14 +64,14 @@ pub enum Step {
 }
 
 /// Plays a story over a host without a file.
-pub fn play<R: Abort + Threads + Wait>(rt: &R, alloc: Global, story: &[Step]) {
+pub fn play<R: Abort + Threads + Wait + Sync>(rt: &R, alloc: Global, story: &[Step]) {
     let mut host = empty_host(alloc);
     let mut ids = ids_of(rt, alloc, &[]);
     go_on(rt, alloc, story, &mut host, &mut ids);
 }
 
 /// Plays a story over a host, up to its end or to a step that isn't so, whose number, counted from 1, is told.
-pub fn go_on<R: Abort + Threads + Wait>(
+pub fn go_on<R: Abort + Threads + Wait + Sync>(
     rt: &R,
     alloc: Global,
     story: &[Step],
@@ -90,7 +90,7 @@ pub fn go_on<R: Abort + Threads + Wait>(
 }
 
 // Plays a step, and answers whether it is so.
-fn play_step<R: Abort + Threads + Wait>(
+fn play_step<R: Abort + Threads + Wait + Sync>(
     rt: &R,
     alloc: Global,
     step: &Step,
@@ -129,7 +129,7 @@ fn play_step<R: Abort + Threads + Wait>(
 }
 
 // Whether a line with its script, which is done, prints this.
-fn is_done<R: Abort + Threads + Wait>(
+fn is_done<R: Abort + Threads + Wait + Sync>(
     rt: &R,
     alloc: Global,
     line: &str,
@@ -146,7 +146,7 @@ fn is_done<R: Abort + Threads + Wait>(
 }
 
 // Whether lines, which are each refused, print this.
-fn are_refused<R: Abort + Threads + Wait>(
+fn are_refused<R: Abort + Threads + Wait + Sync>(
     rt: &R,
     alloc: Global,
     lines: &[&str],

@@ -20,10 +20,11 @@ use Rattle.chain_core.specs.Merging.{IsCopied, with_put}
 use Rattle.chain_core.specs.Refusing.{broken_by, or_else, unfit}
 use Rattle.chain_core.specs.Sessions.{IsSound, KeepsMerge, Session, kept_marks}
 use Rattle.chain_core.specs.States.{IsServing, State, sector_of}
-use Rattle.script_session.specs.Histories.{Drive, IsMarkedSo, IsOver, IsWaiting, StopsPut, Waiting, stamp_behind, stripes_of}
+use Rattle.script_session.specs.Histories.{Drive, Grows, IsEndTold, IsMarkedSo, IsOver, IsSoLong, IsWaiting, StopsPut, Waiting, stamp_behind, stripes_of}
 use Rattle.script_session.proofs.Marked.{Marked, marked_kept, marked_of, marked_put, stamped}
 use Rattle.script_session.specs.MergeSteps.{AnswersFetch, AnswersPut, IsUnchanged, KeepsHistory}
 use Rattle.script_session.proofs.Moving.{ok_reached}
+use Rattle.script_session.proofs.Lengths.{grows_none, long_later, moments_grow}
 use Rattle.script_session.proofs.Room.{each_stripe, target_is_far}
 use Rattle.script_session.proofs.Telling.{IsFar, both_told, kept_same, over_events}
 
@@ -123,11 +124,12 @@ module _ (drive : Drive) (v : State) (s : Session) (now : Trace) (l : Bool) (cop
 
 -- ---- a fetch
 
-pub record Fetched (drive : Drive) (v : State) (new : Session) (l : Bool) (copied : ℕ → Bool) (stripe : ℕ) (piece : Piece) (stamp : ℕ) : Type 0 where
+pub record Fetched (drive : Drive) (v : State) (trace : Trace) (new : Session) (l : Bool) (copied : ℕ → Bool) (stripe : ℕ) (piece : Piece) (stamp : ℕ) : Type 0 where
   pub now : Trace
   pub copying : IsCopying drive v new now l copied
   pub waiting : IsWaiting v new.layers.geometry (record { stripe = stripe; stamp = stamp_behind l v.history stripe }) piece
   pub stamp_is : stamp ≡ stamp_behind l v.history stripe
+  pub grows : Grows trace now
   pub inside : stripe < stripes_of drive
 
 -- it is refused for its stripe, or a read failed
@@ -135,8 +137,9 @@ pub data FetchEnds (drive : Drive) (stripe : ℕ) : ChainRefusal → Type 0 wher
   is_past : (x : ChainRefusal) → past_stripes stripe (stripes_of drive) ≡ Some x → FetchEnds drive stripe x
   has_failed : (file count : ℕ) → stripe < stripes_of drive → FetchEnds drive stripe (ReadFault file count)
 
-pub record Unfetched (drive : Drive) (v : State) (new : Session) (l : Bool) (copied : ℕ → Bool) (stripe : ℕ) (x : ChainRefusal) : Type 0 where
+pub record Unfetched (drive : Drive) (v : State) (trace : Trace) (new : Session) (l : Bool) (copied : ℕ → Bool) (stripe : ℕ) (x : ChainRefusal) : Type 0 where
   pub now : Trace
+  pub grows : Grows trace now
   pub copying : IsCopying drive v new now l copied
   pub ends : FetchEnds drive stripe x
 
@@ -162,7 +165,7 @@ module _ (drive : Drive) (old new : Session) (left : Piece) (stripe : ℕ) (insi
   read_failed NoRoom c = absurd c
 
 module _ (drive : Drive) (v : State) (old : Session) (trace : Trace) (l : Bool) (copied : ℕ → Bool) (c : IsCopying drive v old trace l copied) (few : old.events < 2 ^ 63) where
-  pub fetch_ok : (stripe stamp : ℕ) (new : Session) (piece : Piece) → AnswersFetch stripe (Ok stamp) old new piece → Fetched drive v new l copied stripe piece stamp
+  pub fetch_ok : (stripe stamp : ℕ) (new : Session) (piece : Piece) → AnswersFetch stripe (Ok stamp) old new piece → Fetched drive v trace new l copied stripe piece stamp
   fetch_ok stripe stamp new piece h =
       let none = ok_reached _ (fetch_refused stripe old) stamp h.early in
       let cause = h.cause none in
@@ -180,16 +183,18 @@ module _ (drive : Drive) (v : State) (old : Session) (trace : Trace) (l : Bool) 
         };
         stamp_is = cause.0 ∙ h.taken.stamp_is ∙ stamp_is drive v old trace l copied c stripe inside;
         inside = inside;
+        grows = moments_grow _ trace after.0 answers.0.moments;
       }
 
-  pub fetch_err : (stripe : ℕ) (x : ChainRefusal) (new : Session) (left : Piece) → AnswersFetch stripe (Err x) old new left → Unfetched drive v new l copied stripe x
+  pub fetch_err : (stripe : ℕ) (x : ChainRefusal) (new : Session) (left : Piece) → AnswersFetch stripe (Err x) old new left → Unfetched drive v trace new l copied stripe x
   fetch_err stripe x new left h = go (fetch_refused stripe old) refl
     where
-      go : (o : Option ChainRefusal) → fetch_refused stripe old ≡ o → Unfetched drive v new l copied stripe x
+      go : (o : Option ChainRefusal) → fetch_refused stripe old ≡ o → Unfetched drive v trace new l copied stripe x
       go (Some e) is =
           let early = subst (λ o. IfStopped {T = ℕ} o (Err x) (IsUnchanged old new)) is h.early in
           record {
             now = trace;
+            grows = grows_none trace;
             copying = unchanged drive v old trace l copied c new early.1;
             ends = is_past x (sym (fetch_cause drive v old trace l copied c stripe few) ∙ is ∙ ap Some (sym (same_as {T = ℕ} x e early.0)));
           }
@@ -199,6 +204,7 @@ module _ (drive : Drive) (v : State) (old : Session) (trace : Trace) (l : Bool) 
           let ends = read_failed drive old new left stripe inside x (h.cause is) in
           record {
             now = after.0;
+            grows = moments_grow _ trace after.0 (after.2 v c.serving).moments;
             copying = record { whole = ends.1; serving = (after.2 v c.serving).serving; marks = marked_kept l old.layers new.layers copied h.merge c.marks; over = over_kept drive v old new c.over h.keeps; seen = after.1 };
             ends = ends.0;
           }
@@ -208,28 +214,33 @@ module _ (drive : Drive) (v : State) (old : Session) (trace : Trace) (l : Bool) 
 pub never_stale : (n : ℕ) → stale n n ≡ None
 never_stale n = ap (λ b. if b then None else Some (Stale n n)) (eq-eqb n n refl)
 
-pub record Put (drive : Drive) (v : State) (new : Session) (l : Bool) (copied : ℕ → Bool) (stripe : ℕ) (piece : Piece) : Type 0 where
+pub record Put (drive : Drive) (v : State) (trace : Trace) (new : Session) (l : Bool) (copied : ℕ → Bool) (stripe : ℕ) (piece : Piece) : Type 0 where
   pub now : Trace
+  pub grows : Grows trace now
   pub copying : IsCopying drive (with_put (piece_of piece) v) new now l (with_mark stripe copied)
 
 -- it stops, or it breaks the session
 pub data PutEnds (drive : Drive) (v : State) (new : Session) (l : Bool) (copied : ℕ → Bool) (trace now : Trace) : ChainRefusal → Type 0 where
-  put_stops : (x : ChainRefusal) → StopsPut x → IsCopying drive v new now l copied → PutEnds drive v new l copied trace now x
+  put_stops : (x : ChainRefusal) → StopsPut x → IsEndTold (IsSoLong v.writes now) (Err x) → Grows trace now → IsCopying drive v new now l copied → PutEnds drive v new l copied trace now x
   put_fails : (file count : ℕ) → new.broken ≡ Some (fault_of file count) → HasEnded v trace now → PutEnds drive v new l copied trace now (Broken file count)
+
+pub ends_grow : (drive : Drive) (v : State) (new : Session) (l : Bool) (copied : ℕ → Bool) (trace now : Trace) (x : ChainRefusal) → PutEnds drive v new l copied trace now x → Grows trace now
+ends_grow drive v new l copied trace now x (put_stops _ stops full grows c) = grows
+ends_grow drive v new l copied trace now _ (put_fails file count broken ended) = moments_grow _ trace now ended.moments
 
 module _ (drive : Drive) (v : State) (old new : Session) (trace now : Trace) (l : Bool) (copied : ℕ → Bool) (piece : Piece) (marks : KeepsMerge old.layers new.layers → IsMarkedSo new.layers copied l) (over : IsOver drive v new) (seen : new.disk.told ≡ Some now) where
   goes_on : new.broken ≡ None → KeepsMerge old.layers new.layers → IsRefused v new.layers trace now → IsCopying drive v new now l copied
   goes_on whole keeps r = record { whole = whole; serving = r.serving; marks = marks keeps; over = over; seen = seen }
 
-  put_outcome : (x : ChainRefusal) → IsFar x → PutCause piece old new (Err x) → PieceAnswers piece v new.layers trace now (Err x) → PutEnds drive v new l copied trace now x
+  put_outcome : (x : ChainRefusal) → IsFar v.writes trace x → PutCause piece old new (Err x) → PieceAnswers piece v new.layers trace now (Err x) → PutEnds drive v new l copied trace now x
   put_outcome EmptyRange far c a = absurd c
   put_outcome (OutOfRange first count sectors) far c a = absurd c
   put_outcome (TooLong count limit) far c a = absurd c
   put_outcome ReadOnly far c a = absurd c
   put_outcome (Broken file count) far c a = put_fails file count c.3 a
   put_outcome (Spent t) far c a = absurd c
-  put_outcome (FileFull next) far c a = put_stops (FileFull next) (far next refl) (goes_on c.2 c.0 a)
-  put_outcome (ReadFault file count) far c a = put_stops (ReadFault file count) tt (goes_on c.3 c.0 a)
+  put_outcome (FileFull next) far c a = let f = far next refl in let more = moments_grow _ trace now a.moments in put_stops (FileFull next) f.0 (long_later v.writes v.writes trace now next (λ n e. e) more f.1) more (goes_on c.2 c.0 a)
+  put_outcome (ReadFault file count) far c a = put_stops (ReadFault file count) tt tt (moments_grow _ trace now a.moments) (goes_on c.3 c.0 a)
   put_outcome NoMerge far c a = absurd c
   put_outcome (Stale taken at) far c a = absurd c
   put_outcome (NotYet stripe) far c a = absurd c
@@ -239,13 +250,14 @@ module _ (drive : Drive) (v : State) (old new : Session) (trace now : Trace) (l 
   put_outcome NoRoom far c a = absurd c
 
 module _ (drive : Drive) (v : State) (old : Session) (trace : Trace) (l : Bool) (copied : ℕ → Bool) (c : IsCopying drive v old trace l copied) (w : Waiting) (piece : Piece) (held : IsWaiting v old.layers.geometry w piece) where
-  pub put_ok : (new : Session) → AnswersPut piece (Ok tt) old new → Put drive v new l copied w.stripe piece
+  pub put_ok : (new : Session) → AnswersPut piece (Ok tt) old new → Put drive v trace new l copied w.stripe piece
   put_ok new h =
       let none = ok_reached _ (put_refused piece old) tt h.early in
       let after = both_told _ old.disk.told new.disk.told trace c.seen (h.told none) in
       let done : IsCopied (piece_of piece) v new.layers trace after.0 = after.2 v c.serving held.is_true in
       record {
         now = after.0;
+        grows = moments_grow _ trace after.0 done.moments;
         copying = record {
           whole = (h.cause none).2;
           serving = done.serving;
@@ -258,5 +270,5 @@ module _ (drive : Drive) (v : State) (old : Session) (trace : Trace) (l : Bool) 
   pub put_err : (x : ChainRefusal) (new : Session) → put_refused piece old ≡ None → AnswersPut piece (Err x) old new → (now : Trace) × (new.disk.told ≡ Some now) × PutEnds drive v new l copied trace now x
   put_err x new none h =
       let after = both_told _ old.disk.told new.disk.told trace c.seen (h.told none) in
-      let far : IsFar x = λ next e. target_is_far piece next v old trace (h.sound.ready c.whole) (has drive v old trace l copied c).there c.serving c.seen (subst (λ y. TargetRoomIs piece old.layers old.disk (Err y)) e (h.room none)) in
+      let far : IsFar v.writes trace x = λ next e. target_is_far piece next v old trace (h.sound.ready c.whole) (has drive v old trace l copied c).there c.serving c.seen (subst (λ y. TargetRoomIs piece old.layers old.disk (Err y)) e (h.room none)) in
       (after.0, after.1, put_outcome drive v old new trace after.0 l copied piece (λ keeps. marked_kept l old.layers new.layers copied keeps c.marks) (over_kept drive v old new c.over h.keeps) after.1 x far (h.cause none) (after.2 v c.serving held.is_true))

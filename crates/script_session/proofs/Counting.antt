@@ -1,9 +1,11 @@
 -- What faults of lines say of the store's counts.
-use Rattle.std.proofs.Common.{◌≡◌, ◌<◌, ◌+◌, ◌/◌, ◌^◌, ◌==◌, ◌||◌, ◌⊎◌, ℕ, Bool, true, false, List, [], ◌∷◌, length, Option, Some, None, Result, Ok, Err, refl, sym, ap, ap₂, subst, ◌∙◌, arith, inl, inr}
-use Rattle.std.specs.Prelude.{IfSome, if◌then◌else◌, is_some, nat_lt}
+use Rattle.std.proofs.Common.{◌≡◌, ◌≢◌, ◌<◌, ◌≤◌, ◌+◌, ◌/◌, ◌^◌, ◌==◌, ◌||◌, ◌⊎◌, ℕ, Bool, true, false, List, [], ◌∷◌, length, Option, Some, None, Result, Ok, Err, refl, sym, ap, ap₂, subst, ◌∙◌, arith, inl, inr}
+use Rattle.std.specs.Prelude.{IfErr, IfSome, if◌then◌else◌, is_some, nat_lt}
+use Rattle.std.specs.List.{AllByRecursion}
+use Rattle.std.proofs.lemmas.Bool.{cases_eq}
 use Rattle.std.proofs.lemmas.Option.{same_Some}
 use Rattle.store_model.proofs.Told.{counts_join}
-use Rattle.store_model.specs.Cause.{Rose}
+use Rattle.store_model.specs.Cause.{Rose, RoseAt}
 use Rattle.store_model.specs.Disk.{Disk, ReadFailed}
 use Rattle.store_model.specs.Plans.{FailsToChange}
 use Rattle.store_model.specs.Trace.{Trace}
@@ -27,7 +29,7 @@ use Rattle.script.specs.Transcript.{of_call}
 use Rattle.script.specs.declared.form.Line.{Line}
 use Rattle.script_session.specs.Answers.{Answers, AnswersCall, AnswersLine, AnswersLines, HasCauseOf, as_copied, as_done, with_reply, with_stamp}
 use Rattle.script_session.specs.MergeSteps.{AnswersCopy, AnswersFetch, AnswersFinish, AnswersPut, AnswersTurn, AnswersTurns, EndsCopy, IsUnchanged, all_moved, fetched_and, no_turn, not_fetched, one_more, one_refused}
-use Rattle.script_session.specs.Faults.{Counts, CountsFaults, LinesCountFaults}
+use Rattle.script_session.specs.Faults.{Counts, CountsFaults, IsFailedChange, IsFaultOf, LinesCountFaults}
 use Rattle.script_session.specs.Told.{Asked, Told, asked, asks_call, asks_copy, asks_fetch, asks_finish, asks_put, caller, fault_of, last_fault, later_of, next_number}
 use Rattle.script_session.proofs.Moving.{ok_reached}
 use Rattle.script_session.proofs.Running.{later_than_none}
@@ -69,9 +71,27 @@ counts_still old new fault e c =
 
 -- ---- one line
 
--- a fault broke the session, or it was of a read and didn't
-abbrev EndsOrReads : Session → StoreFault → Type 0
-EndsOrReads new fault = ((new.broken ≡ None) × (fault.count ≡ new.disk.failed_reads fault.file)) ⊎ (new.broken ≡ Some fault)
+-- where one file's count rose no file's fell
+rises : (file count : ℕ) (before now : ℕ → ℕ) → RoseAt file count before now → (n : ℕ) → before n ≤ now n
+rises file count before now r n = by_file (cases_eq n file)
+  where
+    by_file : (n ≡ file) ⊎ (n ≢ file) → before n ≤ now n
+    by_file (inl e) = subst (λ k. before k ≤ now k) (sym e) r.rose.later
+    by_file (inr ne) = omega (arith, r.others n ne)
+
+-- A read of a file failed, which doesn't break the session; or a change of one did, which does.
+data HowFailed (old new : Session) (fault : StoreFault) : ChainRefusal → Type 0 where
+  by_read : new.broken ≡ None → fault.count ≡ new.disk.failed_reads fault.file → ((n : ℕ) → old.disk.failed_reads n ≤ new.disk.failed_reads n) → new.disk.failed_changes ≡ old.disk.failed_changes
+      → HowFailed old new fault (ReadFault fault.file fault.count)
+  by_change : new.broken ≡ Some fault → fault.count ≡ new.disk.failed_changes fault.file → ((n : ℕ) → old.disk.failed_reads n ≤ new.disk.failed_reads n) → HowFailed old new fault (Broken fault.file fault.count)
+
+read_failed : (file : ℕ) (old new : Session) (fault : StoreFault) (told : Option Trace) → new.broken ≡ None → ReadFailed file (record (old.disk) { told = told }) new.disk fault → HowFailed old new fault (ReadFault fault.file fault.count)
+read_failed file old new fault told whole c =
+    by_read whole (c.count.told ∙ ap new.disk.failed_reads (sym c.of_file)) (rises file fault.count old.disk.failed_reads new.disk.failed_reads c.count) (ap (λ (d : Disk). d.failed_changes) c.stays)
+
+change_failed : (file : ℕ) (old new : Session) (fault : StoreFault) → new.broken ≡ Some fault → FailsToChange file old.disk new.disk fault → HowFailed old new fault (Broken fault.file fault.count)
+change_failed file old new fault broke c =
+    by_change broke (c.count.told ∙ ap new.disk.failed_changes (sym c.of_file)) (λ n. let same : new.disk.failed_reads n ≡ old.disk.failed_reads n = ap (λ (d : Disk). d.failed_reads n) c.stays in omega (arith, same))
 
 -- the leaf's file is one of the store's
 leaf_within : (s : Session) → IsSound s → s.broken ≡ None → 0 < s.disk.files → leaf_number s.layers < s.disk.files
@@ -84,7 +104,7 @@ leaf_within s sound whole some = by_leaf s.layers.leaf (sound.ready whole).leaf
 -- a refusal of a call that reached the files: the counts stay, or the fault that it tells is counted
 data Fault (old new : Session) : ChainRefusal → Type 0 where
   rests : (x : ChainRefusal) → fault_of (Err x) ≡ None → new.broken ≡ None → new.disk ≡ record (old.disk) { told = new.disk.told } → Fault old new x
-  faults : (x : ChainRefusal) (fault : StoreFault) → fault_of (Err x) ≡ Some fault → Counts new.disk fault → new.disk.files ≡ old.disk.files → EndsOrReads new fault → Fault old new x
+  faults : (x : ChainRefusal) (fault : StoreFault) → fault_of (Err x) ≡ Some fault → Counts new.disk fault → new.disk.files ≡ old.disk.files → HowFailed old new fault x → Fault old new x
 
 module _ (old new : Session) (some : leaf_number old.layers < old.disk.files) where
   read_fault : (x : ChainRefusal) → IsCausedByRead old new (Err x) → Fault old new x
@@ -97,7 +117,7 @@ module _ (old new : Session) (some : leaf_number old.layers < old.disk.files) wh
   read_fault (FileFull next) c = absurd c
   read_fault (ReadFault file count) c =
       let fault = chain.fault_of file count in
-      faults (ReadFault file count) fault refl (counts_read file old.disk new.disk fault old.disk.told c.0.0 c.0.1) (ap (λ (d : Disk). d.files) c.0.1.stays) (inl (c.1, c.0.1.count.told))
+      faults (ReadFault file count) fault refl (counts_read file old.disk new.disk fault old.disk.told c.0.0 c.0.1) (ap (λ (d : Disk). d.files) c.0.1.stays) (read_failed file old new fault old.disk.told c.1 c.0.1)
   read_fault NoMerge c = absurd c
   read_fault (Stale taken at) c = absurd c
   read_fault (NotYet stripe) c = absurd c
@@ -113,13 +133,13 @@ module _ (old new : Session) (some : leaf_number old.layers < old.disk.files) wh
   change_fault ReadOnly c = absurd c
   change_fault (Broken file count) c =
       let fault = chain.fault_of file count in
-      faults (Broken file count) fault refl (counts_change (leaf_number old.layers) old.disk new.disk fault some c.0) (ap (λ (d : Disk). d.files) c.0.stays) (inr c.1)
+      faults (Broken file count) fault refl (counts_change (leaf_number old.layers) old.disk new.disk fault some c.0) (ap (λ (d : Disk). d.files) c.0.stays) (change_failed (leaf_number old.layers) old new fault c.1 c.0)
   change_fault (Spent t) c = absurd c
   change_fault (FileFull next) c = rests (FileFull next) refl c.1 c.0
   change_fault (ReadFault file count) c =
       let fault = chain.fault_of file count in
       faults (ReadFault file count) fault refl (counts_read (leaf_number old.layers) old.disk new.disk fault new.disk.told some c.0) (ap (λ (d : Disk). d.files) c.0.stays)
-      (inl (c.1, c.0.count.told ∙ ap new.disk.failed_reads (sym c.0.of_file)))
+      (read_failed (leaf_number old.layers) old new fault new.disk.told c.1 c.0)
   change_fault NoMerge c = absurd c
   change_fault (Stale taken at) c = absurd c
   change_fault (NotYet stripe) c = absurd c
@@ -179,25 +199,32 @@ early_quiet call s x whole h = go (nat_lt s.events (2 ^ 63)) (subst (λ b. or_el
 -- a line, in a session that isn't broken
 data LineCounts (t : Told) (old new : Session) : Type 0 where
   line_rests : fault_of t ≡ None → new.broken ≡ None → new.disk ≡ record (old.disk) { told = new.disk.told } → LineCounts t old new
-  line_faults : (fault : StoreFault) → fault_of t ≡ Some fault → Counts new.disk fault → new.disk.files ≡ old.disk.files → EndsOrReads new fault → LineCounts t old new
+  line_faults : (x : ChainRefusal) (fault : StoreFault) → t ≡ Err x → fault_of t ≡ Some fault → Counts new.disk fault → new.disk.files ≡ old.disk.files → HowFailed old new fault x → LineCounts t old new
 
 -- a fault that a line tells, if it tells one
 abbrev TellsAtMost : Option StoreFault → StoreFault → Type 0
 TellsAtMost o fault = (o ≡ None) ⊎ (o ≡ Some fault)
+
+-- what a line of a session that a fault broke is told is that fault, if it is one
+abbrev IsThat : StoreFault → ChainRefusal → Type 0
+IsThat fault (ReadFault file count) = ⊥
+IsThat fault (Broken file count) = fault ≡ record { file = file; count = count }
+IsThat fault other = Unit {0}
 
 -- a line, in a session that a fault broke
 record StaysBroken (fault : StoreFault) (t : Told) (old new : Session) : Type 0 where
   same : new.disk ≡ old.disk
   broken : new.broken ≡ Some fault
   told : TellsAtMost (fault_of t) fault
+  that : IfErr t (IsThat fault)
 
 -- what a call is refused by then
-broken_cause : (events : ℕ) (fault : StoreFault) (later : Option ChainRefusal) → (e : ChainRefusal) × (or_else (unfit events (Some fault)) later ≡ Some e) × TellsAtMost (fault_of (Err e)) fault
+broken_cause : (events : ℕ) (fault : StoreFault) (later : Option ChainRefusal) → (e : ChainRefusal) × (or_else (unfit events (Some fault)) later ≡ Some e) × TellsAtMost (fault_of (Err e)) fault × IsThat fault e
 broken_cause events fault later = go (nat_lt events (2 ^ 63))
   where
-    go : (b : Bool) → (e : ChainRefusal) × (or_else (if b then broken_by (Some fault) else Some (Spent events)) later ≡ Some e) × TellsAtMost (fault_of (Err e)) fault
-    go true = (Broken fault.file fault.count, refl, inr refl)
-    go false = (Spent events, refl, inl refl)
+    go : (b : Bool) → (e : ChainRefusal) × (or_else (if b then broken_by (Some fault) else Some (Spent events)) later ≡ Some e) × TellsAtMost (fault_of (Err e)) fault × IsThat fault e
+    go true = (Broken fault.file fault.count, refl, inr refl, refl)
+    go false = (Spent events, refl, inl refl, tt)
 
 module _ (number : ℕ) (call : Call) (old new : Session) where
   -- refused before the files are reached
@@ -210,7 +237,7 @@ module _ (number : ℕ) (call : Call) (old new : Session) where
       where
         by_fault : Fault old new x → LineCounts (Err x) old new
         by_fault (rests _ q b e) = line_rests q b e
-        by_fault (faults _ fault f counts files b) = line_faults fault f counts files b
+        by_fault (faults _ fault f counts files b) = line_faults x fault refl f counts files b
 
         go : (o : Option ChainRefusal) → refused call old ≡ o → LineCounts (Err x) old new
         go None is = by_fault (call_fault old new (leaf_within old h.sound whole some) call x h.cause is)
@@ -234,11 +261,11 @@ module _ (number : ℕ) (call : Call) (old new : Session) where
 
   module _ (fault : StoreFault) (broken : old.broken ≡ Some fault) where
     broken_early : (answer : Result ℕ ChainRefusal) (r : Reply) → Answers (caller number) call answer r old new
-        → (e : ChainRefusal) × (answer ≡ Err e) × (new ≡ record old { events = counted old.events }) × TellsAtMost (fault_of (Err e)) fault
+        → (e : ChainRefusal) × (answer ≡ Err e) × (new ≡ record old { events = counted old.events }) × TellsAtMost (fault_of (Err e)) fault × IsThat fault e
     broken_early answer r h =
         let cause = broken_cause old.events fault (misplaced call old.layers) in
         let early = refused_early answer r cause.0 (ap (λ b. or_else (unfit old.events b) (misplaced call old.layers)) broken ∙ cause.1) h in
-        (cause.0, early.0, early.1, cause.2)
+        (cause.0, early.0, early.1, cause.2, cause.3)
 
     call_stays_broken : (t : Told) → AnswersCall number call t old new → StaysBroken fault t old new
     call_stays_broken t h =
@@ -247,6 +274,7 @@ module _ (number : ℕ) (call : Call) (old new : Session) where
           same = ap (λ (s : Session). s.disk) b.2;
           broken = ap (λ (s : Session). s.broken) b.2 ∙ broken;
           told = subst (λ t. TellsAtMost (fault_of t) fault) (sym (h.is ∙ ap (with_reply h.reply) b.1)) b.3;
+          that = subst (λ t. IfErr t (IsThat fault)) (sym (h.is ∙ ap (with_reply h.reply) b.1)) b.4;
         }
 
 -- ---- one step of a merge
@@ -311,7 +339,7 @@ module _ (old new : Session) (left : Piece) where
   fetch_fault (FileFull next) c = absurd c
   fetch_fault (ReadFault file count) c =
       let fault = chain.fault_of file count in
-      faults (ReadFault file count) fault refl (counts_read file old.disk new.disk fault old.disk.told c.2.0 c.2.1) (ap (λ (d : Disk). d.files) c.2.1.stays) (inl (c.3, c.2.1.count.told))
+      faults (ReadFault file count) fault refl (counts_read file old.disk new.disk fault old.disk.told c.2.0 c.2.1) (ap (λ (d : Disk). d.files) c.2.1.stays) (read_failed file old new fault old.disk.told c.3 c.2.1)
   fetch_fault NoMerge c = absurd c
   fetch_fault (Stale taken at) c = absurd c
   fetch_fault (NotYet stripe) c = absurd c
@@ -328,13 +356,13 @@ module _ (piece : Piece) (old new : Session) where
   put_fault ReadOnly c = absurd c
   put_fault (Broken file count) c =
       let fault = chain.fault_of file count in
-      faults (Broken file count) fault refl (counts_change (target_number old.layers) old.disk new.disk fault c.1 c.2) (ap (λ (d : Disk). d.files) c.2.stays) (inr c.3)
+      faults (Broken file count) fault refl (counts_change (target_number old.layers) old.disk new.disk fault c.1 c.2) (ap (λ (d : Disk). d.files) c.2.stays) (change_failed (target_number old.layers) old new fault c.3 c.2)
   put_fault (Spent t) c = absurd c
   put_fault (FileFull next) c = rests (FileFull next) refl c.2 c.1
   put_fault (ReadFault file count) c =
       let fault = chain.fault_of file count in
       faults (ReadFault file count) fault refl (counts_read (target_number old.layers) old.disk new.disk fault new.disk.told c.1 c.2) (ap (λ (d : Disk). d.files) c.2.stays)
-      (inl (c.3, c.2.count.told ∙ ap new.disk.failed_reads (sym c.2.of_file)))
+      (read_failed (target_number old.layers) old new fault new.disk.told c.3 c.2)
   put_fault NoMerge c = absurd c
   put_fault (Stale taken at) c = absurd c
   put_fault (NotYet stripe) c = absurd c
@@ -387,7 +415,14 @@ both_rest old mid new a b = record { whole = b.whole; same = counts_join old.dis
 
 fault_behind : (old mid new : Session) (x : ChainRefusal) → Rests old mid → Fault mid new x → Fault old new x
 fault_behind old mid new x a (rests _ q b e) = rests x q b (counts_join old.disk mid.disk new.disk a.same e)
-fault_behind old mid new x a (faults _ fault f counts files b) = faults x fault f counts (files ∙ ap (λ (d : Disk). d.files) a.same) b
+fault_behind old mid new x a (faults _ fault f counts files b) = faults x fault f counts (files ∙ ap (λ (d : Disk). d.files) a.same) (failed_behind x b)
+  where
+    reads : ((n : ℕ) → mid.disk.failed_reads n ≤ new.disk.failed_reads n) → (n : ℕ) → old.disk.failed_reads n ≤ new.disk.failed_reads n
+    reads later n = let same : mid.disk.failed_reads n ≡ old.disk.failed_reads n = ap (λ (d : Disk). d.failed_reads n) a.same in omega (arith, later n, same)
+
+    failed_behind : (x : ChainRefusal) → HowFailed mid new fault x → HowFailed old new fault x
+    failed_behind _ (by_read whole count later none) = by_read whole count (reads later) (none ∙ ap (λ (d : Disk). d.failed_changes) a.same)
+    failed_behind _ (by_change broke count later) = by_change broke count (reads later)
 
 turn_rests : (stripe : ℕ) (old new : Session) → AnswersTurn stripe (Ok tt) old new → Rests old new
 turn_rests stripe old new (fetched_and _ stamp _ mid _ piece fetched put) = both_rest old mid new (fetch_rests stripe stamp old mid piece fetched) (put_rests piece mid new put)
@@ -404,7 +439,7 @@ turns_rest old slot new left whole (one_more stripe mid _ held _ turns next turn
 
 by_fault : (x : ChainRefusal) (old new : Session) → Fault old new x → LineCounts (Err x) old new
 by_fault x old new (rests _ q b e) = line_rests q b e
-by_fault x old new (faults _ fault f counts files b) = line_faults fault f counts files b
+by_fault x old new (faults _ fault f counts files b) = line_faults x fault refl f counts files b
 
 module _ (old new : Session) (slot left : Piece) (whole : old.broken ≡ None) where
   fetch_counts : (stripe : ℕ) (answer : Result ℕ ChainRefusal) → AnswersFetch stripe answer old new left → LineCounts (with_stamp answer) old new
@@ -439,7 +474,7 @@ module _ (old new : Session) (slot left : Piece) (whole : old.broken ≡ None) w
   finish_ends ReadOnly c = absurd c
   finish_ends (Broken file count) c =
       let fault = chain.fault_of file count in
-      faults (Broken file count) fault refl (counts_change fault.file old.disk new.disk fault c.fails.within c.fails.fails) (ap (λ (d : Disk). d.files) c.fails.fails.stays) (inr c.broken)
+      faults (Broken file count) fault refl (counts_change fault.file old.disk new.disk fault c.fails.within c.fails.fails) (ap (λ (d : Disk). d.files) c.fails.fails.stays) (change_failed fault.file old new fault c.broken c.fails.fails)
   finish_ends (Spent t) c = absurd c
   finish_ends (FileFull next) c = absurd c
   finish_ends (ReadFault file count) c = absurd c
@@ -476,32 +511,32 @@ module _ (old new : Session) (slot left : Piece) (whole : old.broken ≡ None) w
 -- in a session that a fault broke
 module _ (old new : Session) (slot left : Piece) (fault : StoreFault) (broken : old.broken ≡ Some fault) where
   -- what a step is refused by then
-  step_cause : (later : Option ChainRefusal) → (e : ChainRefusal) × (or_else (unfit old.events old.broken) later ≡ Some e) × TellsAtMost (fault_of (Err e)) fault
+  step_cause : (later : Option ChainRefusal) → (e : ChainRefusal) × (or_else (unfit old.events old.broken) later ≡ Some e) × TellsAtMost (fault_of (Err e)) fault × IsThat fault e
   step_cause later =
       let cause = broken_cause old.events fault later in
-      (cause.0, ap (λ b. or_else (unfit old.events b) later) broken ∙ cause.1, cause.2)
+      (cause.0, ap (λ b. or_else (unfit old.events b) later) broken ∙ cause.1, cause.2, cause.3)
 
-  step_stays : (t : Told) (e : ChainRefusal) → t ≡ Err e → new.disk ≡ old.disk → new.broken ≡ old.broken → TellsAtMost (fault_of (Err e)) fault → StaysBroken fault t old new
-  step_stays t e is same stays tells = record { same = same; broken = stays ∙ broken; told = subst (λ t. TellsAtMost (fault_of t) fault) (sym is) tells }
+  step_stays : (t : Told) (e : ChainRefusal) → t ≡ Err e → new.disk ≡ old.disk → new.broken ≡ old.broken → TellsAtMost (fault_of (Err e)) fault × IsThat fault e → StaysBroken fault t old new
+  step_stays t e is same stays tells = record { same = same; broken = stays ∙ broken; told = subst (λ t. TellsAtMost (fault_of t) fault) (sym is) tells.0; that = subst (λ t. IfErr t (IsThat fault)) (sym is) tells.1 }
 
   line_stays_broken : (number : ℕ) (step : Asked) (t : Told) → AnswersLine number step t old slot new left → StaysBroken fault t old new
   line_stays_broken number (asks_call call) t h = call_stays_broken number call old new fault broken t h.0
   line_stays_broken number (asks_fetch stripe) t h =
       let cause = step_cause (no_stripe stripe old.layers) in
       let early = subst (λ o. IfStopped {T = ℕ} o h.0 (IsUnchanged old new)) cause.1 h.2.early in
-      step_stays t cause.0 (h.1 ∙ ap with_stamp early.0) (ap (λ (s : Session). s.disk) early.1) (ap (λ (s : Session). s.broken) early.1) cause.2
+      step_stays t cause.0 (h.1 ∙ ap with_stamp early.0) (ap (λ (s : Session). s.disk) early.1) (ap (λ (s : Session). s.broken) early.1) (cause.2, cause.3)
   line_stays_broken number asks_put t h =
       let cause = step_cause (no_piece slot old.layers) in
       let early = subst (λ o. IfStopped {T = Unit {0}} o h.0 (IsUnchanged old new)) cause.1 h.2.early in
-      step_stays t cause.0 (h.1 ∙ ap as_copied early.0) (ap (λ (s : Session). s.disk) early.1) (ap (λ (s : Session). s.broken) early.1) cause.2
+      step_stays t cause.0 (h.1 ∙ ap as_copied early.0) (ap (λ (s : Session). s.disk) early.1) (ap (λ (s : Session). s.broken) early.1) (cause.2, cause.3)
   line_stays_broken number asks_copy t h =
       let cause = step_cause (no_merge old.layers) in
       let early = subst (λ o. IfStopped {T = Unit {0}} o h.0 ((new ≡ old) × (left ≡ slot))) cause.1 h.2.early in
-      step_stays t cause.0 (h.1 ∙ ap as_done early.0) (ap (λ (s : Session). s.disk) early.1.0) (ap (λ (s : Session). s.broken) early.1.0) cause.2
+      step_stays t cause.0 (h.1 ∙ ap as_done early.0) (ap (λ (s : Session). s.disk) early.1.0) (ap (λ (s : Session). s.broken) early.1.0) (cause.2, cause.3)
   line_stays_broken number asks_finish t h =
       let cause = step_cause (no_merge old.layers) in
       let early = subst (λ o. IfStopped {T = Unit {0}} o h.0 (IsUnchanged old new)) cause.1 h.2.early in
-      step_stays t cause.0 (h.1 ∙ ap as_done early.0) (ap (λ (s : Session). s.disk) early.1) (ap (λ (s : Session). s.broken) early.1) cause.2
+      step_stays t cause.0 (h.1 ∙ ap as_done early.0) (ap (λ (s : Session). s.disk) early.1) (ap (λ (s : Session). s.broken) early.1) (cause.2, cause.3)
 
 -- ---- all lines of a session that a fault broke
 
@@ -509,6 +544,7 @@ record StayBroken (fault : StoreFault) (told : List Told) (old new : Session) : 
   same : new.disk ≡ old.disk
   broken : new.broken ≡ Some fault
   tells : TellsAtMost (last_fault told) fault
+  those : AllByRecursion (λ t. IfErr t (IsThat fault)) told
 
 later_at_most : (a b : Option StoreFault) (fault : StoreFault) → TellsAtMost a fault → TellsAtMost b fault → TellsAtMost (later_of a b) fault
 later_at_most a b fault first (inr f) = inr (ap (later_of a) f)
@@ -517,13 +553,13 @@ later_at_most a b fault (inr f) (inl g) = inr (ap (later_of a) g ∙ f)
 
 lines_stay_broken : (number : ℕ) (lines : List Line) (told : List Told) (old new : Session) (slot left : Piece) (fault : StoreFault) → old.broken ≡ Some fault → AnswersLines number lines told old slot new left
     → StayBroken fault told old new
-lines_stay_broken number [] [] old new slot left fault broken is = record { same = ap (λ (s : Session). s.disk) is.0; broken = ap (λ (s : Session). s.broken) is.0 ∙ broken; tells = inl refl }
+lines_stay_broken number [] [] old new slot left fault broken is = record { same = ap (λ (s : Session). s.disk) is.0; broken = ap (λ (s : Session). s.broken) is.0 ∙ broken; tells = inl refl; those = tt }
 lines_stay_broken number [] (t ∷ told) old new slot left fault broken is = absurd is
 lines_stay_broken number (line ∷ lines) [] old new slot left fault broken is = absurd is
 lines_stay_broken number (line ∷ lines) (t ∷ told) old new slot left fault broken is =
     let one = line_stays_broken old is.0 slot is.1 fault broken number (asked line.form) t is.2 in
     let rest = lines_stay_broken (next_number number line.form) lines told is.0 new is.1 left fault one.broken is.3 in
-    record { same = rest.same ∙ one.same; broken = rest.broken; tells = later_at_most (fault_of t) (last_fault told) fault one.told rest.tells }
+    record { same = rest.same ∙ one.same; broken = rest.broken; tells = later_at_most (fault_of t) (last_fault told) fault one.told rest.tells; those = (one.that, rest.those) }
 
 -- ---- all lines
 
@@ -534,45 +570,107 @@ pub if_some : (o : Option StoreFault) (P Q : StoreFault → Type 0) → ((fault 
 if_some None P Q f h = tt
 if_some (Some fault) P Q f h = f fault h
 
-module _ (t : Told) (told : List Told) (old mid new : Session) (files : mid.disk.files ≡ old.disk.files) where
+-- what no fault refused tells none
+quiet_told : (files : ℕ) (reads : ℕ → ℕ) (broke : Option StoreFault) (t : Told) → fault_of t ≡ None → IfErr t (IsFaultOf files reads broke)
+quiet_told files reads broke (Ok done) none = tt
+quiet_told files reads broke (Err (Broken file count)) none = cc
+quiet_told files reads broke (Err (ReadFault file count)) none = cc
+quiet_told files reads broke (Err EmptyRange) none = tt
+quiet_told files reads broke (Err (OutOfRange first count sectors)) none = tt
+quiet_told files reads broke (Err (TooLong count limit)) none = tt
+quiet_told files reads broke (Err ReadOnly) none = tt
+quiet_told files reads broke (Err (Spent t)) none = tt
+quiet_told files reads broke (Err (FileFull next)) none = tt
+quiet_told files reads broke (Err NoMerge) none = tt
+quiet_told files reads broke (Err (Stale taken at)) none = tt
+quiet_told files reads broke (Err (NotYet stripe)) none = tt
+quiet_told files reads broke (Err (Abandoned file count)) none = tt
+quiet_told files reads broke (Err (NoStripe stripe stripes)) none = tt
+quiet_told files reads broke (Err NoPiece) none = tt
+quiet_told files reads broke (Err NoRoom) none = tt
+
+-- and what is told of a session that a fault broke is that one
+that_told : (files : ℕ) (reads : ℕ → ℕ) (broke : Option StoreFault) (fault : StoreFault) → broke ≡ Some fault → (t : Told) → IfErr t (IsThat fault) → IfErr t (IsFaultOf files reads broke)
+that_told files reads broke fault is (Ok done) that = tt
+that_told files reads broke fault is (Err (Broken file count)) that = is ∙ ap Some that
+that_told files reads broke fault is (Err (ReadFault file count)) that = absurd that
+that_told files reads broke fault is (Err EmptyRange) that = tt
+that_told files reads broke fault is (Err (OutOfRange first count sectors)) that = tt
+that_told files reads broke fault is (Err (TooLong count limit)) that = tt
+that_told files reads broke fault is (Err ReadOnly) that = tt
+that_told files reads broke fault is (Err (Spent t)) that = tt
+that_told files reads broke fault is (Err (FileFull next)) that = tt
+that_told files reads broke fault is (Err NoMerge) that = tt
+that_told files reads broke fault is (Err (Stale taken at)) that = tt
+that_told files reads broke fault is (Err (NotYet stripe)) that = tt
+that_told files reads broke fault is (Err (Abandoned file count)) that = tt
+that_told files reads broke fault is (Err (NoStripe stripe stripes)) that = tt
+that_told files reads broke fault is (Err NoPiece) that = tt
+that_told files reads broke fault is (Err NoRoom) that = tt
+
+those_told : (files : ℕ) (reads : ℕ → ℕ) (broke : Option StoreFault) (fault : StoreFault) → broke ≡ Some fault → (told : List Told) → AllByRecursion (λ t. IfErr t (IsThat fault)) told → AllByRecursion (λ t. IfErr t (IsFaultOf files reads broke)) told
+those_told files reads broke fault is [] those = tt
+those_told files reads broke fault is (t ∷ told) those = (that_told files reads broke fault is t those.0, those_told files reads broke fault is told those.1)
+
+module _ (t : Told) (told : List Told) (old mid new : Session) (files : mid.disk.files ≡ old.disk.files) (more : (n : ℕ) → old.disk.failed_reads n ≤ mid.disk.failed_reads n) where
+  reads_more : ((n : ℕ) → mid.disk.failed_reads n ≤ new.disk.failed_reads n) → (n : ℕ) → old.disk.failed_reads n ≤ new.disk.failed_reads n
+  reads_more later n = omega (arith, more n, later n)
+
   -- behind the line a fault refused one, or neither this one
-  of_later : last_fault (t ∷ told) ≡ last_fault told → (last_fault told ≡ None → mid.disk ≡ record (old.disk) { told = mid.disk.told }) → CountsFaults told mid new → CountsFaults (t ∷ told) old new
-  of_later same quiet h = record {
+  of_later : last_fault (t ∷ told) ≡ last_fault told → (last_fault told ≡ None → mid.disk ≡ record (old.disk) { told = mid.disk.told }) → IfErr t (IsFaultOf new.disk.files new.disk.failed_reads new.broken) → mid.disk.failed_changes ≡ old.disk.failed_changes → CountsFaults told mid new
+      → CountsFaults (t ∷ told) old new
+  of_later same quiet this none h = record {
     files = h.files ∙ files;
     last = subst (λ o. IfSome o (Counts new.disk)) (sym same) h.last;
     broken = if_some new.broken (λ fault. last_fault told ≡ Some fault) (λ fault. last_fault (t ∷ told) ≡ Some fault) (λ fault e. same ∙ e) h.broken;
     unbroken = λ whole. subst (λ o. IfSome o (λ fault. fault.count ≡ new.disk.failed_reads fault.file)) (sym same) (h.unbroken whole);
     quiet = λ none. let later = sym same ∙ none in counts_join old.disk mid.disk new.disk (quiet later) (h.quiet later);
+    each = (this, h.each);
+    change = h.change;
+    none = λ whole. h.none whole ∙ none;
+    reads = reads_more h.reads;
   }
 
   -- this one is the last that a fault refused
   of_this : (fault : StoreFault) → last_fault (t ∷ told) ≡ Some fault → Counts new.disk fault → new.disk.files ≡ mid.disk.files → IfSome new.broken (λ x. last_fault (t ∷ told) ≡ Some x)
-      → (new.broken ≡ None → fault.count ≡ new.disk.failed_reads fault.file) → CountsFaults (t ∷ told) old new
-  of_this fault last counts same broken read = record {
+      → (new.broken ≡ None → fault.count ≡ new.disk.failed_reads fault.file) → AllByRecursion (λ t. IfErr t (IsFaultOf new.disk.files new.disk.failed_reads new.broken)) (t ∷ told) → IfSome new.broken (IsFailedChange new.disk.files new.disk.failed_changes)
+      → (new.broken ≡ None → new.disk.failed_changes ≡ old.disk.failed_changes) → ((n : ℕ) → mid.disk.failed_reads n ≤ new.disk.failed_reads n) → CountsFaults (t ∷ told) old new
+  of_this fault last counts same broken read each change none reads = record {
     files = same ∙ files;
     last = subst (λ o. IfSome o (Counts new.disk)) (sym last) counts;
     broken = broken;
     unbroken = λ whole. subst (λ o. IfSome o (λ fault. fault.count ≡ new.disk.failed_reads fault.file)) (sym last) (read whole);
     quiet = λ none. absurd (never fault _ last none);
+    each = each;
+    change = change;
+    none = none;
+    reads = reads_more reads;
   }
 
   -- the session goes on behind a fault
-  goes_on : (fault : StoreFault) → fault_of t ≡ Some fault → Counts mid.disk fault → fault.count ≡ mid.disk.failed_reads fault.file → CountsFaults told mid new → CountsFaults (t ∷ told) old new
-  goes_on fault f counts read h = by_last (last_fault told) refl
+  goes_on : (fault : StoreFault) → fault_of t ≡ Some fault → Counts mid.disk fault → fault.count ≡ mid.disk.failed_reads fault.file → t ≡ Err (ReadFault fault.file fault.count) → mid.disk.failed_changes ≡ old.disk.failed_changes → CountsFaults told mid new
+      → CountsFaults (t ∷ told) old new
+  goes_on fault f counts read is none h = by_last (last_fault told) refl
     where
+      this : IfErr t (IsFaultOf new.disk.files new.disk.failed_reads new.broken)
+      this = subst (λ t. IfErr t (IsFaultOf new.disk.files new.disk.failed_reads new.broken)) (sym is) (subst (λ n. fault.file < n) (sym h.files) counts.within, counts.some, omega (arith, read, h.reads fault.file))
+
       by_last : (o : Option StoreFault) → last_fault told ≡ o → CountsFaults (t ∷ told) old new
-      by_last (Some x) e = of_later (ap (later_of (fault_of t)) e ∙ sym e) (λ none. absurd (never x _ e none)) h
+      by_last (Some x) e = of_later (ap (later_of (fault_of t)) e ∙ sym e) (λ none. absurd (never x _ e none)) this none h
       by_last None e =
           of_this fault (ap₂ later_of f e) (counts_still mid.disk new.disk fault (h.quiet e) counts) h.files
           (if_some new.broken (λ x. last_fault told ≡ Some x) (λ x. last_fault (t ∷ told) ≡ Some x) (λ x some. absurd (never x _ some e)) h.broken)
-          (λ whole. read ∙ sym (ap (λ (d : Disk). d.failed_reads fault.file) (h.quiet e)))
+          (λ whole. read ∙ sym (ap (λ (d : Disk). d.failed_reads fault.file) (h.quiet e))) (this, h.each) h.change (λ whole. h.none whole ∙ none) h.reads
 
   -- it is broken from then on
-  ends_here : (fault : StoreFault) → fault_of t ≡ Some fault → Counts mid.disk fault → StayBroken fault told mid new → CountsFaults (t ∷ told) old new
-  ends_here fault f counts h =
+  ends_here : (fault : StoreFault) → fault_of t ≡ Some fault → Counts mid.disk fault → fault.count ≡ mid.disk.failed_changes fault.file → t ≡ Err (Broken fault.file fault.count) → StayBroken fault told mid new → CountsFaults (t ∷ told) old new
+  ends_here fault f counts count is h =
       let last : last_fault (t ∷ told) ≡ Some fault = by_told (last_fault told) h.tells in
+      let failed : IsFailedChange mid.disk.files mid.disk.failed_changes fault = (counts.within, counts.some, count) in
       of_this fault last (subst (λ d. Counts d fault) (sym h.same) counts) (ap (λ (d : Disk). d.files) h.same) (subst (λ o. IfSome o (λ x. last_fault (t ∷ told) ≡ Some x)) (sym h.broken) last)
-      (λ whole. absurd (never fault _ h.broken whole))
+      (λ whole. absurd (never fault _ h.broken whole)) (subst (λ t. IfErr t (IsFaultOf new.disk.files new.disk.failed_reads new.broken)) (sym is) h.broken, those_told new.disk.files new.disk.failed_reads new.broken fault h.broken told h.those)
+      (subst (λ o. IfSome o (IsFailedChange new.disk.files new.disk.failed_changes)) (sym h.broken) (subst (λ (d : Disk). IsFailedChange d.files d.failed_changes fault) (sym h.same) failed)) (λ whole. absurd (never fault _ h.broken whole))
+      (λ n. let same : new.disk.failed_reads n ≡ mid.disk.failed_reads n = ap (λ (d : Disk). d.failed_reads n) h.same in omega (arith, same))
     where
       by_told : (o : Option StoreFault) → TellsAtMost o fault → later_of (fault_of t) o ≡ Some fault
       by_told o (inl none) = ap (later_of (fault_of t)) none ∙ f
@@ -585,6 +683,10 @@ lines_counted number [] [] old new slot left some whole is = record {
   broken = subst (λ o. IfSome o (λ fault. ◌≡◌ {A = Option StoreFault} None (Some fault))) (sym (ap (λ (s : Session). s.broken) is.0 ∙ whole)) tt;
   unbroken = λ whole. tt;
   quiet = λ none. same_told old.disk new.disk (ap (λ (s : Session). s.disk) is.0);
+  each = tt;
+  change = subst (λ o. IfSome o (IsFailedChange new.disk.files new.disk.failed_changes)) (sym (ap (λ (s : Session). s.broken) is.0 ∙ whole)) tt;
+  none = λ whole. ap (λ (s : Session). s.disk.failed_changes) is.0;
+  reads = λ n. let same : new.disk.failed_reads n ≡ old.disk.failed_reads n = ap (λ (s : Session). s.disk.failed_reads n) is.0 in omega (arith, same);
 }
 lines_counted number [] (t ∷ told) old new slot left some whole is = absurd is
 lines_counted number (line ∷ lines) [] old new slot left some whole is = absurd is
@@ -593,9 +695,14 @@ lines_counted number (line ∷ lines) (t ∷ told) old new slot left some whole 
     (λ files b. lines_counted (next_number number line.form) lines told is.0 new is.1 left (subst (λ n. 0 < n) (sym files) some) b is.3)
     (λ fault b. lines_stay_broken (next_number number line.form) lines told is.0 new is.1 left fault b is.3)
   where
+    failed : (x : ChainRefusal) (fault : StoreFault) → t ≡ Err x → fault_of t ≡ Some fault → Counts is.0.disk fault → is.0.disk.files ≡ old.disk.files → (is.0.disk.files ≡ old.disk.files → is.0.broken ≡ None → CountsFaults told is.0 new)
+        → ((fault : StoreFault) → is.0.broken ≡ Some fault → StayBroken fault told is.0 new) → HowFailed old is.0 fault x → CountsFaults (t ∷ told) old new
+    failed _ fault same f counts files later broken (by_read whole count reads none) = goes_on t told old is.0 new files reads fault f counts count same none (later files whole)
+    failed _ fault same f counts files later broken (by_change broke count reads) = ends_here t told old is.0 new files reads fault f counts count same (broken fault broke)
+
     go : LineCounts t old is.0 → (is.0.disk.files ≡ old.disk.files → is.0.broken ≡ None → CountsFaults told is.0 new) → ((fault : StoreFault) → is.0.broken ≡ Some fault → StayBroken fault told is.0 new) → CountsFaults (t ∷ told) old new
     go (line_rests f b e) later broken =
         let files = ap (λ (d : Disk). d.files) e in
-        of_later t told old is.0 new files (ap (λ o. later_of o (last_fault told)) f ∙ later_than_none (last_fault told)) (λ none. e) (later files b)
-    go (line_faults fault f counts files (inl read)) later broken = goes_on t told old is.0 new files fault f counts read.1 (later files read.0)
-    go (line_faults fault f counts files (inr b)) later broken = ends_here t told old is.0 new files fault f counts (broken fault b)
+        of_later t told old is.0 new files (λ n. let same : is.0.disk.failed_reads n ≡ old.disk.failed_reads n = ap (λ (d : Disk). d.failed_reads n) e in omega (arith, same)) (ap (λ o. later_of o (last_fault told)) f ∙ later_than_none (last_fault told)) (λ none. e)
+        (quiet_told new.disk.files new.disk.failed_reads new.broken t f) (ap (λ (d : Disk). d.failed_changes) e) (later files b)
+    go (line_faults x fault same f counts files how) later broken = failed x fault same f counts files later broken how

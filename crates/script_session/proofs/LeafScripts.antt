@@ -25,15 +25,15 @@ use Rattle.chain_core.specs.declared.layers.Layers.{Layers}
 use Rattle.chain_core.specs.declared.layers.Retiring.{Retiring}
 use Rattle.script.specs.declared.form.Line.{Line}
 use Rattle.script_session.specs.Answers.{AnswersLines}
-use Rattle.script_session.specs.Faults.{Counts}
+use Rattle.script_session.specs.Faults.{Counts, FaultsAreTold}
 use Rattle.script_session.specs.Histories.{IsMarkedSo, IsOver, leaf_marked, names_left, serves}
 use Rattle.script_session.specs.MergeRunning.{HasLeafHistory, HasRunLeafMerge, drive_over, just_started, leaf_scope_of}
 use Rattle.script_session.specs.Running.{HasRunToEnd, IsEnded}
-use Rattle.script_session.specs.Told.{Told}
+use Rattle.script_session.specs.Told.{Told, failed_by}
 use Rattle.script_session.specs.declared.session.ScriptRun.{ScriptRun}
 use Rattle.script_session.proofs.Content.{lines_untold}
 use Rattle.script_session.proofs.Counting.{lines_counted}
-use Rattle.script_session.proofs.Ending.{end_counted, end_untold, last_counted, quiet_end}
+use Rattle.script_session.proofs.Ending.{end_counted, end_untold, faults_told, last_counted, quiet_end}
 use Rattle.script_session.proofs.LeftFiles.{names_placed}
 use Rattle.script_session.proofs.LinesTold.{lines_told}
 use Rattle.script_session.proofs.MergeEnds.{IsNewMerge, IsScope, has_history}
@@ -60,8 +60,10 @@ scope_is m merge trace mid rest opened = record {
   changes = λ n none. none;
   rest = rest;
   quiet = λ n changed unwritten. absurd (let bad : true ≡ false = sym changed ∙ unwritten in cc);
+  unnamed = λ n changed unwritten. absurd (let bad : true ≡ false = sym changed ∙ unwritten in cc);
   own = λ P first left n written. own_numbers P _ first left n written;
   names = names_started trace mid m merge.ids merge.twice opened;
+  all = ap₂ (λ (x : List ℕ) (xs : List (List ℕ)). x ∷ xs) opened.0.name (names_started trace mid m merge.ids merge.twice opened);
 }
 
 -- a merge that has just started has no mark
@@ -134,5 +136,8 @@ module _ (files : List LinkedFile) (before : Session) (old : Disk) (drawn now : 
         counted = subst (λ o. IfSome o (Counts after)) (sym ran.fault_is) (last_counted ran.told before r.behind after run.closed counts r.ended);
         ended = end_counted ran.told before r.behind after run.closed counts r.ended some_file;
         quiet = λ none. on_ok_weaker run.closed (λ same. counts_join old before.disk after begun.begun.counts same) (quiet_end ran.told before r.behind after run.closed counts r.ended (sym ran.fault_is ∙ none));
+        faults =
+            let k = faults_told ran.told before r.behind after run.closed counts r.ended in
+            subst (λ n. FaultsAreTold ran.told (failed_by run.closed) n old.failed_changes after.failed_reads after.failed_changes) (ap (λ (d : Disk). d.files) begun.begun.counts) (record { each = k.each; end = k.end; none = λ none. k.none none ∙ ap (λ (d : Disk). d.failed_changes) begun.begun.counts });
         history = histories lines ran.many ran.told r.behind slot left after run.closed few empty ran.answers r.ended;
       }

@@ -7,7 +7,8 @@ use Rattle.std.proofs.lemmas.List.{append_assoc, map-append}
 use Rattle.vx_base.specs.declared.parts.Parts.{Parts}
 use Rattle.vhdx_format.specs.declared.log_entry.Page.{Page}
 use Rattle.guest_model.specs.History.{History}
-use Rattle.store_model.specs.File.{is_synced}
+use Rattle.store_model.specs.File.{File, is_synced, seen}
+use Rattle.layer_session.specs.Unnamed.{NamesNoLog}
 use Rattle.store_model.specs.Trace.{Trace, file_of}
 use Rattle.link_rules.specs.declared.linked.LinkedFile.{LinkedFile}
 use Rattle.layer_session.specs.Begins.{as_found, in_session}
@@ -18,12 +19,12 @@ use Rattle.merge_plan.specs.declared.drawing.MergeIds.{MergeIds}
 use Rattle.chain_model.specs.Images.{Placed}
 use Rattle.chain_model.specs.Merges.{Piece}
 use Rattle.chain_core.specs.Finished.{Look, look_of}
-use Rattle.chain_core.specs.MergeStarting.{between_in, data_session, inner_parts, leaf_of, started_merge, target_in, target_place, top_in}
+use Rattle.chain_core.specs.MergeStarting.{between_in, data_session, inner_parts, leaf_of, source_in, started_merge, target_in, target_place, top_in}
 use Rattle.chain_core.specs.Merging.{put_on, with_piece, with_put}
 use Rattle.chain_core.specs.Starting.{placed_from}
 use Rattle.chain_core.specs.States.{Rest, State, merging, others_of, plain, retiring}
-use Rattle.chain_core.proofs.MergeFound.{AreFound, child_opened, opened_above, rest_opened, target_opened}
-use Rattle.script_session.specs.Histories.{GoesOn, HasRetired, IsLater, merges_leaf, names_left, numbers_left, staying}
+use Rattle.chain_core.proofs.MergeFound.{AreFound, child_opened, opened_above, rest_opened, source_opened, target_opened}
+use Rattle.script_session.specs.Histories.{GoesOn, HasRetired, IsLater, all_names, is_under_way, merges_leaf, names_left, numbers_left, staying}
 
 abbrev pub number_of : Placed → ℕ
 number_of f = f.number
@@ -127,11 +128,25 @@ own_synced v later h now is still n some own = by_write (later.writes n) refl
     by_write true e = own e
     by_write false e = ap is_synced (still n e) ∙ later_rests v later is.goes n some e
 
+-- such a file names no log since
+later_unnamed : (v later : State) → GoesOn v later ⊎ HasRetired v later → (n : ℕ) → v.writes n ≡ true → later.writes n ≡ false → NamesNoLog (seen (file_of later.since n))
+later_unnamed v later (inl goes) n some none = absurd (let bad : true ≡ false = sym some ∙ sym (ap (λ f. f n) goes.writes) ∙ none in cc)
+later_unnamed v later (inr done) n some none = subst (λ k. NamesNoLog (seen (file_of later.since k))) (sym (is_leaf v n some (sym (ap (λ f. f n) done.writes) ∙ none))) done.no_log
+
+-- and what a state wrote names none where what it writes now doesn't
+pub own_unnamed : (v later : State) (h : History) (now : Trace) → IsLater v h later → ((n : ℕ) → later.writes n ≡ false → file_of now n ≡ file_of later.since n) → (n : ℕ) → v.writes n ≡ true → (later.writes n ≡ true → NamesNoLog (seen (file_of now n)))
+    → NamesNoLog (seen (file_of now n))
+own_unnamed v later h now is still n some own = by_write (later.writes n) refl
+  where
+    by_write : (b : Bool) → later.writes n ≡ b → NamesNoLog (seen (file_of now n))
+    by_write true e = own e
+    by_write false e = subst (λ (f : File). NamesNoLog (seen f)) (sym (still n e)) (later_unnamed v later is.goes n some e)
+
 -- ---- steps
 
 -- no step at all
 pub later_itself : (v : State) → IsLater v v.history v
-later_itself v = record { leaf = refl; opening = refl; began = refl; left = refl; names = refl; history = refl; goes = inl (record { number = refl; name = refl; retired = refl; writes = refl; since = refl; merges = refl }) }
+later_itself v = record { leaf = refl; opening = refl; began = refl; left = refl; names = refl; history = refl; goes = inl (record { number = refl; name = refl; retired = refl; writes = refl; since = refl; merges = refl }); whole = λ e. (e, refl) }
 
 goes_twice : (v w later : State) → GoesOn v w → GoesOn w later → GoesOn v later
 goes_twice v w later one more = record {
@@ -154,6 +169,7 @@ retires_after v w later one done = record {
   writes = done.writes ∙ ap₂ (λ (k : ℕ) (f : ℕ → Bool). λ n. if n == k then false else f n) one.number one.writes;
   since = λ n none. done.since n (ap (λ f. f n) one.writes ∙ none) ∙ ap (λ t. file_of t n) one.since;
   rests = subst (λ k. is_synced (file_of later.since k) ≡ true) one.number done.rests;
+  no_log = subst (λ k. NamesNoLog (seen (file_of later.since k))) one.number done.no_log;
 }
 
 goes_after : (v w later : State) → HasRetired v w → GoesOn w later → HasRetired v later
@@ -167,6 +183,7 @@ goes_after v w later done more = record {
   writes = more.writes ∙ done.writes;
   since = λ n none. ap (λ t. file_of t n) more.since ∙ done.since n none;
   rests = ap (λ t. is_synced (file_of t v.top.number)) more.since ∙ done.rests;
+  no_log = subst (λ t. NamesNoLog (seen (file_of t v.top.number))) (sym more.since) done.no_log;
 }
 
 -- a leaf is merged once in a session
@@ -178,8 +195,8 @@ later_goes v w later (inr done) (inr again) = never_both again.merges done.ended
 
 -- a step that leaves the same files in the chain
 pub later_same : (v w : State) (h : History) (later : State) → w.leaf ≡ v.leaf → w.opening ≡ v.opening → w.began ≡ v.began → numbers_left w ≡ numbers_left v → names_left w ≡ names_left v → GoesOn v w ⊎ HasRetired v w
-    → IsLater w h later → IsLater v h later
-later_same v w h later leaf opening began left names goes is = record {
+    → (is_under_way w.rest ≡ true → (is_under_way v.rest ≡ true) × (all_names w ≡ all_names v)) → IsLater w h later → IsLater v h later
+later_same v w h later leaf opening began left names goes all is = record {
   leaf = is.leaf ∙ leaf;
   opening = is.opening ∙ opening;
   began = is.began ∙ began;
@@ -187,6 +204,10 @@ later_same v w h later leaf opening began left names goes is = record {
   names = is.names ∙ names;
   history = is.history;
   goes = later_goes v w later goes is.goes;
+  whole = λ e.
+      let more = is.whole e in
+      let one = all more.0 in
+      (one.0, more.1 ∙ one.1);
 }
 
 merges_put : (piece : Piece) (rest : Rest) → merges_leaf (put_on piece rest) ≡ merges_leaf rest
@@ -194,9 +215,18 @@ merges_put piece (plain others) = refl
 merges_put piece (merging above source target below m) = refl
 merges_put piece (retiring target below first before) = refl
 
+-- a put leaves the names of all files
+all_put : (piece : Piece) (v : State) → is_under_way (put_on piece v.rest) ≡ true → (is_under_way v.rest ≡ true) × (all_names (with_put piece v) ≡ all_names v)
+all_put piece v e = by_rest v.top v.rest e
+  where
+    by_rest : (top : Placed) (rest : Rest) → is_under_way (put_on piece rest) ≡ true → (is_under_way rest ≡ true) × (map name_of (top ∷ others_of (put_on piece rest)) ≡ map name_of (top ∷ others_of rest))
+    by_rest top (plain others) e = let never : false ≡ true = e in cc
+    by_rest top (retiring target below first before) e = (refl, refl)
+    by_rest top (merging above source target below m) e = (refl, ap (λ ns. name_of top ∷ ns) (map-append name_of above (source ∷ with_piece piece target ∷ below) ∙ sym (map-append name_of above (source ∷ target ∷ below))))
+
 pub later_put : (v : State) (piece : Piece) (h : History) (later : State) → IsLater (with_put piece v) h later → IsLater v h later
 later_put v piece h later is =
-    later_same v (with_put piece v) h later refl refl refl (numbers_put piece v) (names_put piece v) (inl (record { number = refl; name = refl; retired = refl; writes = refl; since = refl; merges = merges_put piece v.rest })) is
+    later_same v (with_put piece v) h later refl refl refl (numbers_put piece v) (names_put piece v) (inl (record { number = refl; name = refl; retired = refl; writes = refl; since = refl; merges = merges_put piece v.rest })) (all_put piece v) is
 
 pub looks_names : (files : List Placed) → map (λ (l : Look). l.name) (map look_of files) ≡ map name_of files
 looks_names [] = refl
@@ -230,3 +260,16 @@ names_started t now m ids pages found =
     (names_above t m.above m.child (in_session (leaf_of m).parts (data_session ids.leaf)) m.child.parts ids.child (opened_above t 0 m.above (m.child ∷ m.source ∷ m.target ∷ m.below) found.attached.each) (child_opened t m found))
     (ap₂ (λ (x : List ℕ) (xs : List (List ℕ)). x ∷ xs) (target_opened t m found).name (names_placed t (target_place m + 1) m.below (rest_opened t m found)))
     ∙ append_assoc (map name m.above) (m.child.name ∷ []) (m.target.name ∷ map name m.below) ∙ sym (map-append name m.above (m.child ∷ m.target ∷ m.below))
+
+-- and all of them
+pub names_all : (t now : Trace) (m : MergeFiles) (ids : MergeIds) (pages : List Page) → AreFound t m → all_names (started_merge t now m ids pages) ≡ map (λ (f : LinkedFile). f.name) (m.above ++ m.child ∷ m.source ∷ m.target ∷ m.below)
+names_all t now m ids pages found =
+    let front : List Placed = top_in t m ids ∷ between_in t m.above m.child ids.child in
+    let behind : List Placed = source_in t m ids pages ∷ target_in t m ids ∷ placed_from t (target_place m + 1) m.below in
+    let name : LinkedFile → List ℕ = λ f. f.name in
+    map-append name_of front behind
+    ∙ ap₂ (λ (xs ys : List (List ℕ)). xs ++ ys)
+    (names_above t m.above m.child (in_session (leaf_of m).parts (data_session ids.leaf)) m.child.parts ids.child (opened_above t 0 m.above (m.child ∷ m.source ∷ m.target ∷ m.below) found.attached.each) (child_opened t m found))
+    (ap₂ (λ (x : List ℕ) (xs : List (List ℕ)). x ∷ xs) (source_opened t m found).name
+    (ap₂ (λ (x : List ℕ) (xs : List (List ℕ)). x ∷ xs) (target_opened t m found).name (names_placed t (target_place m + 1) m.below (rest_opened t m found))))
+    ∙ append_assoc (map name m.above) (m.child.name ∷ []) (m.source.name ∷ m.target.name ∷ map name m.below) ∙ sym (map-append name m.above (m.child ∷ m.source ∷ m.target ∷ m.below))

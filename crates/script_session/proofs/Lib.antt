@@ -5,6 +5,7 @@ pub mod Ending
 pub mod Full
 pub mod LeafScripts
 pub mod LeftFiles
+pub mod Lengths
 pub mod LineAnswers
 pub mod LinesTold
 pub mod Long

@@ -5,16 +5,17 @@ use Rattle.merge_core.specs.declared.piece.Piece.{Piece}
 use Rattle.chain_core.specs.Sessions.{Session}
 use Rattle.chain_core.specs.States.{State}
 use Rattle.script_session.specs.Answers.{AnswersLine}
-use Rattle.script_session.specs.Histories.{AreTold, Break, Course, Drive, IsOver, LinesTellHistory, Stands, TellsHistory, line_told, none_left}
+use Rattle.script_session.specs.Histories.{AreTold, Break, Course, Drive, IsOver, IsSoLong, LinesTellHistory, Stands, TellsHistory, line_told, none_left}
 use Rattle.script_session.specs.Told.{Asked, Told, asked, asks_call, asks_copy, asks_fetch, asks_finish, asks_put, next_number}
 use Rattle.script_session.proofs.Steps.{copy_line, fetch_line, finish_line, put_line}
 use Rattle.script_session.proofs.LeftFiles.{later_itself}
+use Rattle.script_session.proofs.Lengths.{end_later, ends_later, grows_none, grows_on, long_later, writes_before}
 use Rattle.script_session.proofs.Telling.{LineTold, call_line}
 
 module _ (drive : Drive) (number : ℕ) (v : State) (course : Course) (broken : Option Break) (old new : Session) (slot left : Piece) (over : IsOver drive v old) (trace : Trace) (seen : old.disk.told ≡ Some trace)
     (stands : Stands v old slot trace course broken) (few : old.events + 2 ^ 34 ≤ 2 ^ 63) where
   abbrev Line : Asked → Told → Piece → Type 0
-  Line step t p = LineTold drive number step t v course broken old.events new p
+  Line step t p = LineTold drive number step t v course broken old.events trace new p
 
   pub line_is : (step : Asked) (t : Told) → AnswersLine number step t old slot new left → Line step t left
   line_is (asks_call call) t h = subst (Line (asks_call call) t) (sym h.1) (call_line drive number call v course old new slot over trace broken seen stands (omega (arith, few)) t h.0)
@@ -26,13 +27,15 @@ module _ (drive : Drive) (number : ℕ) (v : State) (course : Course) (broken : 
 
 pub lines_told : LinesTellHistory
 lines_told drive number [] [] v course broken old new slot left trace seen stands over few is =
-    subst (λ s. TellsHistory drive number [] [] v course broken s left) (sym is.0) (subst (λ p. TellsHistory drive number [] [] v course broken old p) (sym is.1) (record {
+    subst (λ s. TellsHistory drive number [] [] v course broken trace s left) (sym is.0) (subst (λ p. TellsHistory drive number [] [] v course broken trace old p) (sym is.1) (record {
       later = v;
       now = trace;
       end = course;
       broken = broken;
       same = later_itself v;
       told_so = none_left number v.history course broken;
+      full = tt;
+      grows = grows_none trace;
       over = over;
       seen = seen;
       stands = stands;
@@ -52,6 +55,11 @@ lines_told drive number (line ∷ lines) (t ∷ told) v course broken old new sl
       same = one.same rest.later.history rest.later rest.same;
       told_so = line_told number v.history rest.later.history course one.on rest.end broken one.after rest.broken line lines t told one.told_so
           (subst (λ h. AreTold drive next h one.on one.after lines told rest.later.history rest.end rest.broken) (sym one.history) rest.told_so);
+      full = (
+        end_later (IsSoLong v.writes one.now) (IsSoLong v.writes rest.now) (λ n. long_later v.writes v.writes one.now rest.now n (λ k e. e) rest.grows) t one.full,
+        ends_later (IsSoLong one.state.writes rest.now) (IsSoLong v.writes rest.now) (λ n. long_later one.state.writes v.writes rest.now rest.now n (writes_before v one.state one.same) (grows_none rest.now)) told rest.full,
+      );
+      grows = grows_on trace one.now rest.now one.grows rest.grows;
       over = rest.over;
       seen = rest.seen;
       stands = rest.stands;

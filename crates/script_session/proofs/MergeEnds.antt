@@ -1,13 +1,15 @@
 -- What stands behind a script's session that started with a merge: of the leaf, or of a file below it.
-use Rattle.std.proofs.Common.{◌≡◌, ℕ, Bool, true, false, List, [], ◌∷◌, map, Option, Some, None, Result, Ok, Err, refl, sym, ap, ap₂, subst, ◌∙◌}
+use Rattle.std.proofs.Common.{◌≡◌, ◌≢◌, ℕ, Bool, true, false, List, [], ◌∷◌, map, Option, Some, None, Result, Ok, Err, refl, sym, ap, ap₂, subst, ◌∙◌}
 use Rattle.std.specs.Prelude.{IfSome, OnOk, is_some}
 use Rattle.std.specs.List.{AllByRecursion}
 use Rattle.store_model.specs.Disk.{Disk, WhereBothTold}
-use Rattle.store_model.specs.File.{is_synced}
+use Rattle.store_model.specs.File.{File, is_synced, seen}
+use Rattle.layer_session.specs.Unnamed.{NamesNoLog}
 use Rattle.store_model.specs.Trace.{Trace, file_of}
 use Rattle.store_model.specs.declared.fault.StoreFault.{StoreFault}
 use Rattle.guest_model.specs.Calls.{Disk as GuestDisk}
-use Rattle.guest_model.specs.History.{replay}
+use Rattle.guest_model.specs.declared.call.Call.{Call}
+use Rattle.guest_model.specs.History.{either, is_dirty, replay}
 use Rattle.chain_model.specs.Images.{Placed, members_of}
 use Rattle.chain_model.specs.Members.{names_of}
 use Rattle.chain_model.specs.Moments.{EachOpens, EachOpensToPrefix}
@@ -15,16 +17,19 @@ use Rattle.merge_core.specs.declared.piece.Piece.{Piece}
 use Rattle.chain_core.specs.Answering.{EachLinks, HasClosed, HasEnded}
 use Rattle.chain_core.specs.Sessions.{HasNoMerge, Session}
 use Rattle.chain_core.specs.Starting.{opening_disk}
-use Rattle.chain_core.specs.States.{IsServing, State, disk_now, files_of, others_of, sector_of}
+use Rattle.chain_core.specs.States.{IsCourse, IsRetiring, IsServing, Rest, State, disk_now, files_of, merging, others_of, plain, retiring, sector_of}
+use Rattle.link_rules.specs.declared.linked.LinkedFile.{LinkedFile}
+use Rattle.chain_core.specs.declared.layers.Layers.{Layers}
 use Rattle.script.specs.declared.form.Line.{Line}
-use Rattle.script_session.specs.Histories.{AreTold, Break, Drive, IsOnCourse, Stands, TellsHistory, disk_after, is_broken, names_left, numbers_left, open_in, serves, staying}
+use Rattle.script_session.specs.Histories.{AreTold, Break, Course, Drive, Grows, IsEndTold, IsMarkedSo, IsOnCourse, IsSoLong, OpensLast, Stands, TellsHistory, all_names, below_marked, copying, disk_after, is_broken, is_under_way, leaf_marked, no_merge, names_left, numbers_left, open_in, serves, staying}
 use Rattle.script_session.specs.MergeRunning.{HasHistoryOver, IsAtRestOver, Scope, drive_over, just_started}
-use Rattle.script_session.specs.Running.{IsEnded, open_by}
+use Rattle.script_session.specs.Running.{IsEnded, open_by, open_last}
 use Rattle.script_session.specs.Told.{Told, sector_size}
-use Rattle.script_session.proofs.LeftFiles.{all_numbers, all_stay, later_number, later_since, later_writes, own_synced}
+use Rattle.script_session.proofs.LeftFiles.{all_numbers, all_stay, later_number, later_since, later_writes, own_synced, own_unnamed}
+use Rattle.script_session.proofs.Lengths.{ends_later, grows_none, long_later, moments_grow}
 use Rattle.script_session.proofs.Marked.{none_plain}
-use Rattle.script_session.proofs.Scripts.{ended_of, past_as}
-use Rattle.script_session.proofs.Telling.{both_told}
+use Rattle.script_session.proofs.Scripts.{ended_of, last_as, past_as}
+use Rattle.script_session.proofs.Telling.{both_told, opens_last}
 
 -- What the session's first state has of its scope: `mid` is the moment when its merge was prepared.
 pub record IsScope (scope : Scope) (v : State) (trace mid : Trace) : Type 1 where
@@ -36,11 +41,13 @@ pub record IsScope (scope : Scope) (v : State) (trace mid : Trace) : Type 1 wher
   pub changes : (n : ℕ) → scope.changes n ≡ false → v.writes n ≡ false
   pub rest : (other : ℕ) → scope.changes other ≡ false → file_of mid other ≡ file_of trace other
   pub quiet : (n : ℕ) → scope.changes n ≡ true → v.writes n ≡ false → is_synced (file_of mid n) ≡ true
+  pub unnamed : (n : ℕ) → scope.changes n ≡ true → v.writes n ≡ false → NamesNoLog (seen (file_of mid n))
   pub own : (P : ℕ → Type 0) → P v.top.number → AllByRecursion P (numbers_left v) → (n : ℕ) → v.writes n ≡ true → P n
   pub names : names_left v ≡ scope.staying
+  pub all : all_names v ≡ map (λ (f : LinkedFile). f.name) scope.files
 
 module _ (scope : Scope) (v : State) (trace mid : Trace) (is : IsScope scope v trace mid) (lines : List Line) (told : List Told) (behind : Session) (after : Disk) (closed : Result (Unit {0}) StoreFault) (ended : IsEnded behind after closed) (left : Piece)
-    (tells : TellsHistory (drive_over scope trace) 1 lines told v (just_started scope.of_leaf) None behind left) where
+    (tells : TellsHistory (drive_over scope trace) 1 lines told v (just_started scope.of_leaf) None mid behind left) where
   abbrev drive : Drive
   drive = drive_over scope trace
 
@@ -61,6 +68,19 @@ module _ (scope : Scope) (v : State) (trace mid : Trace) (is : IsScope scope v t
   moments_as b now past =
       past_as (sector_of later) sector_size later.opening (opening_disk trace scope.files) later.leaf scope.leaf later.began trace later.history b now tells.over.sector tells.over.opening leaf_is (tells.same.began ∙ is.began) past
 
+  may_change : (n : ℕ) → v.writes n ≡ true → scope.changes n ≡ true
+  may_change n written = by_change (scope.changes n) refl
+    where
+      by_change : (b : Bool) → scope.changes n ≡ b → scope.changes n ≡ true
+      by_change true e = e
+      by_change false e = let never : false ≡ true = sym (is.changes n e) ∙ written in cc
+
+  full_as : (now : Trace) → Grows tells.now now → AllByRecursion (IsEndTold (IsSoLong scope.changes now)) told
+  full_as now grows = ends_later (IsSoLong v.writes tells.now) (IsSoLong scope.changes now) (λ next. long_later v.writes scope.changes tells.now now next may_change grows) told tells.full
+
+  last_of : (call : Option Call) (now : Trace) → OpensLast later call now → EachOpens scope.leaf (either (is_dirty sector_size later.history) (open_in sector_size call)) (disk_after drive later.history) now
+  last_of call now last = last_as (sector_of later) sector_size later.opening (opening_disk trace scope.files) later.leaf scope.leaf later.history call now tells.over.sector tells.over.opening leaf_is last
+
   others_as : (now : Trace) → ((other : ℕ) → later.writes other ≡ false → file_of now other ≡ file_of later.since other) → (other : ℕ) → scope.changes other ≡ false → file_of now other ≡ file_of trace other
   others_as now still other none =
       let unwritten : v.writes other ≡ false = is.changes other none in
@@ -68,8 +88,8 @@ module _ (scope : Scope) (v : State) (trace mid : Trace) (is : IsScope scope v t
 
   -- a fault has broken the session
   behind_break : (b : Break) → tells.broken ≡ Some b → behind.broken ≡ Some b.fault → ((other : ℕ) → later.writes other ≡ false → file_of tells.now other ≡ file_of later.since other)
-      → EachOpensToPrefix (sector_of later) later.opening later.history (open_in (sector_of later) b.call) later.leaf later.began tells.now → WhereBothTold (HasHistoryOver scope lines told closed) (Some trace) after.told
-  behind_break b by broken still past =
+      → EachOpensToPrefix (sector_of later) later.opening later.history (open_in (sector_of later) b.call) later.leaf later.began tells.now → OpensLast later b.call tells.now → WhereBothTold (HasHistoryOver scope lines told closed) (Some trace) after.told
+  behind_break b by broken still past last =
       let e = subst (λ o. IfSome o (λ fault. (closed ≡ Err fault) × (after ≡ behind.disk))) broken ended.broken in
       let now_is : after.told ≡ Some tells.now = ap (λ (d : Disk). d.told) e.1 ∙ tells.seen in
       let has : Has tells.now = record {
@@ -78,9 +98,12 @@ module _ (scope : Scope) (v : State) (trace mid : Trace) (is : IsScope scope v t
         broken = tells.broken;
         told_so = told_so;
         moments = subst (λ o. EachOpensToPrefix sector_size (opening_disk trace scope.files) later.history (open_by o) scope.leaf trace tells.now) (sym by) (moments_as (λ z. open_in z b.call) tells.now past);
+        last = subst (λ o. EachOpens scope.leaf (open_last later.history o) (disk_after drive later.history) tells.now) (sym by) (last_of b.call tells.now last);
+        full = full_as tells.now (grows_none tells.now);
         still = others_as tells.now still;
         at_rest = subst (λ r. OnOk r (IsAtRestOver scope drive later.history tells.now)) (sym e.0) tt;
-        linked = λ done. subst (λ r. OnOk r (EachLinks scope.leaf scope.staying tells.now)) (sym e.0) tt;
+        linked = λ done. subst (λ r. OnOk r (EachLinks scope.leaf.name scope.staying tells.now)) (sym e.0) tt;
+        stays = λ some. subst (λ r. OnOk r (EachLinks scope.leaf.name (map (λ (f : LinkedFile). f.name) scope.files) tells.now)) (sym e.0) tt;
       } in
       subst (λ o. WhereBothTold (HasHistoryOver scope lines told closed) (Some trace) o) (sym now_is) has
 
@@ -106,19 +129,55 @@ module _ (scope : Scope) (v : State) (trace mid : Trace) (is : IsScope scope v t
             own_synced v later later.history now tells.same still n some
             (is.own (λ n. later.writes n ≡ true → Synced n) (λ own. subst Synced (later_number v later tells.same.goes own) synced.0) (weaker (numbers_left v) staying_synced) n some)
 
+  -- and none of them names a log
+  module _ (now : Trace) (still : (other : ℕ) → later.writes other ≡ false → file_of now other ≡ file_of later.since other) (named : AllByRecursion (λ f. later.writes f.number ≡ true → NamesNoLog (seen (file_of now f.number))) (files_of later)) where
+    abbrev Unnamed : ℕ → Type 0
+    Unnamed n = later.writes n ≡ true → NamesNoLog (seen (file_of now n))
+
+    staying_unnamed : AllByRecursion Unnamed (numbers_left v)
+    staying_unnamed =
+        subst (AllByRecursion Unnamed) tells.same.left (all_numbers Unnamed (staying later.top later.rest) (all_stay (λ f. Unnamed f.number) later.top later.rest named.0 named.1))
+
+    all_unnamed : (n : ℕ) → scope.changes n ≡ true → NamesNoLog (seen (file_of now n))
+    all_unnamed n changed = by_write (v.writes n) refl
+      where
+        by_write : (b : Bool) → v.writes n ≡ b → NamesNoLog (seen (file_of now n))
+        by_write false none =
+            subst (λ (f : File). NamesNoLog (seen f)) (sym (still n (later_writes v later tells.same.goes n none) ∙ later_since v later tells.same.goes n none ∙ ap (λ t. file_of t n) is.since)) (is.unnamed n changed none)
+        by_write true some =
+            own_unnamed v later later.history now tells.same still n some
+            (is.own Unnamed (λ own. subst (λ k. NamesNoLog (seen (file_of now k))) (later_number v later tells.same.goes own) (named.0 (ap later.writes (later_number v later tells.same.goes own) ∙ own))) staying_unnamed n some)
+
   -- it has ended, or its end failed
   module _ (none : tells.broken ≡ None) (serving : IsServing behind.layers later tells.now) (on : IsOnCourse later behind.layers left tells.end) (now : Trace) (h : HasClosed (is_some behind.layers.leaf) later tells.now now closed) where
     of_members : (files : List Placed) → names_of (members_of files) ≡ map (λ f. f.member.name) files
     of_members [] = refl
     of_members (f ∷ files) = ap (λ rest. f.member.name ∷ rest) (of_members files)
 
-    links_of : (r : Result (Unit {0}) StoreFault) → HasClosed (is_some behind.layers.leaf) later tells.now now r → HasNoMerge behind.layers → OnOk r (EachLinks scope.leaf scope.staying now)
+    links_of : (r : Result (Unit {0}) StoreFault) → HasClosed (is_some behind.layers.leaf) later tells.now now r → HasNoMerge behind.layers → OnOk r (EachLinks scope.leaf.name scope.staying now)
     links_of (Err fault) h gone = tt
     links_of (Ok done) h gone =
         let plain_is : staying later.top later.rest ≡ later.top ∷ others_of later.rest =
         none_plain (sector_of later) later.writes later.history behind.layers behind.layers.merge behind.layers.retiring later.top later.rest gone.0 gone.1 serving.course serving.leaving in
         let names : map (λ f. f.member.name) (files_of later) ≡ scope.staying = ap (map (λ f. f.member.name)) (sym plain_is) ∙ tells.same.names ∙ is.names in
-        subst (λ l. EachLinks l scope.staying now) leaf_is (subst (λ ns. EachLinks later.leaf ns now) (of_members (files_of later) ∙ names) h.links)
+        subst (λ l. EachLinks l.name scope.staying now) leaf_is (subst (λ ns. EachLinks later.leaf.name ns now) (of_members (files_of later) ∙ names) h.links)
+
+    -- a merge that isn't finished is under way
+    marked_under : (layers : Layers) (copied : ℕ → Bool) (l : Bool) (rest : Rest) → IsMarkedSo layers copied l → IsCourse (sector_of later) later.writes layers layers.merge later.top rest → IsRetiring (sector_of later) later.writes later.history layers layers.retiring later.top rest
+        → is_under_way rest ≡ true
+    marked_under layers copied l (merging above source target below m) marked course leaving = refl
+    marked_under layers copied l (retiring target below first before) marked course leaving = refl
+    marked_under layers copied _ (plain others) (below_marked u is only marks) course leaving = absurd (subst (λ o. IsCourse (sector_of later) later.writes layers o later.top (plain others)) is course)
+    marked_under layers copied _ (plain others) (leaf_marked r is only marks) course leaving = absurd (subst (λ o. IsRetiring (sector_of later) later.writes later.history layers o later.top (plain others)) only leaving)
+
+    under_way : (course : Course) → course ≢ no_merge → IsOnCourse later behind.layers left course → is_under_way later.rest ≡ true
+    under_way no_merge some on = absurd (some refl)
+    under_way (copying l copied waits) some on = marked_under behind.layers copied l later.rest on.0 serving.course serving.leaving
+
+    stays_of : (r : Result (Unit {0}) StoreFault) → HasClosed (is_some behind.layers.leaf) later tells.now now r → is_under_way later.rest ≡ true → OnOk r (EachLinks scope.leaf.name (map (λ (f : LinkedFile). f.name) scope.files) now)
+    stays_of (Err fault) h under = tt
+    stays_of (Ok done) h under =
+        subst (λ l. EachLinks l.name (map (λ (f : LinkedFile). f.name) scope.files) now) leaf_is (subst (λ ns. EachLinks later.leaf.name ns now) (of_members (files_of later) ∙ (tells.same.whole under).1 ∙ is.all) h.links)
 
     rest_of : (r : Result (Unit {0}) StoreFault) → HasClosed (is_some behind.layers.leaf) later tells.now now r → OnOk r (IsAtRestOver scope drive later.history now)
     rest_of (Err fault) h = tt
@@ -126,6 +185,7 @@ module _ (scope : Scope) (v : State) (trace mid : Trace) (is : IsScope scope v t
         let disk : disk_now later ≡ disk_after drive later.history = ap₂ (λ (z : ℕ) (o : GuestDisk). replay z o later.history) tells.over.sector tells.over.opening in
         record {
           synced = all_synced now h.ended.still (h.synced tells.over.change);
+          no_log = all_unnamed now h.ended.still (h.no_log tells.over.change);
           opens = subst (λ d. EachOpens scope.leaf (λ s. false) d now) disk (subst (λ l. EachOpens l (λ s. false) (disk_now later) now) leaf_is h.all);
         }
 
@@ -138,13 +198,16 @@ module _ (scope : Scope) (v : State) (trace mid : Trace) (is : IsScope scope v t
           broken = tells.broken;
           told_so = told_so;
           moments = subst (λ o. EachOpensToPrefix sector_size (opening_disk trace scope.files) later.history (open_by o) scope.leaf trace now) (sym none) (moments_as (λ z s. false) now end.past);
+          last = subst (λ o. EachOpens scope.leaf (open_last later.history o) (disk_after drive later.history) now) (sym none) (last_of None now (opens_last later tells.now now end.moments));
+          full = full_as now (moments_grow _ tells.now now end.moments);
           still = others_as now end.still;
           at_rest = rest_of closed h;
           linked = λ done. links_of closed h (subst (IsOnCourse later behind.layers left) done on);
+          stays = λ some. stays_of closed h (under_way tells.end some on);
         }
 
   by_stands : (broken : Option Break) → tells.broken ≡ broken → Stands later behind left tells.now tells.end broken → WhereBothTold (HasHistoryOver scope lines told closed) (Some trace) after.told
-  by_stands (Some b) is (is_broken _ broken still past) = behind_break b is broken still past
+  by_stands (Some b) is (is_broken _ broken still past last) = behind_break b is broken still past last
   by_stands None is (serves whole serving on) =
       let end = both_told _ behind.disk.told after.told tells.now tells.seen (ended.told whole) in
       subst (λ o. WhereBothTold (HasHistoryOver scope lines told closed) (Some trace) o) (sym end.1) (behind_end is serving on end.0 (end.2 later serving))

@@ -9,7 +9,8 @@ use Rattle.store_model.proofs.Told.{counts_join}
 use Rattle.vx_base.specs.declared.parts.Geometry.{Geometry}
 use Rattle.store_model.specs.declared.fault.StoreFault.{StoreFault}
 use Rattle.store_model.specs.Disk.{Disk, WhereBothTold}
-use Rattle.store_model.specs.File.{is_synced}
+use Rattle.store_model.specs.File.{is_synced, seen}
+use Rattle.layer_session.specs.Unnamed.{NamesNoLog}
 use Rattle.store_model.specs.Trace.{Trace, file_of}
 use Rattle.vhdx_format.specs.declared.log_entry.Page.{Page}
 use Rattle.chain_model.specs.Images.{Placed}
@@ -30,16 +31,16 @@ use Rattle.chain_core.proofs.MergeFound.{AreFound}
 use Rattle.chain_core.proofs.MergeTold.{are_found}
 use Rattle.script.specs.declared.form.Line.{Line}
 use Rattle.script_session.specs.Answers.{AnswersLines}
-use Rattle.script_session.specs.Faults.{Counts}
-use Rattle.script_session.specs.Histories.{IsMarkedSo, IsOver, below_marked, names_left, numbers_left, serves}
+use Rattle.script_session.specs.Faults.{Counts, FaultsAreTold}
+use Rattle.script_session.specs.Histories.{IsMarkedSo, IsOver, all_names, below_marked, names_left, numbers_left, serves}
 use Rattle.script_session.specs.MergeRunning.{HasMergeHistory, HasRunMerge, drive_of_merge, just_started, names_without, scope_of}
 use Rattle.script_session.specs.Running.{HasRunToEnd, IsEnded}
-use Rattle.script_session.specs.Told.{Told}
+use Rattle.script_session.specs.Told.{Told, failed_by}
 use Rattle.script_session.specs.declared.session.ScriptRun.{ScriptRun}
 use Rattle.script_session.proofs.Content.{lines_untold}
 use Rattle.script_session.proofs.Counting.{lines_counted}
-use Rattle.script_session.proofs.Ending.{end_counted, end_untold, last_counted, quiet_end}
-use Rattle.script_session.proofs.LeftFiles.{all_at, names_started, number_of}
+use Rattle.script_session.proofs.Ending.{end_counted, end_untold, faults_told, last_counted, quiet_end}
+use Rattle.script_session.proofs.LeftFiles.{all_at, names_all, names_started, number_of}
 use Rattle.script_session.proofs.LinesTold.{lines_told}
 use Rattle.script_session.proofs.MergeEnds.{IsNewMerge, IsScope, has_history}
 
@@ -101,9 +102,9 @@ only_source m n changed unwritten = elim (or_cases (is_written m n) (n == source
   | inr e ↦ eqb-true n (source_place m) e
 ]
 
-scope_is : (m : MergeFiles) (merge : Merge) (trace mid : Trace) → ((other : ℕ) → is_changed m other ≡ false → file_of mid other ≡ file_of trace other) → is_synced (file_of mid (source_place m)) ≡ true
-    → names_left (started_merge trace mid m merge.ids merge.twice) ≡ names_without m → IsScope (scope_of m) (started_merge trace mid m merge.ids merge.twice) trace mid
-scope_is m merge trace mid rest synced names = record {
+scope_is : (m : MergeFiles) (merge : Merge) (trace mid : Trace) → ((other : ℕ) → is_changed m other ≡ false → file_of mid other ≡ file_of trace other) → is_synced (file_of mid (source_place m)) ≡ true → NamesNoLog (seen (file_of mid (source_place m)))
+    → names_left (started_merge trace mid m merge.ids merge.twice) ≡ names_without m → all_names (started_merge trace mid m merge.ids merge.twice) ≡ map (λ (f : LinkedFile). f.name) (chain_files m) → IsScope (scope_of m) (started_merge trace mid m merge.ids merge.twice) trace mid
+scope_is m merge trace mid rest synced no_log names all = record {
   leaf = refl;
   history = refl;
   opening = refl;
@@ -112,8 +113,10 @@ scope_is m merge trace mid rest synced names = record {
   changes = λ n none. either_false (is_written m n) _ none;
   rest = rest;
   quiet = λ n changed unwritten. subst (λ k. is_synced (file_of mid k) ≡ true) (sym (only_source m n changed unwritten)) synced;
+  unnamed = λ n changed unwritten. subst (λ k. NamesNoLog (seen (file_of mid k))) (sym (only_source m n changed unwritten)) no_log;
   own = λ P first left n written. own_numbers m merge.ids merge.twice trace mid P first left n written;
   names = names;
+  all = all;
 }
 
 -- ---- the whole
@@ -166,9 +169,9 @@ module _ (files : List LinkedFile) (name : List ℕ) (before : Session) (old : D
       go (Some x) None is f serving rest = absurd serving
       go (Some x) (Some y) is f serving rest =
           let found : AreFound x m = are_found m old (subst (λ fs. CanStart fs old) begun.planned.begun.files_are.files_are can) x is in
-          has_history (scope_of m) (state x y) x y (scope_is m begun.merge x y rest (source_then m begun.merge.ids begun.merge.twice x y serving.synced) (names_started x y m begun.merge.ids begun.merge.twice found))
+          has_history (scope_of m) (state x y) x y (scope_is m begun.merge x y rest (source_then m begun.merge.ids begun.merge.twice x y serving.serving.synced) serving.no_log (names_started x y m begun.merge.ids begun.merge.twice found) (names_all x y m begun.merge.ids begun.merge.twice found))
           (take many lines) told behind after closed ended left
-          (lines_told (drive_of_merge m x) 1 (take many lines) told (state x y) (just_started false) None before behind slot left y f (serves new.broken serving (started_marks before.layers x y m begun.merge.ids begun.merge.twice serving begun.begun.only, empty)) (over_start x y serving)
+          (lines_told (drive_of_merge m x) 1 (take many lines) told (state x y) (just_started false) None before behind slot left y f (serves new.broken serving.serving (started_marks before.layers x y m begun.merge.ids begun.merge.twice serving.serving begun.begun.only, empty)) (over_start x y serving.serving)
           (omega (arith, few, new.events, length-take many lines)) answers)
 
   pub merge_ran : (names : List (List ℕ)) (lines : List Line) (slot left : Piece) (run : ScriptRun) (after : Disk) → length lines ≤ 2 ^ 20 → slot.filled ≡ false → HasRunToEnd names lines before slot left run after
@@ -187,5 +190,8 @@ module _ (files : List LinkedFile) (name : List ℕ) (before : Session) (old : D
         counted = subst (λ o. IfSome o (Counts after)) (sym ran.fault_is) (last_counted ran.told before r.behind after run.closed counts r.ended);
         ended = end_counted ran.told before r.behind after run.closed counts r.ended some_file;
         quiet = λ none. on_ok_weaker run.closed (λ same. counts_join old before.disk after begun.begun.counts same) (quiet_end ran.told before r.behind after run.closed counts r.ended (sym ran.fault_is ∙ none));
+        faults =
+            let k = faults_told ran.told before r.behind after run.closed counts r.ended in
+            subst (λ n. FaultsAreTold ran.told (failed_by run.closed) n old.failed_changes after.failed_reads after.failed_changes) (ap (λ (d : Disk). d.files) begun.begun.counts) (record { each = k.each; end = k.end; none = λ none. k.none none ∙ ap (λ (d : Disk). d.failed_changes) begun.begun.counts });
         history = histories lines ran.many ran.told r.behind slot left after run.closed few empty ran.answers r.ended;
       }

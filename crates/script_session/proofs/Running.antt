@@ -1,6 +1,7 @@
 -- One more line of a script.
 use Rattle.std.proofs.Common.{◌≡◌, ◌<◌, ◌≤◌, ◌+◌, ◌^◌, ℕ, Bool, true, false, List, [], ◌∷◌, ◌++◌, get_or, length, take, Option, Some, None, Result, Ok, Err, refl, sym, ap, subst, ◌∙◌, arith, append_assoc, append-nil}
 use Rattle.std.specs.Prelude.{IfOk, string_bytes, if◌then◌else◌}
+use Rattle.std.specs.List.{AllByRecursion}
 use Rattle.std.proofs.lemmas.List.{length-take-le, take_more}
 use Rattle.std.proofs.lemmas.Result.{IfOk-weaker}
 use Rattle.store_model.specs.declared.fault.StoreFault.{StoreFault}
@@ -16,7 +17,7 @@ use Rattle.script_session.specs.MergeSteps.{AnswersCopy, AnswersFetch, AnswersFi
 use Rattle.script_session.specs.declared.answer.Done.{Done}
 use Rattle.script_session.specs.declared.answer.Done.TheVariants as done
 use Rattle.script_session.specs.declared.lines.LinesRun.{LinesRun}
-use Rattle.script_session.specs.Told.{Told, asked, asks_call, asks_copy, asks_fetch, asks_finish, asks_put, caller, fault_of, last_fault, later_of, line_text, next_number, number_behind, transcript}
+use Rattle.script_session.specs.Told.{HasMemory, Told, asked, asks_call, asks_copy, asks_fetch, asks_finish, asks_put, caller, fault_of, last_fault, later_of, line_text, next_number, number_behind, transcript}
 
 -- ---- one line
 
@@ -90,6 +91,17 @@ pub record HasRunAll (names : List (List ℕ)) (lines : List Line) (old : Sessio
   pub text_is : text ≡ transcript names lines told
   pub fault_is : fault ≡ last_fault told
 
+-- and none of them by want of memory
+pub record HasRunWhole (names : List (List ℕ)) (lines : List Line) (old : Session) (slot : Piece) (new : Session) (left : Piece) (text : List ℕ) (fault : Option StoreFault) : Type 0 where
+  pub told : List Told
+  pub answers : AnswersLines 1 lines told old slot new left
+  pub text_is : text ≡ transcript names lines told
+  pub fault_is : fault ≡ last_fault told
+  pub memory : AllByRecursion HasMemory told
+
+pub all_of : (names : List (List ℕ)) (lines : List Line) (old : Session) (slot : Piece) (new : Session) (left : Piece) (text : List ℕ) (fault : Option StoreFault) → HasRunWhole names lines old slot new left text fault → HasRunAll names lines old slot new left text fault
+all_of names lines old slot new left text fault h = record { told = h.told; answers = h.answers; text_is = h.text_is; fault_is = h.fault_is }
+
 answers_more : (number : ℕ) (lines : List Line) (told : List Told) (line : Line) (t : Told) (old mid new : Session) (slot held left : Piece) → AnswersLines number lines told old slot mid held
     → AnswersLine (number_behind number lines) (asked line.form) t mid held new left → AnswersLines number (lines ++ line ∷ []) (told ++ t ∷ []) old slot new left
 answers_more number [] [] line t old mid new slot held left is next =
@@ -133,6 +145,10 @@ run_more names lines line t old mid new slot held left text after was now h next
   fault_is = f ∙ ap (λ o. later_of o (fault_of t)) h.fault_is ∙ sym (last_more h.told t);
 }
 
+one_with_memory : (told : List Told) (t : Told) → AllByRecursion HasMemory told → HasMemory t → AllByRecursion HasMemory (told ++ t ∷ [])
+one_with_memory [] t all one = (one, tt)
+one_with_memory (x ∷ told) t all one = (all.0, one_with_memory told t all.1 one)
+
 -- ---- in the script
 
 module _ (lines : List Line) (i number : ℕ) (d : Line) (inside : i < length lines) (numbered : number ≡ number_behind 1 (take i lines)) where
@@ -145,20 +161,41 @@ module _ (lines : List Line) (i number : ℕ) (d : Line) (inside : i < length li
       subst (λ ls. HasRunAll names ls old slot new left after now) (sym (take_more lines i d inside))
       (run_more names (take i lines) (get_or lines i d) t old mid new slot held left text after was now h (subst (λ n. AnswersLine n (asked form) t mid held new left) numbered next) e f)
 
+  pub whole_next : (names : List (List ℕ)) (t : Told) (old mid new : Session) (slot held left : Piece) (text after : List ℕ) (was now : Option StoreFault) → HasRunWhole names (take i lines) old slot mid held text was
+      → AnswersLine number (asked form) t mid held new left → after ≡ text ++ line_text names form t → HasMemory t → now ≡ later_of was (fault_of t) → HasRunWhole names (take (i + 1) lines) old slot new left after now
+  unfolding run_more all_of
+  whole_next names t old mid new slot held left text after was now h next e memory f =
+      subst (λ ls. HasRunWhole names ls old slot new left after now) (sym (take_more lines i d inside))
+      (record { told = h.told ++ t ∷ []; answers = k.answers; text_is = k.text_is; fault_is = k.fault_is; memory = one_with_memory h.told t h.memory memory })
+    where
+      k : HasRunAll names (take i lines ++ get_or lines i d ∷ []) old slot new left after now
+      k = run_more names (take i lines) (get_or lines i d) t old mid new slot held left text after was now (all_of _ _ _ _ _ _ _ _ h) (subst (λ n. AnswersLine n (asked form) t mid held new left) numbered next) e f
+
   pub number_next : (next : ℕ) → next ≡ next_number number form → next ≡ number_behind 1 (take (i + 1) lines)
   number_next next is =
       is ∙ ap (λ n. next_number n form) numbered ∙ sym (number_more 1 (take i lines) (get_or lines i d)) ∙ ap (number_behind 1) (sym (take_more lines i d inside))
 
 -- ---- the outcome
 
--- the first n lines have run, and these are all where there is a transcript
+-- the first n lines have run, and there is no transcript
 pub run_of : (names : List (List ℕ)) (lines : List Line) (n : ℕ) (old new : Session) (slot left : Piece) (text : List ℕ) (fault : Option StoreFault) (run : LinesRun) → HasRunAll names (take n lines) old slot new left text fault
-    → IfOk run.transcript (λ s. (take n lines ≡ lines) × (string_bytes s ≡ text)) → run.fault ≡ fault → HasRun names lines old slot new left run
-run_of names lines n old new slot left text fault run h whole same = record {
+    → IfOk run.transcript (λ s. ⊥) → run.fault ≡ fault → HasRun names lines old slot new left run
+run_of names lines n old new slot left text fault run h none same = record {
   many = n;
   told = h.told;
   answers = h.answers;
-  whole = IfOk-weaker run.transcript (λ s. (take n lines ≡ lines) × (string_bytes s ≡ text)) (λ s. (take n lines ≡ lines) × (string_bytes s ≡ transcript names lines h.told))
-      (λ s w. (w.0, w.1 ∙ h.text_is ∙ ap (λ ls. transcript names ls h.told) w.0)) whole;
+  whole = IfOk-weaker run.transcript (λ s. ⊥) (λ s. (take n lines ≡ lines) × (string_bytes s ≡ transcript names lines h.told) × AllByRecursion HasMemory h.told) (λ s never. absurd never) none;
+  fault_is = same ∙ h.fault_is;
+}
+
+-- all have run, and this is their transcript
+pub whole_of : (names : List (List ℕ)) (lines : List Line) (n : ℕ) (old new : Session) (slot left : Piece) (text : List ℕ) (fault : Option StoreFault) (run : LinesRun) → HasRunWhole names (take n lines) old slot new left text fault
+    → IfOk run.transcript (λ s. (take n lines ≡ lines) × (string_bytes s ≡ text)) → run.fault ≡ fault → HasRun names lines old slot new left run
+whole_of names lines n old new slot left text fault run h whole same = record {
+  many = n;
+  told = h.told;
+  answers = h.answers;
+  whole = IfOk-weaker run.transcript (λ s. (take n lines ≡ lines) × (string_bytes s ≡ text)) (λ s. (take n lines ≡ lines) × (string_bytes s ≡ transcript names lines h.told) × AllByRecursion HasMemory h.told)
+      (λ s w. (w.0, w.1 ∙ h.text_is ∙ ap (λ ls. transcript names ls h.told) w.0, h.memory)) whole;
   fault_is = same ∙ h.fault_is;
 }

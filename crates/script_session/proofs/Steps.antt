@@ -27,14 +27,15 @@ use Rattle.chain_core.specs.declared.layers.Underway.{Underway}
 use Rattle.chain_core.specs.States.{IsRetiring, IsServing, Rest, State, merging, plain, retiring, sector_of}
 use Rattle.script.specs.Transcript.{has_stamp, is_copied as has_copied, is_done as is_whole}
 use Rattle.script_session.specs.Answers.{as_copied, as_done, with_stamp}
-use Rattle.script_session.specs.Histories.{Break, Course, Drive, HoldsWaiting, IsLater, IsLineTold, IsMissed, IsOnCourse, IsOver, IsStepTold, IsWaiting, Stands, Waiting, all_copied, copied_to, copy_breaks, copy_stopped, copying, fault_in, fetch_stopped, finish_breaks, is_barred, is_broken, is_fetched, is_finished, is_put, left_by, merges_leaf, no_merge, none_missing, not_yet, put_breaks, put_stopped, serves, stamp_behind, staying, step_cause, stripes_of, with_line}
+use Rattle.script_session.specs.Histories.{Break, Course, Drive, Grows, HoldsWaiting, IsEndTold, IsLater, IsLineTold, IsMissed, IsOnCourse, IsOver, IsSoLong, IsStepTold, IsWaiting, Stands, Waiting, all_copied, copied_to, copy_breaks, copy_stopped, copying, fault_in, fetch_stopped, finish_breaks, is_barred, is_broken, is_fetched, is_finished, is_put, left_by, merges_leaf, no_merge, none_missing, not_yet, put_breaks, put_stopped, serves, stamp_behind, staying, step_cause, stripes_of, with_line}
 use Rattle.script_session.specs.MergeSteps.{AnswersCopy, AnswersFetch, AnswersFinish, AnswersPut, AnswersTurn, EndsCopy, IsUnchanged, all_moved, one_refused}
 use Rattle.script_session.specs.Told.{Asked, Told, asks_copy, asks_fetch, asks_finish, asks_put}
 use Rattle.script_session.proofs.Copying.{FetchEnds, IsCopying, PutEnds, Unfetched, all_is, fetch_err, fetch_ok, has_failed, is_fit, is_past, lowest_is, marked_is, merge_cause, never_stale, next_is, over_kept, put_cause, put_err, put_fails, put_ok, put_stops, unchanged}
 use Rattle.script_session.proofs.LeftFiles.{later_put, later_same, looks_names, looks_numbers, name_of, names_seen, number_of, numbers_seen}
+use Rattle.script_session.proofs.Lengths.{end_later, grows_none, grows_on, long_later, moments_grow, past_free, step_free, writes_before}
 use Rattle.script_session.proofs.Marked.{marked_as}
 use Rattle.script_session.proofs.Moving.{unfilled_refused}
-use Rattle.script_session.proofs.Telling.{LineTold, both_told, over_events}
+use Rattle.script_session.proofs.Telling.{LineTold, both_told, opens_last, over_events}
 use Rattle.script_session.proofs.Turns.{Moved, Stopped, Turned, moved_none, moved_some, past_front, same_front, sound_of, turn_events, turn_stopped, turns_led}
 
 -- ---- causes
@@ -91,7 +92,7 @@ below_left layers v now rest is below stays done =
             writes = refl;
             since = refl;
             merges = sym (ap merges_leaf is ∙ below);
-          })) later_is;
+          })) (λ e. let never : false ≡ true = e in cc) later_is;
     }
 
 -- and of the leaf
@@ -112,7 +113,8 @@ leaf_left layers v now id target below first before is done = record {
         writes = refl;
         since = done.still;
         rests = done.rests;
-      })) later_is;
+        no_log = done.no_log;
+      })) (λ e. let never : false ≡ true = e in cc) later_is;
 }
   where
     behind : State
@@ -146,14 +148,14 @@ module _ (old new : Layers) (v : State) (now : Trace) where
 
 module _ (drive : Drive) (number : ℕ) (v : State) (old new : Session) (slot left : Piece) (over : IsOver drive v old) (trace : Trace) (seen : old.disk.told ≡ Some trace) (few : old.events + 2 ^ 34 ≤ 2 ^ 63) where
   abbrev Line : Asked → Told → Course → Option Break → Type 0
-  Line step t course broken = LineTold drive number step t v course broken old.events new left
+  Line step t course broken = LineTold drive number step t v course broken old.events trace new left
 
   inside : old.events < 2 ^ 63
   inside = omega (arith, few)
 
   stands_same : (course on : Course) (broken : Option Break) → IsUnchanged old new → Stands v old slot trace course broken → (IsOnCourse v old.layers slot course → IsOnCourse v old.layers left on) → Stands v new left trace on broken
   stands_same course on None is (serves whole h c) keep = subst (λ s. Stands v s left trace on None) (sym is) (serves whole h (keep c))
-  stands_same course on (Some b) is (is_broken _ e others past) keep = subst (λ s. Stands v s left trace on (Some b)) (sym is) (is_broken b e others past)
+  stands_same course on (Some b) is (is_broken _ e others past last) keep = subst (λ s. Stands v s left trace on (Some b)) (sym is) (is_broken b e others past last)
 
   -- it has its cause
   barred : (step : Asked) (course : Course) (broken : Option Break) (x : ChainRefusal) → step_cause drive v.history (fault_in broken) course step ≡ Some x
@@ -171,12 +173,15 @@ module _ (drive : Drive) (number : ℕ) (v : State) (old new : Session) (slot le
     seen = ap (λ (s : Session). s.disk.told) is ∙ seen;
     stands = stands_same course (left_by step course) broken is stands keep;
     few = omega (arith, events);
+    full = step_free (IsSoLong v.writes trace) drive v.history (fault_in broken) course step x cause;
+    grows = grows_none trace;
   }
 
   -- the session goes on, with these stripes copied
   goes_on : (step : Asked) (t : Told) (course : Course) (state : State) (now : Trace) (l : Bool) (copied : ℕ → Bool) (waits : Option Waiting) → IsLineTold drive v.history course None step t (copying l copied waits) None → with_line number step t v.history ≡ state.history
-      → ((h : History) (later : State) → IsLater state h later → IsLater v h later) → IsCopying drive state new now l copied → HoldsWaiting state new.layers.geometry left waits → new.events ≤ old.events + 2 ^ 34 → Line step t course None
-  goes_on step t course state now l copied waits told_so history same c holds events = record {
+      → ((h : History) (later : State) → IsLater state h later → IsLater v h later) → IsCopying drive state new now l copied → HoldsWaiting state new.layers.geometry left waits → new.events ≤ old.events + 2 ^ 34 → IsEndTold (IsSoLong v.writes now) t → Grows trace now
+      → Line step t course None
+  goes_on step t course state now l copied waits told_so history same c holds events full grows = record {
     state = state;
     now = now;
     on = copying l copied waits;
@@ -188,13 +193,15 @@ module _ (drive : Drive) (number : ℕ) (v : State) (old new : Session) (slot le
     seen = c.seen;
     stands = serves c.whole c.serving (c.marks, holds);
     few = events;
+    full = full;
+    grows = grows;
   }
 
   -- a step of the merge broke it
   breaks : (step : Asked) (t : Told) (course on : Course) (state : State) (from now : Trace) (fault : StoreFault) → IsLineTold drive v.history course None step t on (Some (record { fault = fault; call = None }))
       → with_line number step t v.history ≡ state.history → ((h : History) (later : State) → IsLater state h later → IsLater v h later) → IsOver drive state new → new.disk.told ≡ Some now → new.broken ≡ Some fault → HasEnded state from now
-      → new.events ≤ old.events + 2 ^ 34 → Line step t course None
-  breaks step t course on state from now fault told_so history same over_now told broken ended events = record {
+      → new.events ≤ old.events + 2 ^ 34 → IsEndTold (IsSoLong v.writes now) t → Grows trace now → Line step t course None
+  breaks step t course on state from now fault told_so history same over_now told broken ended events full grows = record {
     state = state;
     now = now;
     on = on;
@@ -204,8 +211,10 @@ module _ (drive : Drive) (number : ℕ) (v : State) (old new : Session) (slot le
     same = same;
     over = over_now;
     seen = told;
-    stands = is_broken (record { fault = fault; call = None }) broken ended.still ended.past;
+    stands = is_broken (record { fault = fault; call = None }) broken ended.still ended.past (opens_last state from now ended.moments);
     few = events;
+    full = full;
+    grows = grows;
   }
 
   under_way : (l : Bool) (copied : ℕ → Bool) (waits : Option Waiting) → old.broken ≡ None → IsServing old.layers v trace → IsOnCourse v old.layers slot (copying l copied waits) → IsCopying drive v old trace l copied
@@ -225,26 +234,26 @@ module _ (drive : Drive) (number : ℕ) (v : State) (old new : Session) (slot le
       subst (λ a. Line (asks_fetch stripe) (with_stamp a) course broken) (sym early.0)
       (barred (asks_fetch stripe) course broken x cause (λ t. t) refl early.1 h.events stands (fetch_keeps stripe course empty))
 
-  fetch_ended : (stripe : ℕ) (l : Bool) (copied : ℕ → Bool) (waits : Option Waiting) (x : ChainRefusal) → left.filled ≡ false → new.events ≤ old.events + 1 → Unfetched drive v new l copied stripe x → Line (asks_fetch stripe) (Err x) (copying l copied waits) None
+  fetch_ended : (stripe : ℕ) (l : Bool) (copied : ℕ → Bool) (waits : Option Waiting) (x : ChainRefusal) → left.filled ≡ false → new.events ≤ old.events + 1 → Unfetched drive v trace new l copied stripe x → Line (asks_fetch stripe) (Err x) (copying l copied waits) None
   fetch_ended stripe l copied waits x empty events u = go x u.ends
     where
-      on : (x : ChainRefusal) → IsStepTold drive v.history (copying l copied waits) None (asks_fetch stripe) (Err x) (copying l copied None) None → Line (asks_fetch stripe) (Err x) (copying l copied waits) None
-      on x told_so = goes_on (asks_fetch stripe) (Err x) (copying l copied waits) v u.now l copied None told_so refl (λ h later is. is) u.copying empty (omega (arith, events))
+      on : (x : ChainRefusal) → IsStepTold drive v.history (copying l copied waits) None (asks_fetch stripe) (Err x) (copying l copied None) None → IsEndTold (IsSoLong v.writes u.now) (Err x) → Line (asks_fetch stripe) (Err x) (copying l copied waits) None
+      on x told_so full = goes_on (asks_fetch stripe) (Err x) (copying l copied waits) v u.now l copied None told_so refl (λ h later is. is) u.copying empty (omega (arith, events)) full u.grows
 
       go : (x : ChainRefusal) → FetchEnds drive stripe x → Line (asks_fetch stripe) (Err x) (copying l copied waits) None
-      go x (is_past _ past) = on x (is_barred (copying l copied waits) None (asks_fetch stripe) x past)
-      go _ (has_failed file count there) = on (ReadFault file count) (fetch_stopped l copied waits stripe file count there)
+      go x (is_past _ past) = on x (is_barred (copying l copied waits) None (asks_fetch stripe) x past) (past_free (IsSoLong v.writes u.now) stripe (stripes_of drive) x past)
+      go _ (has_failed file count there) = on (ReadFault file count) (fetch_stopped l copied waits stripe file count there) tt
 
   pub fetch_line : (stripe : ℕ) (course : Course) (broken : Option Break) (answer : Result ℕ ChainRefusal) → Stands v old slot trace course broken → AnswersFetch stripe answer old new left → Line (asks_fetch stripe) (with_stamp answer) course broken
-  fetch_line stripe course (Some b) answer (is_broken _ e others past) h =
-      fetch_barred stripe course (Some b) answer (Broken b.fault.file b.fault.count) (broken_refused old (no_stripe stripe old.layers) b.fault inside e) refl (is_broken b e others past) h
+  fetch_line stripe course (Some b) answer (is_broken _ e others past last) h =
+      fetch_barred stripe course (Some b) answer (Broken b.fault.file b.fault.count) (broken_refused old (no_stripe stripe old.layers) b.fault inside e) refl (is_broken b e others past last) h
   fetch_line stripe no_merge None answer (serves whole serving on) h =
       fetch_barred stripe no_merge None answer NoMerge (fetch_none old inside whole on.0 on.1 stripe) refl (serves whole serving on) h
   fetch_line stripe (copying l copied waits) None (Ok stamp) (serves whole serving on) h =
       let f = fetch_ok drive v old trace l copied (under_way l copied waits whole serving on) inside stripe stamp new left h in
       goes_on (asks_fetch stripe) (Ok (None, has_stamp stamp)) (copying l copied waits) v f.now l copied (Some (record { stripe = stripe; stamp = stamp_behind l v.history stripe }))
       (subst (λ n. IsStepTold drive v.history (copying l copied waits) None (asks_fetch stripe) (Ok (None, has_stamp n)) (copying l copied (Some (record { stripe = stripe; stamp = stamp_behind l v.history stripe }))) None) (sym f.stamp_is) (is_fetched l copied waits stripe f.inside))
-      refl (λ h later is. is) f.copying f.waiting (omega (arith, h.events))
+      refl (λ h later is. is) f.copying f.waiting (omega (arith, h.events)) tt f.grows
   fetch_line stripe (copying l copied waits) None (Err x) (serves whole serving on) h =
       fetch_ended stripe l copied waits x h.emptied h.events (fetch_err drive v old trace l copied (under_way l copied waits whole serving on) inside stripe x new left h)
 
@@ -263,26 +272,26 @@ module _ (drive : Drive) (number : ℕ) (v : State) (old new : Session) (slot le
 
   put_ended : (l : Bool) (w : Waiting) (copied : ℕ → Bool) (now : Trace) (x : ChainRefusal) → w.stamp ≡ stamp_behind l v.history w.stripe → left.filled ≡ false → AnswersPut slot (Err x) old new → new.disk.told ≡ Some now → PutEnds drive v new l copied trace now x
       → Line asks_put (Err x) (copying l copied (Some w)) None
-  put_ended l w copied now x fresh empty h told (put_stops _ stops c) =
-      goes_on asks_put (Err x) (copying l copied (Some w)) v now l copied None (put_stopped l copied w x fresh stops) refl (λ h later is. is) c empty (omega (arith, h.events))
+  put_ended l w copied now x fresh empty h told (put_stops _ stops full grows c) =
+      goes_on asks_put (Err x) (copying l copied (Some w)) v now l copied None (put_stopped l copied w x fresh stops) refl (λ h later is. is) c empty (omega (arith, h.events)) full grows
   put_ended l w copied now _ fresh empty h told (put_fails file count broken ended) =
       breaks asks_put (Err (Broken file count)) (copying l copied (Some w)) (copying l copied None) v trace now (fault_of file count) (put_breaks l copied w (fault_of file count) fresh) refl (λ h later is. is)
-      (over_kept drive v old new over h.keeps) told broken ended (omega (arith, h.events))
+      (over_kept drive v old new over h.keeps) told broken ended (omega (arith, h.events)) tt (moments_grow _ trace now ended.moments)
 
   -- what waits is what its stripe has
   put_fresh : (l : Bool) (w : Waiting) (copied : ℕ → Bool) → IsCopying drive v old trace l copied → IsWaiting v old.layers.geometry w slot → (answer : Result (Unit {0}) ChainRefusal) → w.stamp ≡ stamp_behind l v.history w.stripe → left.filled ≡ false
       → AnswersPut slot answer old new → Line asks_put (as_copied answer) (copying l copied (Some w)) None
   put_fresh l w copied c held (Ok done) fresh empty h =
       let p = put_ok drive v old trace l copied c w slot held new h in
-      goes_on asks_put (Ok (None, has_copied)) (copying l copied (Some w)) (with_put (piece_of slot) v) p.now l (with_mark w.stripe copied) None (is_put l copied w fresh) refl (later_put v (piece_of slot)) p.copying empty (omega (arith, h.events))
+      goes_on asks_put (Ok (None, has_copied)) (copying l copied (Some w)) (with_put (piece_of slot) v) p.now l (with_mark w.stripe copied) None (is_put l copied w fresh) refl (later_put v (piece_of slot)) p.copying empty (omega (arith, h.events)) tt p.grows
   put_fresh l w copied c held (Err x) fresh empty h =
       let none : put_refused slot old ≡ None = put_cause drive v old trace l copied c w slot inside held ∙ ap (stale w.stamp) (sym fresh) ∙ never_stale w.stamp in
       let p = put_err drive v old trace l copied c w slot held x new none h in
       put_ended l w copied p.0 x fresh empty h p.1 p.2
 
   pub put_line : (course : Course) (broken : Option Break) (answer : Result (Unit {0}) ChainRefusal) → Stands v old slot trace course broken → AnswersPut slot answer old new → left.filled ≡ false → Line asks_put (as_copied answer) course broken
-  put_line course (Some b) answer (is_broken _ e others past) h empty =
-      put_barred course (Some b) answer (Broken b.fault.file b.fault.count) (broken_refused old _ b.fault inside e) refl (is_broken b e others past) empty h
+  put_line course (Some b) answer (is_broken _ e others past last) h empty =
+      put_barred course (Some b) answer (Broken b.fault.file b.fault.count) (broken_refused old _ b.fault inside e) refl (is_broken b e others past last) empty h
   put_line no_merge None answer (serves whole serving on) h empty =
       put_barred no_merge None answer NoMerge (put_none old inside whole on.0 on.1 slot) refl (serves whole serving on) empty h
   put_line (copying l copied None) None answer (serves whole serving on) h empty =
@@ -329,19 +338,19 @@ module _ (drive : Drive) (number : ℕ) (v : State) (old new : Session) (slot le
     }
 
     -- nothing was missing, or all stripes are copied
-    moved_line : IsSound new → IsMissing (kept_marks new.layers) None → (led : Turned drive v old l copied new) → Moved (stripes_of drive) copied old new slot left → Line asks_copy (Ok (None, is_whole)) before None
+    moved_line : IsSound new → IsMissing (kept_marks new.layers) None → (led : Turned drive v old trace l copied new) → Moved (stripes_of drive) copied old new slot left → Line asks_copy (Ok (None, is_whole)) before None
     moved_line sound missing led (moved_none same held) =
         let all : AllMarked (stripes_of drive) copied = all_is drive v old trace l copied c (subst IsSound (sym same) sound) (subst (λ (s : Session). IsMissing (kept_marks s.layers) None) (sym same) missing) in
         let events : new.events ≡ old.events = ap (λ (s : Session). s.events) (sym same) in
         goes_on asks_copy (Ok (None, is_whole)) before v trace l copied waits (none_missing l copied waits all) refl (λ h later is. is) (subst (λ s. IsCopying drive v s trace l copied) same c)
-        (subst (λ (s : Session). HoldsWaiting v s.layers.geometry left waits) same (subst (λ p. HoldsWaiting v old.layers.geometry p waits) held holds)) (omega (arith, events))
+        (subst (λ (s : Session). HoldsWaiting v s.layers.geometry left waits) same (subst (λ p. HoldsWaiting v old.layers.geometry p waits) held holds)) (omega (arith, events)) tt (grows_none trace)
     moved_line sound missing led (moved_some stripe missed empty) =
         let all : AllMarked (stripes_of drive) (copied_to led.front copied) = all_is drive led.state new led.now l (copied_to led.front copied) led.copying sound missing in
         goes_on asks_copy (Ok (None, is_whole)) before led.state led.now l (copied_to (stripes_of drive) copied) None (all_copied l copied waits stripe missed) led.history led.same
-        (copying_on led.state led.now led.front (stripes_of drive) led.within all led.copying) empty (omega (arith, led.events, led.low))
+        (copying_on led.state led.now led.front (stripes_of drive) led.within all led.copying) empty (omega (arith, led.events, led.low)) tt led.grows
 
     -- a turn was refused
-    stopped_line : (x : ChainRefusal) (stripe : ℕ) (mid : Session) (led : Turned drive v old l copied mid) → IsLowest (stripes_of drive) (copied_to led.front copied) stripe → AnswersTurn stripe (Err x) mid new → left.filled ≡ false
+    stopped_line : (x : ChainRefusal) (stripe : ℕ) (mid : Session) (led : Turned drive v old trace l copied mid) → IsLowest (stripes_of drive) (copied_to led.front copied) stripe → AnswersTurn stripe (Err x) mid new → left.filled ≡ false
         → Line asks_copy (Err x) before None
     stopped_line x stripe mid led low turn empty = go x stop.ends
       where
@@ -357,16 +366,20 @@ module _ (drive : Drive) (number : ℕ) (v : State) (old new : Session) (slot le
         stop : Stopped drive led.state new l marks led.now x
         stop = turn_stopped drive led.state mid led.now l marks led.copying (omega (arith, led.events, led.low, few)) stripe low x new turn
 
+        more : Grows trace stop.now
+        more = grows_on trace led.now stop.now led.grows stop.grows
+
         events : new.events ≤ old.events + 2 ^ 34
         events = omega (arith, led.events, led.low, turn_events stripe (Err x) mid new turn)
 
         go : (x : ChainRefusal) → PutEnds drive led.state new l marks stop.from stop.now x → Line asks_copy (Err x) before None
-        go x (put_stops _ stops k) =
+        go x (put_stops _ stops full grows k) =
             goes_on asks_copy (Err x) before led.state stop.now l (copied_to stripe copied) None (copy_stopped l copied waits stripe x missed stops) led.history led.same
             (copying_on led.state stop.now led.front stripe past.0 low.below k) empty events
+            (end_later (IsSoLong led.state.writes stop.now) (IsSoLong v.writes stop.now) (λ n. long_later led.state.writes v.writes stop.now stop.now n (writes_before v led.state led.same) (grows_none stop.now)) (Err x) full) more
         go _ (put_fails file count broken ended) =
             breaks asks_copy (Err (Broken file count)) before (copying l (copied_to stripe copied) None) led.state stop.from stop.now (fault_of file count) (copy_breaks l copied waits stripe (fault_of file count) missed) led.history led.same
-            stop.over stop.seen broken ended events
+            stop.over stop.seen broken ended events tt more
 
     copied_line : (answer : Result (Unit {0}) ChainRefusal) → EndsCopy old slot answer new left → Line asks_copy (as_done answer) before None
     copied_line _ (all_moved _ _ turns sound missing) =
@@ -378,8 +391,8 @@ module _ (drive : Drive) (number : ℕ) (v : State) (old new : Session) (slot le
         stopped_line x stripe mid led low turn empty
 
   pub copy_line : (course : Course) (broken : Option Break) (answer : Result (Unit {0}) ChainRefusal) → Stands v old slot trace course broken → AnswersCopy answer old slot new left → Line asks_copy (as_done answer) course broken
-  copy_line course (Some b) answer (is_broken _ e others past) h =
-      copy_barred course (Some b) answer (Broken b.fault.file b.fault.count) (broken_refused old _ b.fault inside e) refl (is_broken b e others past) h
+  copy_line course (Some b) answer (is_broken _ e others past last) h =
+      copy_barred course (Some b) answer (Broken b.fault.file b.fault.count) (broken_refused old _ b.fault inside e) refl (is_broken b e others past last) h
   copy_line no_merge None answer (serves whole serving on) h =
       copy_barred no_merge None answer NoMerge (copy_none old inside whole on.0 on.1) refl (serves whole serving on) h
   copy_line (copying l copied waits) None answer (serves whole serving on) h =
@@ -425,6 +438,8 @@ module _ (drive : Drive) (number : ℕ) (v : State) (old new : Session) (slot le
           seen = after.1;
           stands = serves cause.whole left_so.serving cause.merge;
           few = omega (arith, h.events);
+          full = tt;
+          grows = moments_grow _ trace after.0 (after.2 v under.serving).0;
         }
 
     finish_ended : (x : ChainRefusal) (now : Trace) → FinishCause old new (Err x) (IsUnchanged old new) → AnswersFinish (Err x) old new → new.disk.told ≡ Some now → FinishAnswers old.layers.retiring v new.layers trace now (Err x)
@@ -435,7 +450,7 @@ module _ (drive : Drive) (number : ℕ) (v : State) (old new : Session) (slot le
     finish_ended ReadOnly now c h told a = absurd c
     finish_ended (Broken file count) now c h told a =
         breaks asks_finish (Err (Broken file count)) (copying l copied waits) (copying l copied waits) v trace now (fault_of file count) (finish_breaks l copied waits (fault_of file count) (marked_is drive v old trace l copied under h.sound c.copied)) refl
-        (λ hs later is. is) (over_kept drive v old new over h.keeps) told c.broken a (omega (arith, h.events))
+        (λ hs later is. is) (over_kept drive v old new over h.keeps) told c.broken a (omega (arith, h.events)) tt (moments_grow _ trace now a.moments)
     finish_ended (Spent t) now c h told a = absurd c
     finish_ended (FileFull next) now c h told a = absurd c
     finish_ended (ReadFault file count) now c h told a = absurd c
@@ -445,7 +460,7 @@ module _ (drive : Drive) (number : ℕ) (v : State) (old new : Session) (slot le
         let only : IsUnchanged old new = c.1 in
         goes_on asks_finish (Err (NotYet stripe)) (copying l copied waits) v trace l copied waits (not_yet l copied waits stripe (lowest_is drive v old trace l copied under stripe h.sound c.0)) refl (λ hs later is. is)
         (unchanged drive v old trace l copied under new only)
-        (subst (λ (s : Session). HoldsWaiting v s.layers.geometry left waits) (sym only) (subst (λ p. HoldsWaiting v old.layers.geometry p waits) (sym same) holds)) (omega (arith, h.events))
+        (subst (λ (s : Session). HoldsWaiting v s.layers.geometry left waits) (sym only) (subst (λ p. HoldsWaiting v old.layers.geometry p waits) (sym same) holds)) (omega (arith, h.events)) tt (grows_none trace)
     finish_ended (Abandoned file count) now c h told a = absurd c
     finish_ended (NoStripe stripe stripes) now c h told a = absurd c
     finish_ended NoPiece now c h told a = absurd c
@@ -458,8 +473,8 @@ module _ (drive : Drive) (number : ℕ) (v : State) (old new : Session) (slot le
         finish_ended x after.0 (h.cause none) h after.1 (after.2 v under.serving)
 
   pub finish_line : (course : Course) (broken : Option Break) (answer : Result (Unit {0}) ChainRefusal) → Stands v old slot trace course broken → AnswersFinish answer old new → left ≡ slot → Line asks_finish (as_done answer) course broken
-  finish_line course (Some b) answer (is_broken _ e others past) h same =
-      finish_barred course (Some b) answer (Broken b.fault.file b.fault.count) (broken_refused old _ b.fault inside e) refl (is_broken b e others past) h same
+  finish_line course (Some b) answer (is_broken _ e others past last) h same =
+      finish_barred course (Some b) answer (Broken b.fault.file b.fault.count) (broken_refused old _ b.fault inside e) refl (is_broken b e others past last) h same
   finish_line no_merge None answer (serves whole serving on) h same =
       finish_barred no_merge None answer NoMerge (copy_none old inside whole on.0 on.1) refl (serves whole serving on) h same
   finish_line (copying l copied waits) None answer (serves whole serving on) h same =

@@ -13,9 +13,10 @@ use Rattle.merge_core.specs.declared.piece.Piece.{Piece}
 use Rattle.chain_core.specs.Merging.{with_put}
 use Rattle.chain_core.specs.Sessions.{IsSound, Session}
 use Rattle.chain_core.specs.States.{State}
-use Rattle.script_session.specs.Histories.{Drive, IsLater, IsMissed, IsOver, Waiting, copied_to, stamp_behind, stripes_of}
+use Rattle.script_session.specs.Histories.{Drive, Grows, IsLater, IsMissed, IsOver, Waiting, copied_to, stamp_behind, stripes_of}
 use Rattle.script_session.specs.MergeSteps.{AnswersTurn, AnswersTurns, fetched_and, no_turn, not_fetched, one_more}
-use Rattle.script_session.proofs.Copying.{FetchEnds, IsCopying, PutEnds, Unfetched, fetch_err, fetch_ok, has_failed, is_past, never_stale, next_is, over_kept, put_cause, put_err, not_past, put_ok, put_stops}
+use Rattle.script_session.proofs.Lengths.{grows_none, grows_on}
+use Rattle.script_session.proofs.Copying.{ends_grow, FetchEnds, IsCopying, PutEnds, Unfetched, fetch_err, fetch_ok, has_failed, is_past, never_stale, next_is, over_kept, put_cause, put_err, not_past, put_ok, put_stops}
 use Rattle.script_session.proofs.Marked.{marked_as}
 use Rattle.chain_core.specs.Copying.{put_refused}
 use Rattle.script_session.proofs.LeftFiles.{later_put}
@@ -84,7 +85,7 @@ pub data Moved (stripes : ℕ) (copied : ℕ → Bool) (old new : Session) (slot
   moved_some : (stripe : ℕ) → IsMissed stripes copied stripe → left.filled ≡ false → Moved stripes copied old new slot left
 
 -- where turns led
-pub record Turned (drive : Drive) (v : State) (old : Session) (l : Bool) (copied : ℕ → Bool) (new : Session) : Type 0 where
+pub record Turned (drive : Drive) (v : State) (old : Session) (trace : Trace) (l : Bool) (copied : ℕ → Bool) (new : Session) : Type 0 where
   pub state : State
   pub now : Trace
   pub front : ℕ
@@ -93,6 +94,7 @@ pub record Turned (drive : Drive) (v : State) (old : Session) (l : Bool) (copied
   pub history : v.history ≡ state.history
   pub events : new.events ≤ old.events + 2 * front
   pub within : front ≤ stripes_of drive
+  pub grows : Grows trace now
   pub low : front ≤ 2 ^ 32
 
 pub sound_of : (stripe : ℕ) (answer : Result (Unit {0}) ChainRefusal) (old new : Session) → AnswersTurn stripe answer old new → IsSound old
@@ -100,16 +102,17 @@ sound_of stripe answer old new (not_fetched _ _ _ left fetched) = fetched.sound
 sound_of stripe answer old new (fetched_and _ stamp _ mid _ piece fetched put) = fetched.sound
 
 -- one turn, from a session whose front is known
-record TurnedOnce (drive : Drive) (v : State) (old new : Session) (l : Bool) (copied : ℕ → Bool) (stripe : ℕ) : Type 0 where
+record TurnedOnce (drive : Drive) (v : State) (old new : Session) (trace : Trace) (l : Bool) (copied : ℕ → Bool) (stripe : ℕ) : Type 0 where
   state : State
   now : Trace
   copying : IsCopying drive state new now l (copied_to (stripe + 1) copied)
   same : (h : History) (later : State) → IsLater state h later → IsLater v h later
   history : v.history ≡ state.history
   events : new.events ≤ old.events + 2
+  grows : Grows trace now
 
 module _ (drive : Drive) (v : State) (old : Session) (trace : Trace) (n : ℕ) (l : Bool) (copied : ℕ → Bool) (c : IsCopying drive v old trace l (copied_to n copied)) (few : old.events + 1 < 2 ^ 63) (stripe : ℕ) (low : IsLowest (stripes_of drive) (copied_to n copied) stripe) where
-  turned_once : (new : Session) → AnswersTurn stripe (Ok tt) old new → TurnedOnce drive v old new l copied stripe
+  turned_once : (new : Session) → AnswersTurn stripe (Ok tt) old new → TurnedOnce drive v old new trace l copied stripe
   turned_once new (fetched_and _ stamp _ mid _ piece fetched put) =
       let f = fetch_ok drive v old trace l (copied_to n copied) c (omega (arith, few)) stripe stamp mid piece fetched in
       let p = put_ok drive v mid f.now l (copied_to n copied) f.copying (record { stripe = stripe; stamp = stamp_behind l v.history stripe }) piece f.waiting new put in
@@ -126,6 +129,7 @@ module _ (drive : Drive) (v : State) (old : Session) (trace : Trace) (n : ℕ) (
         same = later_put v (piece_of piece);
         history = refl;
         events = omega (arith, fetched.events, put.events);
+        grows = grows_on trace f.now p.now f.grows p.grows;
       }
 
 -- how a turn that is refused ends
@@ -134,16 +138,17 @@ pub record Stopped (drive : Drive) (v : State) (new : Session) (l : Bool) (copie
   pub now : Trace
   pub seen : new.disk.told ≡ Some now
   pub over : IsOver drive v new
+  pub grows : Grows trace now
   pub ends : PutEnds drive v new l copied from now x
 
 module _ (drive : Drive) (v : State) (old : Session) (trace : Trace) (l : Bool) (marks : ℕ → Bool) (c : IsCopying drive v old trace l marks) (few : old.events + 1 < 2 ^ 63) (stripe : ℕ) (low : IsLowest (stripes_of drive) marks stripe) where
-  unfetched : (x : ChainRefusal) (new : Session) → Unfetched drive v new l marks stripe x → Stopped drive v new l marks trace x
+  unfetched : (x : ChainRefusal) (new : Session) → Unfetched drive v trace new l marks stripe x → Stopped drive v new l marks trace x
   unfetched x new u = go x u.ends
     where
       go : (x : ChainRefusal) → FetchEnds drive stripe x → Stopped drive v new l marks trace x
       go x (is_past _ past) = not_none _ x past (not_past stripe (stripes_of drive) low.there)
       go _ (has_failed file count inside) =
-          record { from = trace; now = u.now; seen = u.copying.seen; over = u.copying.over; ends = put_stops (ReadFault file count) tt u.copying }
+          record { from = trace; now = u.now; seen = u.copying.seen; over = u.copying.over; grows = u.grows; ends = put_stops (ReadFault file count) tt tt u.grows u.copying }
 
   pub turn_stopped : (x : ChainRefusal) (new : Session) → AnswersTurn stripe (Err x) old new → Stopped drive v new l marks trace x
   turn_stopped x new (not_fetched _ _ _ left fetched) = unfetched x new (fetch_err drive v old trace l marks c (omega (arith, few)) stripe x new left fetched)
@@ -152,14 +157,14 @@ module _ (drive : Drive) (v : State) (old : Session) (trace : Trace) (l : Bool) 
       let w : Waiting = record { stripe = stripe; stamp = stamp_behind l v.history stripe } in
       let fresh : put_refused piece mid ≡ None = put_cause drive v mid f.now l marks f.copying w piece (omega (arith, few, fetched.events)) f.waiting ∙ never_stale w.stamp in
       let p = put_err drive v mid f.now l marks f.copying w piece f.waiting x new fresh put in
-      record { from = f.now; now = p.0; seen = p.1; over = over_kept drive v mid new f.copying.over put.keeps; ends = p.2 }
+      record { from = f.now; now = p.0; seen = p.1; over = over_kept drive v mid new f.copying.over put.keeps; grows = grows_on trace f.now p.0 f.grows (ends_grow drive v new l marks f.now p.0 x p.2); ends = p.2 }
 
 pub turn_events : (stripe : ℕ) (answer : Result (Unit {0}) ChainRefusal) (old new : Session) → AnswersTurn stripe answer old new → new.events ≤ old.events + 2
 turn_events stripe answer old new (not_fetched _ _ _ left fetched) = omega (arith, fetched.events)
 turn_events stripe answer old new (fetched_and _ stamp _ mid _ piece fetched put) = omega (arith, fetched.events, put.events)
 
 pub turns_led : (drive : Drive) (v : State) (old : Session) (slot : Piece) (trace : Trace) (l : Bool) (copied : ℕ → Bool) → IsCopying drive v old trace l copied → old.events + 2 ^ 34 ≤ 2 ^ 63 → (new : Session) (left : Piece)
-    → AnswersTurns old slot new left → Turned drive v old l copied new × Moved (stripes_of drive) copied old new slot left
+    → AnswersTurns old slot new left → Turned drive v old trace l copied new × Moved (stripes_of drive) copied old new slot left
 turns_led drive v old slot trace l copied c few _ _ no_turn = (
   record {
     state = v;
@@ -170,6 +175,7 @@ turns_led drive v old slot trace l copied c few _ _ no_turn = (
     history = refl;
     events = omega arith;
     within = omega arith;
+    grows = grows_none trace;
     low = omega arith;
   },
   moved_none refl refl,
@@ -189,6 +195,7 @@ turns_led drive v old slot trace l copied c few _ _ (one_more stripe mid new hel
         history = led.history ∙ one.history;
         events = omega (arith, led.events, one.events, past.0);
         within = omega (arith, low.there);
+        grows = grows_on trace led.now one.now led.grows one.grows;
         low = omega (arith, next.low);
       },
       moved_some stripe (record { there = low.there; missing = past.1 }) empty,

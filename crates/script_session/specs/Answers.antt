@@ -1,5 +1,6 @@
 -- How a session answers the lines of a script, for every store.
 use Rattle.std.specs.Prelude.{◌≡◌, ◌≤◌, ◌*◌, ⊤, ℕ, true, false, List, [], ◌∷◌, length, take, is_some, Option, Some, None, Result, Ok, Err, IfOk, IfSome, OnOk, string_bytes}
+use Rattle.std.specs.List.{AllByRecursion}
 use Rattle.store_model.specs.Disk.{WhereTold}
 use Rattle.guest_model.specs.declared.call.Call.{Call}
 use Rattle.guest_model.specs.declared.call.Call.TheVariants as calls
@@ -19,7 +20,7 @@ use Rattle.merge_core.specs.declared.piece.Piece.{Piece}
 use Rattle.vx_base.specs.declared.parts.Geometry.{Geometry}
 use Rattle.script.specs.Transcript.{LineReply, has_stamp, is_copied, is_done, of_call}
 use Rattle.script_session.specs.MergeSteps.{AnswersCopy, AnswersFetch, AnswersFinish, AnswersPut}
-use Rattle.script_session.specs.Told.{Asked, Told, asked, asks_call, asks_copy, asks_fetch, asks_finish, asks_put, caller, last_fault, next_number, sector_size, transcript}
+use Rattle.script_session.specs.Told.{Asked, HasMemory, Told, asked, asks_call, asks_copy, asks_fetch, asks_finish, asks_put, caller, last_fault, next_number, sector_size, transcript}
 use Rattle.script_session.specs.declared.answer.Done.{Done}
 use Rattle.script_session.specs.declared.answer.Done.TheVariants as done
 use Rattle.script_session.specs.declared.lines.LinesRun.{LinesRun}
@@ -101,13 +102,13 @@ AnswersLines number (line ∷ lines) [] old slot new left = ⊥
 AnswersLines number (line ∷ lines) (told ∷ later) old slot new left =
     (mid : Session) × (held : Piece) × AnswersLine number (asked line.form) told old slot mid held × AnswersLines (next_number number line.form) lines later mid held new left
 
--- Lines were answered, all of them where a text was given, which is their transcript; it is told which fault of the store was the last
--- that refused one.
+-- Lines were answered, all of them where a text was given, which is their transcript, and none by want of memory then; it is told which
+-- fault of the store was the last that refused one.
 pub record HasRun (names : List (List ℕ)) (lines : List Line) (old : Session) (slot : Piece) (new : Session) (left : Piece) (run : LinesRun) : Type 0 where
   pub many : ℕ
   pub told : List Told
   pub answers : AnswersLines 1 (take many lines) told old slot new left
-  pub whole : IfOk run.transcript (λ text. (take many lines ≡ lines) × (string_bytes text ≡ transcript names lines told))
+  pub whole : IfOk run.transcript (λ text. (take many lines ≡ lines) × (string_bytes text ≡ transcript names lines told) × AllByRecursion HasMemory told)
   pub fault_is : run.fault ≡ last_fault told
 
 -- ---- of the small functions

@@ -1,17 +1,20 @@
 -- What the lines of a script are told over a disk: line by line, by the history of the calls that were done (profile).
-use Rattle.std.specs.Prelude.{◌≡◌, ◌+◌, ◌*◌, ◌<◌, ◌≤◌, ◌^◌, ◌||◌, ◌==◌, ◌⊎◌, if◌then◌else◌, ⊤, ℕ, Bool, true, false, nat_lt, List, [], ◌∷◌, ◌++◌, length, map, is_some, Option, Some, None, option_map, Ok, Err, IfSome}
+use Rattle.std.specs.Prelude.{◌≡◌, ◌+◌, ◌*◌, ◌<◌, ◌≤◌, ◌^◌, ◌||◌, ◌==◌, ◌⊎◌, if◌then◌else◌, ⊤, ℕ, Bool, true, false, nat_lt, List, [], ◌∷◌, ◌++◌, length, map, not, is_some, Option, Some, None, option_map, Ok, Err, IfSome}
 use Rattle.vx_base.specs.declared.parts.Geometry.{Geometry}
 use Rattle.store_model.specs.declared.fault.StoreFault.{StoreFault}
-use Rattle.store_model.specs.File.{is_synced}
+use Rattle.std.specs.List.{AllByRecursion}
+use Rattle.vhdx_format.specs.Fields.{megabyte}
+use Rattle.store_model.specs.File.{is_synced, seen}
+use Rattle.layer_session.specs.Unnamed.{NamesNoLog}
 use Rattle.store_model.specs.Trace.{Trace, file_of}
 use Rattle.guest_model.specs.declared.call.Call.{Call}
 use Rattle.guest_model.specs.declared.refusal.ChainRefusal.{ChainRefusal}
 use Rattle.guest_model.specs.declared.refusal.ChainRefusal.TheVariants.{Broken, FileFull, NoMerge, NoPiece, NoRoom, NotYet, ReadFault}
 use Rattle.guest_model.specs.Calls.{Disk, is_named, reply}
-use Rattle.guest_model.specs.History.{History, replay}
+use Rattle.guest_model.specs.History.{History, either, is_flush, replay}
 use Rattle.chain_model.specs.Images.{Placed}
 use Rattle.chain_model.specs.Merges.{AllMarked, marks_after, with_mark}
-use Rattle.chain_model.specs.Moments.{EachOpensToPrefix}
+use Rattle.chain_model.specs.Moments.{EachOpens, EachOpensToPrefix}
 use Rattle.chain_model.specs.Stripes.{stamp, stripe_count}
 use Rattle.merge_core.specs.Copied.{IsLowest, marks_of}
 use Rattle.merge_core.specs.Pieces.{piece_of}
@@ -20,7 +23,7 @@ use Rattle.chain_core.specs.Copying.{IsOfStripe, past_stripes, stale}
 use Rattle.chain_core.specs.Merging.{IsTruePiece}
 use Rattle.chain_core.specs.Refusing.{barred, broken_by, is_read, or_else, out_of, range_of}
 use Rattle.chain_core.specs.Sessions.{HasNoMerge, Session}
-use Rattle.chain_core.specs.States.{IsServing, LeavesOthers, Rest, State, merging, plain, retiring, sector_of}
+use Rattle.chain_core.specs.States.{IsServing, LeavesOthers, Rest, State, dirty_now, disk_now, files_of, merging, plain, retiring, sector_of}
 use Rattle.chain_core.specs.declared.layers.Layers.{Layers}
 use Rattle.chain_core.specs.declared.layers.Retiring.{Retiring}
 use Rattle.chain_core.specs.declared.layers.Underway.{Underway}
@@ -53,16 +56,33 @@ fault_in broken = option_map (λ (b : Break). b.fault) broken
 abbrev pub cause_of : Drive → Option StoreFault → Call → Option ChainRefusal
 cause_of drive broken call = or_else (broken_by broken) (out_of (range_of drive.geometry call) (barred call drive.can_change))
 
--- What stops a read: a fault of the store, or want of memory; and what stops a change without breaking the session: want of room in
--- the file too, whose end is then within 1,024 MB of the greatest place that a block may have.
-abbrev pub Stops : Bool → ChainRefusal → Type 0
-Stops true (ReadFault file count) = ⊤
-Stops true NoRoom = ⊤
-Stops true other = ⊥
-Stops false (ReadFault file count) = ⊤
-Stops false (FileFull next) = 2 ^ 43 < next + 1024
-Stops false NoRoom = ⊤
-Stops false other = ⊥
+-- a call that may ask for more room in a file
+abbrev pub asks_room : Call → Bool
+asks_room call = not (is_read call || is_flush call)
+
+-- What stops a call without breaking the session: a fault of the store, want of memory, or want of room in the file, whose end is then
+-- within 1,024 MB of the greatest place that a block may have.
+abbrev pub Stops : Call → ChainRefusal → Type 0
+Stops call (ReadFault file count) = ⊤
+Stops call (FileFull next) = (asks_room call ≡ true) × (2 ^ 43 < next + 1024)
+Stops call NoRoom = ⊤
+Stops call other = ⊥
+
+-- of the same files none is shorter
+abbrev pub Grows : Trace → Trace → Type 0
+Grows old now = (now.attached ≡ old.attached) × ((n : ℕ) → length (seen (file_of old n)) ≤ length (seen (file_of now n)))
+
+-- a file that may be changed is so many MB long, rounded up
+pub record IsSoLong (may : ℕ → Bool) (now : Trace) (next : ℕ) : Type 0 where
+  pub number : ℕ
+  pub there : number < length now.attached
+  pub may_change : may number ≡ true
+  pub long : next * megabyte < length (seen (file_of now number)) + megabyte
+
+-- P of the end of a file, where a line is told that it is full
+abbrev pub IsEndTold : (ℕ → Type 0) → Told → Type 0
+IsEndTold P (Err (FileFull next)) = P next
+IsEndTold P other = ⊤
 
 -- What a call is told behind a history, and what has broken the session then, if it is broken: the call has its cause and is
 -- refused by it; or it is done, as the history's next, and answered by the disk of the history; or it is stopped; or a change of the
@@ -70,7 +90,7 @@ Stops false other = ⊥
 pub data IsTold (drive : Drive) (h : History) (broken : Option Break) (call : Call) : Told → Option Break → Type 0 where
   is_refused : (e : ChainRefusal) → cause_of drive (fault_in broken) call ≡ Some e → IsTold drive h broken call (Err e) broken
   is_done : cause_of drive (fault_in broken) call ≡ None → IsTold drive h broken call (Ok (Some (length h + 1), of_call (reply (disk_after drive h) call))) broken
-  is_stopped : (e : ChainRefusal) → cause_of drive (fault_in broken) call ≡ None → Stops (is_read call) e → IsTold drive h broken call (Err e) broken
+  is_stopped : (e : ChainRefusal) → cause_of drive (fault_in broken) call ≡ None → Stops call e → IsTold drive h broken call (Err e) broken
   breaks : (fault : StoreFault) → cause_of drive (fault_in broken) call ≡ None → is_read call ≡ false
       → IsTold drive h broken call (Err (Broken fault.file fault.count)) (Some (record { fault = fault; call = Some call }))
 
@@ -231,12 +251,17 @@ abbrev pub open_in : ℕ → Option Call → ℕ → Bool
 open_in z None s = false
 open_in z (Some call) s = is_named z call s
 
+-- each image opens to the disk of the whole history, outside the sectors that are dirty then and those of the call that broke the session
+abbrev pub OpensLast : State → Option Call → Trace → Type 0
+OpensLast v call now = EachOpens v.leaf (either (dirty_now v) (open_in (sector_of v) call)) (disk_now v) now
+
 -- A session stands so over the state: it serves the history, and the merge stands so; or a fault has broken it, in a call that is the next
--- one behind the whole history for good or in a step of the merge, and each moment since it began opens to a prefix of the history.
+-- one behind the whole history for good or in a step of the merge, and each moment since it began opens to a prefix of the history, the
+-- last one to all of it.
 pub data Stands (v : State) (s : Session) (slot : Piece) (now : Trace) (course : Course) : Option Break → Type 0 where
   serves : s.broken ≡ None → IsServing s.layers v now → IsOnCourse v s.layers slot course → Stands v s slot now course None
   is_broken : (b : Break) → s.broken ≡ Some b.fault → LeavesOthers v now
-      → EachOpensToPrefix (sector_of v) v.opening v.history (open_in (sector_of v) b.call) v.leaf v.began now → Stands v s slot now course (Some b)
+      → EachOpensToPrefix (sector_of v) v.opening v.history (open_in (sector_of v) b.call) v.leaf v.began now → OpensLast v b.call now → Stands v s slot now course (Some b)
 
 -- the files of a state's chain, but for the source of its merge
 abbrev pub staying : Placed → Rest → List Placed
@@ -257,6 +282,16 @@ merges_leaf (plain others) = false
 merges_leaf (merging above source target below m) = false
 merges_leaf (retiring target below first before) = true
 
+-- the names of all files of a state's chain
+abbrev pub all_names : State → List (List ℕ)
+all_names v = map (λ f. f.member.name) (files_of v)
+
+-- a merge is under way
+abbrev pub is_under_way : Rest → Bool
+is_under_way (plain others) = false
+is_under_way (merging above source target below m) = true
+is_under_way (retiring target below first before) = true
+
 -- It goes on over the same leaf, with the same retired leaves behind its name, and may change the same files.
 pub record GoesOn (v later : State) : Type 0 where
   pub number : later.top.number ≡ v.top.number
@@ -266,7 +301,7 @@ pub record GoesOn (v later : State) : Type 0 where
   pub since : later.since ≡ v.since
   pub merges : merges_leaf later.rest ≡ merges_leaf v.rest
 
--- The merge of its leaf has ended: that leaf is retired behind the others, is at rest, and isn't changed any more.
+-- The merge of its leaf has ended: that leaf is retired behind the others, is at rest and names no log, and isn't changed any more.
 pub record HasRetired (v later : State) : Type 0 where
   pub leaf : Placed
   pub merges : merges_leaf v.rest ≡ true
@@ -277,6 +312,7 @@ pub record HasRetired (v later : State) : Type 0 where
   pub writes : later.writes ≡ (λ n. if n == v.top.number then false else v.writes n)
   pub since : (n : ℕ) → v.writes n ≡ false → file_of later.since n ≡ file_of v.since n
   pub rests : is_synced (file_of later.since v.top.number) ≡ true
+  pub no_log : NamesNoLog (seen (file_of later.since v.top.number))
 
 -- A state of the same session, with this history: it goes on, or the merge of its leaf has ended.
 pub record IsLater (v : State) (h : History) (later : State) : Type 0 where
@@ -287,6 +323,8 @@ pub record IsLater (v : State) (h : History) (later : State) : Type 0 where
   pub names : names_left later ≡ names_left v
   pub history : later.history ≡ h
   pub goes : GoesOn v later ⊎ HasRetired v later
+  -- while the merge is under way the chain has the same files
+  pub whole : is_under_way later.rest ≡ true → (is_under_way v.rest ≡ true) × (all_names later ≡ all_names v)
 
 -- The session of a chain over this drive, with the state's history, which its recorder has if it tells it.
 pub record IsOver (drive : Drive) (v : State) (s : Session) : Type 0 where
@@ -298,13 +336,15 @@ pub record IsOver (drive : Drive) (v : State) (s : Session) : Type 0 where
   pub kept : IfSome s.told (λ h. h ≡ v.history)
 
 -- What the lines were told, and where the session stands behind them.
-pub record TellsHistory (drive : Drive) (number : ℕ) (lines : List Line) (told : List Told) (v : State) (course : Course) (before : Option Break) (new : Session) (left : Piece) : Type 0 where
+pub record TellsHistory (drive : Drive) (number : ℕ) (lines : List Line) (told : List Told) (v : State) (course : Course) (before : Option Break) (trace : Trace) (new : Session) (left : Piece) : Type 0 where
   pub later : State
   pub now : Trace
   pub end : Course
   pub broken : Option Break
   pub same : IsLater v later.history later
   pub told_so : AreTold drive number v.history course before lines told later.history end broken
+  pub full : AllByRecursion (IsEndTold (IsSoLong v.writes now)) told
+  pub grows : Grows trace now
   pub over : IsOver drive later new
   pub seen : new.disk.told ≡ Some now
   pub stands : Stands later new left now end broken
@@ -315,4 +355,4 @@ abbrev pub LinesTellHistory : Type 0
 LinesTellHistory =
     (drive : Drive) (number : ℕ) (lines : List Line) (told : List Told) (v : State) (course : Course) (broken : Option Break) (old new : Session) (slot left : Piece) (trace : Trace)
     → old.disk.told ≡ Some trace → Stands v old slot trace course broken → IsOver drive v old → old.events + length lines * 2 ^ 34 ≤ 2 ^ 63 → AnswersLines number lines told old slot new left
-    → TellsHistory drive number lines told v course broken new left
+    → TellsHistory drive number lines told v course broken trace new left

@@ -1,5 +1,5 @@
 -- What the lines of a script are told, and how a transcript of `steps` tells it (profile).
-use Rattle.std.specs.Prelude.{ℕ, ◌+◌, ◌*◌, List, [], ◌∷◌, ◌++◌, replicate, Option, Some, None, Result, Ok, Err, if◌then◌else◌}
+use Rattle.std.specs.Prelude.{⊤, ℕ, ◌+◌, ◌*◌, List, [], ◌∷◌, ◌++◌, replicate, Option, Some, None, Result, Ok, Err, if◌then◌else◌}
 use Rattle.store_model.specs.declared.fault.StoreFault.{StoreFault}
 use Rattle.guest_model.specs.declared.call.Call.{Call}
 use Rattle.guest_model.specs.declared.call.Call.TheVariants as calls
@@ -10,11 +10,8 @@ use Rattle.script.specs.declared.form.Form.{Form}
 use Rattle.script.specs.declared.form.Form.TheVariants.{Read, Write, Trim, Flush, Fetch, Put, Copy, Finish}
 use Rattle.script.specs.declared.form.Line.{Line}
 use Rattle.script.specs.Grammar.{is_call}
+pub use Rattle.vhdx_format.specs.Fields.{sector_size}
 use Rattle.script.specs.Transcript.{LineReply, answered, told_line}
-
--- the bytes of a sector
-abbrev pub sector_size : ℕ
-sector_size = 512
 
 -- What a line asks for: a guest's call; or a step of a merge, which is to fetch a stripe, to put what was fetched, to copy all stripes
 -- that are missing, or to finish the merge.
@@ -52,6 +49,12 @@ number_behind number (line ∷ lines) = number_behind (next_number number line.f
 abbrev pub Told : Type 0
 Told = Result (Option ℕ × LineReply) ChainRefusal
 
+-- it isn't that memory ran out
+abbrev pub HasMemory : Told → Type 0
+HasMemory (Ok done) = ⊤
+HasMemory (Err refusals.NoRoom) = ⊥
+HasMemory (Err other) = ⊤
+
 -- a line of the transcript
 abbrev pub line_text : List (List ℕ) → Form → Told → List ℕ
 line_text names form (Ok done) = told_line done.0 (answered names form (Ok done.1))
@@ -79,3 +82,8 @@ later_of earlier (Some fault) = Some fault
 abbrev pub last_fault : List Told → Option StoreFault
 last_fault [] = None
 last_fault (told ∷ later) = later_of (fault_of told) (last_fault later)
+
+-- the fault by which a session's end failed, if it did
+abbrev pub failed_by : Result (Unit {0}) StoreFault → Option StoreFault
+failed_by (Ok done) = None
+failed_by (Err fault) = Some fault

@@ -4,7 +4,7 @@ ghost use Rattle.std.specs.Prelude.{◌≡◌, ◌<◌, ◌≤◌, ◌^◌, ◌+
 ghost use Rattle.script.specs.Transcript.{of_call, outcome_of};
 ghost use Rattle.chain_core.specs.Sessions.{IsSound, seen};
 ghost use Rattle.script_session.specs.Answers.{HasRoomFor, HasRun, IsSlot, place_in, reply_of, reply_told, told_by};
-ghost use Rattle.script_session.specs.Told.{Asked, asked, fault_of, later_of, line_text, next_number};
+ghost use Rattle.script_session.specs.Told.{Asked, HasMemory, asked, fault_of, later_of, line_text, next_number};
 
 use crate::answer::{Done, answer_line};
 use crate::calls::{MOST_MOVED, SECTOR};
@@ -82,7 +82,8 @@ fn push_line<N: AsStr>(
 ) -> Result<(), NoRoom>
     requires room { length room.now ≡ 1048576 }
     requires few { OnOk answer (HasRoomFor (asked form)) }
-    ensures { OnOk result (string_bytes out.new ≡ string_bytes out.old ++ line_text (map N.text names.now) form (told_by room.now (asked form) answer)) }
+    ensures text { OnOk result (string_bytes out.new ≡ string_bytes out.old ++ line_text (map N.text names.now) form (told_by room.now (asked form) answer)) }
+    ensures memory { OnOk result (HasMemory (told_by room.now (asked form) answer)) }
 {
     match answer {
         Ok(done) => push_step(

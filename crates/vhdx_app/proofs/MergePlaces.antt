@@ -34,7 +34,7 @@ module _ (m : MergeFiles) where
       ap (λ files. slice_index_or (names_of files) (source_place m) []) (sym (append_assoc m.above (m.child ∷ []) (m.source ∷ m.target ∷ m.below)))
       ∙ ap (λ n. slice_index_or (names_of ((m.above ++ m.child ∷ []) ++ m.source ∷ m.target ∷ m.below)) n []) (sym (length-append m.above (m.child ∷ []))) ∙ name_at (m.above ++ m.child ∷ []) m.source (m.target ∷ m.below)
 
-  target_at : slice_index_or (names_of (chain_files m)) (target_place m) [] ≡ m.target.name
+  pub target_at : slice_index_or (names_of (chain_files m)) (target_place m) [] ≡ m.target.name
   target_at =
       let long : length (m.above ++ m.child ∷ m.source ∷ []) ≡ target_place m = let l : length (m.above ++ m.child ∷ m.source ∷ []) ≡ length m.above + 2 = length-append m.above (m.child ∷ m.source ∷ []) in omega (arith, l) in
       ap (λ files. slice_index_or (names_of files) (target_place m) []) (sym (append_assoc m.above (m.child ∷ m.source ∷ []) (m.target ∷ m.below)))
@@ -76,7 +76,7 @@ merged_at (a ∷ b ∷ c ∷ above) child source target below name x is h = merg
 -- a session with the merge may change each of the four files
 module _ (m : MergeFiles) (leaf : LinkedFile) (others : List LinkedFile) (name : List ℕ) (same : leaf ∷ others ≡ chain_files m) (is : m.source.name ≡ name) (other : is_leaf (leaf ∷ others) name ≡ false) where
   abbrev Among : List ℕ → Type 0
-  Among x = is_among x (changed_names (Some name) (leaf ∷ others)) ≡ true
+  Among x = is_among x (changed_names false (Some name) (leaf ∷ others)) ≡ true
 
   -- the source isn't the leaf
   below : (x : List ℕ) → is_among x (leaf.name ∷ merged_with (leaf ∷ others) name) ≡ true → Among x
@@ -143,6 +143,11 @@ child_changed m =
     let upper : (k == 0 || k == k) ≡ true = or_right (k == 0) (k == k) (eq-eqb k k refl) in
     or_left (is_written m k) (k == source_place m) (or_left (k == 0 || k == k) (k == target_place m) upper)
 
+pub target_changed : (m : MergeFiles) → is_changed m (target_place m) ≡ true
+target_changed m =
+    let k = target_place m in
+    or_left (is_written m k) (k == source_place m) (or_right (k == 0 || k == child_place m) (k == k) (eq-eqb k k refl))
+
 -- a file's name is among those of the chain
 pub named_among : (before : List LinkedFile) (f : LinkedFile) (rest files : List LinkedFile) → files ≡ before ++ f ∷ rest → is_among f.name (names_of files) ≡ true
 named_among before f rest files same =
@@ -166,7 +171,7 @@ leaf_named leaf (target ∷ below) name is = same_name leaf.name name is
 
 -- a session with it may change the first two files, which are of the chain
 pub may_change_two : (leaf : LinkedFile) (others : List LinkedFile) (name : List ℕ) → is_leaf (leaf ∷ others) name ≡ true → (n : ℕ) → is_first_two n ≡ true
-    → is_among (slice_index_or (names_of (leaf ∷ others)) n []) (changed_names (Some name) (leaf ∷ others)) ≡ true
+    → is_among (slice_index_or (names_of (leaf ∷ others)) n []) (changed_names false (Some name) (leaf ∷ others)) ≡ true
 may_change_two leaf [] name is n two = let never : false ≡ true = is in cc
 may_change_two leaf (target ∷ below) name is n two =
     subst (λ b. is_among (slice_index_or (names_of (leaf ∷ target ∷ below)) n []) (leaf.name ∷ cond b (target.name ∷ []) (merged_with (leaf ∷ target ∷ below) name)) ≡ true) (sym is) (elim (or_cases (n == 0) (n == 1) two) [

@@ -44,6 +44,8 @@ use Rattle.vhdx_app.proofs.OverLeaf.{leaves_leaf_merge}
 use Rattle.vhdx_app.proofs.OverLeaf as leaf_merge
 use Rattle.vhdx_app.proofs.OverMerge.{leaves_merge}
 use Rattle.vhdx_app.proofs.OverMerge as merge
+use Rattle.vhdx_app.proofs.Unlogged.{unlogged_two}
+use Rattle.vhdx_app.proofs.Followed.{last_once}
 use Rattle.vhdx_app.proofs.OverScope.{Counted, LeavesMerge, LeftMerged, as_told, left_none, not_merged, scope_changed, scope_ran}
 use Rattle.vhdx_app.proofs.Ran.{back_requires, still_rests, still_stands}
 
@@ -93,14 +95,14 @@ module _ (mode : Mode) (retired : List (List ℕ)) (old mid : Hosted) (lent disk
       → WhereTold old.folder (IsChainIn (record { retired = retired; files = files })) → Lends (names_of files) old mid lent → IfOk result (λ run. HasRunWith mode merge files names lines run lent disk before after)
       → IfErr result (HasNotRunWith mode merge files lent disk before after) → Away
   back_all None files names result same line once chain lends ran none =
-      back_for retired files old mid lent disk line idle once chain lends (changed_of mode files names lines lent disk before after result line ran none)
+      back_for mode retired files old mid lent disk line idle once chain lends (changed_of mode files names lines lent disk before after result line ran none)
   back_all (Some name) [] names result same line once chain lends ran none = absurd line
   back_all (Some name) (leaf ∷ others) names (Ok run) same line once chain lends ran none =
       let left = changed_all retired leaf others old mid lent disk chain lends before after name lines run (subst (λ ns. HasRunMergeOf (is_leaf (leaf ∷ others) name) (leaf ∷ others) name ns lines run lent disk before after) same ran) in
-      back_requires retired leaf others old mid lent idle once chain lends disk (Some name) left.written left.may left.changed
+      back_requires retired leaf others old mid lent idle once chain lends disk Guests (Some name) left.written left.may left.changed
   back_all (Some name) (leaf ∷ others) names (Err x) same line once chain lends ran none =
       let left = (leaves_all retired leaf others old mid lent disk chain lends before after name x none).left in
-      back_requires retired leaf others old mid lent idle once chain lends disk (Some name) left.written left.may left.changed
+      back_requires retired leaf others old mid lent idle once chain lends disk Guests (Some name) left.written left.may left.changed
 
 -- ---- and then
 
@@ -123,11 +125,12 @@ module _ (mode : Mode) (retired : List (List ℕ)) (old mid now : Hosted) (lent 
               → RunOver Guests (Some name) (record { retired = retired; files = leaf ∷ others }) lines run old now before after
           by_kind true is h =
               scope_ran retired leaf others old mid now lent disk idle served once chain lends back_is past_is count before after name is_first_two (leaf_left_names h.m) (leaf_merge.may retired leaf others old mid lent disk chain lends before after name is)
-              (leaf_merge.left retired leaf others old mid lent disk chain lends before after name is lines run h) h.many lines h.told run (leaf_merge.past retired leaf others old mid lent disk chain lends before after name is lines run h) h.whole h.fault_is
+              (leaf_merge.left retired leaf others old mid lent disk chain lends before after name is lines run h) h.many lines h.told run (leaf_merge.past retired leaf others old mid lent disk chain lends before after name is lines run h) h.faults (unlogged_two leaf others name is) h.whole h.fault_is
               h.counted h.ended h.quiet (leaf_merge.drawn retired leaf others old mid lent disk chain lends before after name is lines run h)
           by_kind false is h =
               scope_ran retired leaf others old mid now lent disk idle served once chain lends back_is past_is count before after name (is_changed h.m) (names_without h.m) (merge.may retired leaf others old mid lent disk chain lends before after name is lines run h)
-              (merge.left retired leaf others old mid lent disk chain lends before after name is lines run h) h.many lines h.told run (merge.past retired leaf others old mid lent disk chain lends before after name is lines run h) h.whole h.fault_is
+              (merge.left retired leaf others old mid lent disk chain lends before after name is lines run h) h.many lines h.told run (merge.past retired leaf others old mid lent disk chain lends before after name is lines run h) h.faults
+              (merge.ended_all retired leaf others old mid lent disk chain lends before after name is lines run h (last_once retired (names_of (leaf ∷ others)) once)) h.whole h.fault_is
               h.counted h.ended h.quiet (merge.drawn retired leaf others old mid lent disk chain lends before after name is lines run h)
       by_mode ReadOnly can = absurd can
 
@@ -180,16 +183,16 @@ module _ (mode : Mode) (merge : Option (List ℕ)) (linked : Linked) (files : Li
 
 -- ---- a merge where files are only read
 
-pub barred : (mode : Mode) (merge : Option (List ℕ)) (linked : Linked) (old : Hosted) (drawn : Option (List (List ℕ))) → WhereTold old.folder AllIdle → IsBarredMerge mode merge → NotRunOver mode merge linked old old drawn drawn steps.ReadOnly
-barred Guests merge linked old drawn idle is = absurd is
-barred ReadOnly None linked old drawn idle is = absurd is
-barred ReadOnly (Some name) linked old drawn idle is = record {
+pub barred : (mode : Mode) (merge : Option (List ℕ)) (linked : Linked) (old : Hosted) (drawn : Option (List (List ℕ))) → WhereTold old.folder AllIdle → WhereTold old.folder (IsChainIn linked) → IsBarredMerge mode merge → NotRunOver mode merge linked old old drawn drawn steps.ReadOnly
+barred Guests merge linked old drawn idle chain is = absurd is
+barred ReadOnly None linked old drawn idle chain is = absurd is
+barred ReadOnly (Some name) linked old drawn idle chain is = record {
   counts = refl;
   cause = refl;
   undrawn = λ reading. refl;
-  unchanged = λ f told. (still_stands ReadOnly (Some name) linked f old old (idle f told) told refl refl).unchanged refl;
-  stands = λ f told. still_stands ReadOnly (Some name) linked f old old (idle f told) told refl refl;
-  rests = λ f told. still_rests ReadOnly (Some name) linked f old old (idle f told) told refl refl;
+  unchanged = λ f told. (still_stands ReadOnly (Some name) linked f old old (idle f told) (chain f told).whole told refl refl).unchanged refl;
+  stands = λ f told. still_stands ReadOnly (Some name) linked f old old (idle f told) (chain f told).whole told refl refl;
+  rests = λ f told. still_rests ReadOnly (Some name) linked f old old (idle f told) (chain f told).whole told refl refl;
 }
 
 -- ---- over the store alone

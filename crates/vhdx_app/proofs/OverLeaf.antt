@@ -25,19 +25,19 @@ use Rattle.merge_plan.specs.declared.refusal.PrepareRefusal.{PrepareRefusal}
 use Rattle.merge_plan.specs.declared.refusal.PrepareRefusal.TheVariants as plan
 use Rattle.chain_core.specs.LeafStarting.{PlansLeafMerge, RefusesLeafMerge, is_first_two, leaf_chain, spent_leaf}
 use Rattle.chain_core.specs.MergeStarting.{first_or}
-use Rattle.chain_core.specs.Starting.{EachOpensAlike}
+use Rattle.chain_core.specs.Starting.{EachOpensAlike, way_to}
 use Rattle.chain_core.specs.declared.merge_start.MergeStartRefusal.{MergeStartRefusal}
 use Rattle.chain_core.specs.declared.merge_start.MergeStartRefusal.TheVariants as start
 use Rattle.script.specs.declared.form.Line.{Line}
 use Rattle.script_session.specs.MergeRunning.{HasHistoryOver, HasRunLeafMerge, leaf_scope_of}
 use Rattle.script_session.specs.declared.session.ScriptRun.{ScriptRun}
 use Rattle.vhdx_app.specs.Commands.{Lends}
-use Rattle.vhdx_app.specs.Sessions.{BeginsLeafMergeIn, HasLeafMergeCause, HasMergeCauseOf, IsChainIn, IsMergeRefusal, JudgesLeafMergeIn, JudgesMergeOf, PlanNamesFile, is_told, meaning_of_steps, no_name, of_merge_start, of_plan}
-use Rattle.vhdx_app.specs.Starts.{IsLeafFullIn, StandsSo, is_leaf, leaf_pairs}
+use Rattle.vhdx_app.specs.Sessions.{BeginsLeafMerge, HasLeafMergeCause, HasMergeCauseOf, IsChainIn, IsMergeRefusal, PlanNamesFile, is_told, meaning_of_steps, no_name, of_merge_start, of_plan}
+use Rattle.vhdx_app.specs.Starts.{IsLeafFullIn, JudgesLeafMerge, JudgesMergeOf, StandsSo, is_leaf, leaf_pairs}
 use Rattle.vhdx_app.specs.Starts as starts
 use Rattle.vhdx_app.specs.Steps.{AreLeft, by_leaf, leaf_left_names}
 use Rattle.vhdx_app.specs.declared.refusal.StepsRefusal.{StepsRefusal}
-use Rattle.vhdx_app.proofs.MergePlaces.{may_change_two, two_within}
+use Rattle.vhdx_app.proofs.MergePlaces.{may_change_two, two_within, leaf_named}
 use Rattle.vhdx_app.proofs.Over.{read_counts}
 use Rattle.vhdx_app.proofs.OverScope.{Counted, LeavesMerge, LeftMerged, as_told, begin_counted, files_lent, has_room, left_begun, left_none, lent_told, read_told, scope_over, shows_known, stands_in, told_of}
 
@@ -68,7 +68,7 @@ module _ (retired : List (List ℕ)) (leaf : LinkedFile) (others : List LinkedFi
   in_the_leaf m same P p = stands_in retired leaf others old mid lent chain lends [] m.source (m.target ∷ m.below) 0 refl same P p
 
   judges : (m : LeafFiles) (ids : LeafMergeIds) (unfit : Option (List ℕ)) → spent_leaf (leaf ∷ others) ≡ None → IsLeafBegun (leaf ∷ others) before after m ids → IsLinkShort m ids → HasRoom m.source.parts 0 lent (leaf_pairs m ids)
-      → HasNameRoom m.source.parts 0 lent (leaf_pairs m ids) m.target.name → drawing.JudgesDrawn (leaf ∷ others) lent (leaf_merge_ids ids) unfit → JudgesLeafMergeIn L old.folder before after unfit
+      → HasNameRoom m.source.parts 0 lent (leaf_pairs m ids) m.target.name → drawing.JudgesDrawn (leaf ∷ others) lent (leaf_merge_ids ids) unfit → JudgesLeafMerge L old.folder before after unfit
   judges m ids unfit unspent begun short link room j = record {
     m = m;
     ids = ids;
@@ -82,14 +82,14 @@ module _ (retired : List (List ℕ)) (leaf : LinkedFile) (others : List LinkedFi
     judged = j.judged;
   }
 
-  planned : (m : LeafFiles) (merge : LeafMerge) → PlansLeafMerge (leaf ∷ others) lent before after m merge → JudgesLeafMergeIn L old.folder before after None
+  planned : (m : LeafFiles) (merge : LeafMerge) → PlansLeafMerge (leaf ∷ others) lent before after m merge → JudgesLeafMerge L old.folder before after None
   planned m merge p =
       judges m merge.ids None p.unspent p.begun (not_long (leaf_pairs m merge.ids) p.plan.twice.short) (has_room m.source.parts 0 lent (leaf_pairs m merge.ids) merge.twice p.plan.twice)
       (has_name_room m.source.parts 0 lent (leaf_pairs m merge.ids) m.target.name merge.retire p.plan.retire) p.plan.fit
 
   -- ---- a session that ran
 
-  pub may : (n : ℕ) → is_first_two n ≡ true → is_among (slice_index_or (names_of (leaf ∷ others)) n []) (starts.changed_names (Some name) (leaf ∷ others)) ≡ true
+  pub may : (n : ℕ) → is_first_two n ≡ true → is_among (slice_index_or (names_of (leaf ∷ others)) n []) (starts.changed_names false (Some name) (leaf ∷ others)) ≡ true
   may = may_change_two leaf others name is
 
   module _ (lines : List Line) (run : ScriptRun) (h : HasRunLeafMerge (leaf ∷ others) (names_of (leaf ∷ others)) lines run lent disk before after) where
@@ -102,8 +102,8 @@ module _ (retired : List (List ℕ)) (leaf : LinkedFile) (others : List LinkedFi
     -- its scope is the chain's
     scope_is : leaf_scope_of m ≡ scope_over leaf others name is_first_two (leaf_left_names m)
     scope_is =
-        ap₂ (λ (l : LinkedFile) (fs : List LinkedFile). record { leaf = l.name; geometry = l.parts.geometry; files = fs; changes = is_first_two; staying = leaf_left_names m; of_leaf = true }) (leaf_same m leaf others same_files) (sym same_files)
-        ∙ ap (λ b. record { leaf = leaf.name; geometry = leaf.parts.geometry; files = leaf ∷ others; changes = is_first_two; staying = leaf_left_names m; of_leaf = b }) (sym is)
+        ap₂ (λ (l : LinkedFile) (fs : List LinkedFile). record { leaf = way_to l fs (Some l.name); geometry = l.parts.geometry; files = fs; changes = is_first_two; staying = leaf_left_names m; of_leaf = true }) (leaf_same m leaf others same_files) (sym same_files)
+        ∙ ap₂ (λ b n. record { leaf = way_to leaf (leaf ∷ others) (Some n); geometry = leaf.parts.geometry; files = leaf ∷ others; changes = is_first_two; staying = leaf_left_names m; of_leaf = b }) (sym is) (leaf_named leaf others name is)
 
     pub past : WhereBothTold (HasHistoryOver (scope_over leaf others name is_first_two (leaf_left_names m)) (take h.many lines) h.told run.closed) lent.told disk.told
     past = subst (λ scope. WhereBothTold (HasHistoryOver scope (take h.many lines) h.told run.closed) lent.told disk.told) scope_is h.history
@@ -164,7 +164,7 @@ module _ (retired : List (List ℕ)) (leaf : LinkedFile) (others : List LinkedFi
   told_counted _ x h (no_name why _ n e) = subst (λ y. Counted lent disk (meaning_of_steps y)) (sym e) (named_counted why h.1 n)
 
   -- why
-  begun_in : (m : LeafFiles) (ids : LeafMergeIds) → spent_leaf (leaf ∷ others) ≡ None → IsLeafBegun (leaf ∷ others) before after m ids → BeginsLeafMergeIn L before after m ids
+  begun_in : (m : LeafFiles) (ids : LeafMergeIds) → spent_leaf (leaf ∷ others) ≡ None → IsLeafBegun (leaf ∷ others) before after m ids → BeginsLeafMerge L before after m ids
   begun_in m ids unspent begun = record { unspent = unspent; begun = begun }
 
   full_in : (m : LeafFiles) (ids : LeafMergeIds) (file : ℕ) → leaf ∷ others ≡ leaf_chain m → IsLeafFull lent m ids file → WhereTold old.folder (λ f. IsLeafFullIn (contents f) m ids (slice_index_or (names_of (leaf ∷ others)) file []))

@@ -6,7 +6,10 @@ use Rattle.std.proofs.lemmas.List.{append_assoc, length-append}
 use Rattle.store_model.specs.Disk.{Disk as StoreDisk, WhereBothTold, WhereTold}
 use Rattle.store_model.specs.File.{seen}
 use Rattle.store_model.specs.Folder.{Hosted}
-use Rattle.store_model.specs.Trace.{file_of}
+use Rattle.store_model.specs.Trace.{Trace, file_of}
+use Rattle.std.specs.List.{AllByRecursion}
+use Rattle.chain_model.specs.Members.{NoneTwice}
+use Rattle.layer_session.specs.Unnamed.{NamesNoLog}
 use Rattle.store_model.specs.declared.fault.SealFault.TheVariants as seal
 use Rattle.vhdx_format.specs.Locators.{locator_len, longest_locator}
 use Rattle.vhdx_format.specs.declared.locator.Pair.{Pair}
@@ -23,19 +26,20 @@ use Rattle.merge_plan.specs.declared.drawing.MergeIds.{MergeIds}
 use Rattle.merge_plan.specs.declared.refusal.PrepareRefusal.{PrepareRefusal}
 use Rattle.merge_plan.specs.declared.refusal.PrepareRefusal.TheVariants as plan
 use Rattle.chain_core.specs.MergeStarting.{PlansMerge, RefusesMerge, chain_files, is_changed, spent}
-use Rattle.chain_core.specs.Starting.{EachOpensAlike}
+use Rattle.chain_core.specs.Starting.{EachOpensAlike, way_to}
 use Rattle.chain_core.specs.declared.merge_start.MergeStartRefusal.{MergeStartRefusal}
 use Rattle.chain_core.specs.declared.merge_start.MergeStartRefusal.TheVariants as start
 use Rattle.script.specs.declared.form.Line.{Line}
 use Rattle.script_session.specs.MergeRunning.{HasHistoryOver, HasRunMerge, names_without, scope_of}
 use Rattle.script_session.specs.declared.session.ScriptRun.{ScriptRun}
 use Rattle.vhdx_app.specs.Commands.{Lends}
-use Rattle.vhdx_app.specs.Sessions.{BeginsMergeIn, HasMergeCause, HasMergeCauseOf, IsChainIn, IsMergeRefusal, JudgesMergeIn, JudgesMergeOf, PlanNamesFile, is_told, meaning_of_steps, no_name, of_merge_start, of_plan}
-use Rattle.vhdx_app.specs.Starts.{IsFullIn, StandsSo, changed_names, child_pairs, is_leaf, source_pairs}
+use Rattle.vhdx_app.specs.Sessions.{BeginsMerge, HasMergeCause, HasMergeCauseOf, IsChainIn, IsMergeRefusal, PlanNamesFile, is_told, meaning_of_steps, no_name, of_merge_start, of_plan}
+use Rattle.vhdx_app.specs.Starts.{IsFullIn, JudgesMerge, JudgesMergeOf, StandsSo, changed_names, child_pairs, is_leaf, source_pairs}
 use Rattle.vhdx_app.specs.Starts as starts
 use Rattle.vhdx_app.specs.Steps.{AreLeft, by_other}
 use Rattle.vhdx_app.specs.declared.refusal.StepsRefusal.{StepsRefusal}
 use Rattle.vhdx_app.proofs.MergePlaces.{child_at, leaf_is, may_change_all, places_within, source_at}
+use Rattle.vhdx_app.proofs.Unlogged.{IsUnlogged, unlogged_all}
 use Rattle.vhdx_app.proofs.Over.{read_counts}
 use Rattle.vhdx_app.proofs.OverScope.{Counted, LeavesMerge, LeftMerged, as_told, begin_counted, files_lent, has_room, left_begun, left_none, read_told, scope_over, shows_known, stands_in, told_of}
 
@@ -65,7 +69,7 @@ module _ (retired : List (List ℕ)) (leaf : LinkedFile) (others : List LinkedFi
         stands_in retired leaf others old mid lent chain lends (m.above ++ m.child ∷ []) m.source (m.target ∷ m.below) (source_place m) (sym (length-append m.above (m.child ∷ []))) (same ∙ sym (append_assoc m.above (m.child ∷ []) (m.source ∷ m.target ∷ m.below))) P p
 
   judges : (m : MergeFiles) (ids : MergeIds) (unfit : Option (List ℕ)) → spent (leaf ∷ others) name ≡ None → IsBegun (leaf ∷ others) name before after m ids → AreShort m ids → HasRoom m.source.parts (source_place m) lent (source_pairs m ids)
-      → HasRoom m.child.parts (child_place m) lent (child_pairs m ids) → drawing.JudgesDrawn (leaf ∷ others) lent (merge_ids ids) unfit → JudgesMergeIn L name old.folder before after unfit
+      → HasRoom m.child.parts (child_place m) lent (child_pairs m ids) → drawing.JudgesDrawn (leaf ∷ others) lent (merge_ids ids) unfit → JudgesMerge L name old.folder before after unfit
   judges m ids unfit unspent begun short source child j = record {
     m = m;
     ids = ids;
@@ -79,7 +83,7 @@ module _ (retired : List (List ℕ)) (leaf : LinkedFile) (others : List LinkedFi
     judged = j.judged;
   }
 
-  pub planned : (m : MergeFiles) (merge : Merge) → PlansMerge (leaf ∷ others) name lent before after m merge → JudgesMergeIn L name old.folder before after None
+  pub planned : (m : MergeFiles) (merge : Merge) → PlansMerge (leaf ∷ others) name lent before after m merge → JudgesMerge L name old.folder before after None
   planned m merge p =
       judges m merge.ids None p.unspent p.begun (none_long (source_pairs m merge.ids) (child_pairs m merge.ids) p.plan.twice.short p.plan.relink.short)
       (has_room m.source.parts (source_place m) lent (source_pairs m merge.ids) merge.twice p.plan.twice) (has_room m.child.parts (child_place m) lent (child_pairs m merge.ids) merge.relink p.plan.relink) p.plan.fit
@@ -93,17 +97,20 @@ module _ (retired : List (List ℕ)) (leaf : LinkedFile) (others : List LinkedFi
     same_files : leaf ∷ others ≡ chain_files m
     same_files = h.planned.begun.files_are.files_are
 
-    pub may : (n : ℕ) → is_changed m n ≡ true → is_among (slice_index_or (names_of (leaf ∷ others)) n []) (changed_names (Some name) (leaf ∷ others)) ≡ true
+    pub may : (n : ℕ) → is_changed m n ≡ true → is_among (slice_index_or (names_of (leaf ∷ others)) n []) (changed_names false (Some name) (leaf ∷ others)) ≡ true
     may = may_change_all m leaf others name same_files h.planned.begun.files_are.named other
 
     -- its scope is the chain's
     scope_is : scope_of m ≡ scope_over leaf others name (is_changed m) (names_without m)
     scope_is =
-        ap₂ (λ (l : LinkedFile) (fs : List LinkedFile). record { leaf = l.name; geometry = l.parts.geometry; files = fs; changes = is_changed m; staying = names_without m; of_leaf = false }) (leaf_is m leaf others same_files) (sym same_files)
-        ∙ ap (λ b. record { leaf = leaf.name; geometry = leaf.parts.geometry; files = leaf ∷ others; changes = is_changed m; staying = names_without m; of_leaf = b }) (sym other)
+        ap₂ (λ (l : LinkedFile) (fs : List LinkedFile). record { leaf = way_to l fs (Some m.source.name); geometry = l.parts.geometry; files = fs; changes = is_changed m; staying = names_without m; of_leaf = false }) (leaf_is m leaf others same_files) (sym same_files)
+        ∙ ap₂ (λ b n. record { leaf = way_to leaf (leaf ∷ others) (Some n); geometry = leaf.parts.geometry; files = leaf ∷ others; changes = is_changed m; staying = names_without m; of_leaf = b }) (sym other) h.planned.begun.files_are.named
 
     pub past : WhereBothTold (HasHistoryOver (scope_over leaf others name (is_changed m) (names_without m)) (take h.many lines) h.told run.closed) lent.told disk.told
     past = subst (λ scope. WhereBothTold (HasHistoryOver scope (take h.many lines) h.told run.closed) lent.told disk.told) scope_is h.history
+
+    pub ended_all : NoneTwice (names_of (leaf ∷ others)) → (t : Trace) → ((n : ℕ) → is_changed m n ≡ true → NamesNoLog (seen (file_of t n))) → AllByRecursion (IsUnlogged (leaf ∷ others) t) (changed_names false (Some name) (leaf ∷ others))
+    ended_all differ t none = unlogged_all m leaf others name same_files h.planned.begun.files_are.named other differ t none
 
     pub left : AreLeft (leaf ∷ others) name (names_without m)
     left = by_other m other h.planned.begun.files_are
@@ -162,7 +169,7 @@ module _ (retired : List (List ℕ)) (leaf : LinkedFile) (others : List LinkedFi
   told_counted _ x h (no_name why _ n e) = subst (λ y. Counted lent disk (meaning_of_steps y)) (sym e) (named_counted why h.1 n)
 
   -- why
-  begun_in : (m : MergeFiles) (ids : MergeIds) → spent (leaf ∷ others) name ≡ None → IsBegun (leaf ∷ others) name before after m ids → BeginsMergeIn L name before after m ids
+  begun_in : (m : MergeFiles) (ids : MergeIds) → spent (leaf ∷ others) name ≡ None → IsBegun (leaf ∷ others) name before after m ids → BeginsMerge L name before after m ids
   begun_in m ids unspent begun = record { unspent = unspent; begun = begun }
 
   full_in : (m : MergeFiles) (ids : MergeIds) (file : ℕ) → leaf ∷ others ≡ chain_files m → IsFull lent m ids file → WhereTold old.folder (λ f. IsFullIn (contents f) m ids (slice_index_or (names_of (leaf ∷ others)) file []))

@@ -1,7 +1,8 @@
 -- A script's session with a merge over a chain's files, whichever of them is merged: from what the store's session leaves to what the host is
 -- left with.
-use Rattle.std.proofs.Common.{◌≡◌, ◌⊎◌, ℕ, ◌+◌, ◌<◌, Bool, true, false, is_some, List, [], ◌∷◌, ◌++◌, length, take, Option, Some, None, Result, Ok, Err, refl, sym, ap, subst, ◌∙◌, arith, inl, inr}
+use Rattle.std.proofs.Common.{◌≡◌, ◌≢◌, ◌⊎◌, ℕ, ◌+◌, ◌<◌, Bool, true, false, is_some, List, [], ◌∷◌, ◌++◌, length, take, Option, Some, None, Result, Ok, Err, refl, sym, ap, subst, ◌∙◌, arith, inl, inr}
 use Rattle.std.specs.Prelude.{All, IfErr, IfOk, IfSome, OnOk, option_map, slice_index_or, string_bytes}
+use Rattle.std.specs.List.{AllByRecursion}
 use Rattle.std.proofs.lemmas.List.{length-map}
 use Rattle.std.proofs.lemmas.Option.{same_Some}
 use Rattle.store_model.proofs.Told.{both_from}
@@ -31,28 +32,31 @@ use Rattle.merge_plan.specs.Attached.{shown_from as shown_of}
 use Rattle.merge_plan.specs.Merging.{HasRoom, WritesLocator}
 use Rattle.chain_core.specs.Answering.{EachLinks}
 use Rattle.chain_core.specs.MergeStarting.{BeginsNone, LeavesAllBut}
-use Rattle.chain_core.specs.Starting.{EachOpensAlike, opening_disk}
+use Rattle.chain_core.specs.Starting.{EachOpensAlike, opening_disk, way_to}
 use Rattle.chain_core.specs.declared.starting.Mode.TheVariants.{Guests}
 use Rattle.script.specs.declared.form.Line.{Line}
-use Rattle.script_session.specs.Faults.{Counts}
+use Rattle.script_session.specs.Faults.{Counts, FaultsAreTold}
 use Rattle.script_session.specs.Histories.{AreTold, Course, no_merge}
 use Rattle.script_session.specs.MergeRunning.{HasHistoryOver, IsAtRestOver, Scope, just_started}
 use Rattle.script_session.specs.MergeRunning as scoped
-use Rattle.script_session.specs.Told.{Told, last_fault, transcript}
+use Rattle.script_session.specs.Told.{HasMemory, Told, failed_by, last_fault, transcript}
 use Rattle.script_session.specs.declared.session.ScriptRun.{ScriptRun}
 use Rattle.vhdx_app.specs.Commands.{AreOpened, IsOpened, Lends}
 use Rattle.vhdx_app.specs.Folders.{LeadsTo, files_of}
 use Rattle.vhdx_app.specs.Making.{ShowIds}
 use Rattle.vhdx_app.specs.Refusals.{Refusal}
-use Rattle.vhdx_app.specs.Sessions.{CountsRefusal, HasMergeCauseOf, IfRule, IsChainIn, IsDroppedIn, JudgesMergeOf, NotRunOver, RanIn, Rests, RunOver, StaysAsItWas, UnlessMerging, UnlessStore, meaning_of_steps, of_begin}
-use Rattle.vhdx_app.specs.Starts.{StandsSo, changed_names, is_leaf}
-use Rattle.vhdx_app.specs.Steps.{AreLeft}
+use Rattle.vhdx_app.specs.Sessions.{CountsRefusal, HasMergeCauseOf, IfRule, IsChainIn, NotRunOver, RanIn, Rests, RunOver, StaysAsItWas, UnlessMerging, UnlessStore, leaf_name, meaning_of_steps, of_begin}
+use Rattle.layer_session.specs.Unnamed.{NamesNoLog}
+use Rattle.vhdx_app.specs.Crashes.{NoneNamesLog}
+use Rattle.vhdx_app.specs.Starts.{JudgesMergeOf, StandsSo, changed_names, is_leaf}
+use Rattle.vhdx_app.specs.Steps.{AreLeft, IsDropped}
 use Rattle.vhdx_app.specs.declared.refusal.StepsRefusal.{StepsRefusal}
 use Rattle.vhdx_app.proofs.Back.{attached_as, bytes_there, shows_from}
 use Rattle.vhdx_app.proofs.Lent.{AreAt, IsAt, each_at}
 use Rattle.vhdx_app.proofs.MergePlaces.{leaf_named}
-use Rattle.vhdx_app.proofs.Over.{both_and, change_counts, counted_back, drive_is, if_err, if_some, on_ok, quiet_now, read_counts, rests_by_same, same_shown, stands_by, unchanged_by_same}
-use Rattle.vhdx_app.proofs.Ran.{Changed, both_told, first_leads, leads, now_told, rests, stands}
+use Rattle.vhdx_app.proofs.Over.{both_and, change_counts, counted_back, drive_is, if_err, if_some, lent_faults, on_ok, quiet_now, read_counts, rests_by_same, same_shown, stands_by, unchanged_by_same}
+use Rattle.vhdx_app.proofs.Ran.{Changed, both_told, first_leads, full_ends, last_returned, leads, now_told, rests, stands, unlogged}
+use Rattle.vhdx_app.proofs.Unlogged.{IsUnlogged}
 use Rattle.vhdx_app.proofs.Sparing.{attached_since}
 
 -- ---- a file of a chain, by its place
@@ -113,7 +117,7 @@ module _ (leaf : LinkedFile) (others : List LinkedFile) (name : List ℕ) (lent 
   -- and of its files
   pub record LeftMerged : Type 0 where
     pub written : ℕ → Bool
-    pub may : (n : ℕ) → written n ≡ true → is_among (slice_index_or (names_of (leaf ∷ others)) n []) (changed_names (Some name) (leaf ∷ others)) ≡ true
+    pub may : (n : ℕ) → written n ≡ true → is_among (slice_index_or (names_of (leaf ∷ others)) n []) (changed_names false (Some name) (leaf ∷ others)) ≡ true
     pub changed : WhereBothTold (Changed written) lent.told disk.told
 
   pub left_none : disk.told ≡ lent.told → LeftMerged
@@ -123,12 +127,12 @@ module _ (leaf : LinkedFile) (others : List LinkedFile) (name : List ℕ) (lent 
       all_kept None = tt
       all_kept (Some t) = record { attached = refl; still = λ other apart. refl }
 
-  pub left_begun : (changes : ℕ → Bool) → ((n : ℕ) → changes n ≡ true → is_among (slice_index_or (names_of (leaf ∷ others)) n []) (changed_names (Some name) (leaf ∷ others)) ≡ true) → EachOpensAlike (leaf ∷ others) lent.told disk.told
+  pub left_begun : (changes : ℕ → Bool) → ((n : ℕ) → changes n ≡ true → is_among (slice_index_or (names_of (leaf ∷ others)) n []) (changed_names false (Some name) (leaf ∷ others)) ≡ true) → EachOpensAlike (leaf ∷ others) lent.told disk.told
       → LeavesAllBut changes lent.told disk.told → LeftMerged
   left_begun changes may alike still = record {
     written = changes;
     may = may;
-    changed = both_and (λ trace t. EachMoment (EachOpens leaf.name (λ s. false) (opening_disk trace (leaf ∷ others))) trace t) (λ trace t. (other : ℕ) → changes other ≡ false → file_of t other ≡ file_of trace other) (Changed changes) lent.told disk.told
+    changed = both_and (λ trace t. EachMoment (EachOpens (way_to leaf (leaf ∷ others) None) (λ s. false) (opening_disk trace (leaf ∷ others))) trace t) (λ trace t. (other : ℕ) → changes other ≡ false → file_of t other ≡ file_of trace other) (Changed changes) lent.told disk.told
         (λ trace t moments kept. record { attached = attached_since trace t moments.since; still = kept }) alike still;
   }
 
@@ -137,7 +141,7 @@ module _ (leaf : LinkedFile) (others : List LinkedFile) (name : List ℕ) (lent 
 module _ (leaf : LinkedFile) (others : List LinkedFile) (name : List ℕ) where
   -- its scope: the files of the chain, those that it changes, and the names that stay
   abbrev pub scope_over : (ℕ → Bool) → List (List ℕ) → Scope
-  scope_over changes staying = record { leaf = leaf.name; geometry = leaf.parts.geometry; files = leaf ∷ others; changes = changes; staying = staying; of_leaf = is_leaf (leaf ∷ others) name }
+  scope_over changes staying = record { leaf = way_to leaf (leaf ∷ others) (Some name); geometry = leaf.parts.geometry; files = leaf ∷ others; changes = changes; staying = staying; of_leaf = is_leaf (leaf ∷ others) name }
 
   pub scope_changed : (changes : ℕ → Bool) (staying : List (List ℕ)) (lines : List Line) (told : List Told) (closed : Result (Unit {0}) StoreFault) (a b : Option Trace) → WhereBothTold (HasHistoryOver (scope_over changes staying) lines told closed) a b
       → WhereBothTold (Changed changes) a b
@@ -189,8 +193,10 @@ module _ (retired : List (List ℕ)) (leaf : LinkedFile) (others : List LinkedFi
   abbrev traced : List Held → Trace
   traced f = attached_trace (names_of (leaf ∷ others)) f
 
-  module _ (changes : ℕ → Bool) (staying : List (List ℕ)) (may : (n : ℕ) → changes n ≡ true → is_among (slice_index_or (names_of (leaf ∷ others)) n []) (changed_names (Some name) (leaf ∷ others)) ≡ true) (left : AreLeft (leaf ∷ others) name staying)
-      (many : ℕ) (lines : List Line) (told_all : List Told) (run : ScriptRun) (past : WhereBothTold (HasHistoryOver (scope_over leaf others name changes staying) (take many lines) told_all run.closed) lent.told disk.told) where
+  module _ (changes : ℕ → Bool) (staying : List (List ℕ)) (may : (n : ℕ) → changes n ≡ true → is_among (slice_index_or (names_of (leaf ∷ others)) n []) (changed_names false (Some name) (leaf ∷ others)) ≡ true) (left : AreLeft (leaf ∷ others) name staying)
+      (many : ℕ) (lines : List Line) (told_all : List Told) (run : ScriptRun) (past : WhereBothTold (HasHistoryOver (scope_over leaf others name changes staying) (take many lines) told_all run.closed) lent.told disk.told)
+      (told_faults : FaultsAreTold told_all (failed_by run.closed) lent.files lent.failed_changes disk.failed_reads disk.failed_changes)
+      (ended_all : (t : Trace) → ((n : ℕ) → changes n ≡ true → NamesNoLog (seen (file_of t n))) → AllByRecursion (IsUnlogged (leaf ∷ others) t) (changed_names false (Some name) (leaf ∷ others))) where
     abbrev became : WhereBothTold (Changed changes) lent.told disk.told
     became = scope_changed leaf others name changes staying (take many lines) told_all run.closed lent.told disk.told past
 
@@ -200,7 +206,7 @@ module _ (retired : List (List ℕ)) (leaf : LinkedFile) (others : List LinkedFi
     ran_in : (f : List Held) (told : old.folder ≡ Some f) → RanIn Guests (Some name) M (take many lines) told_all run.closed f old now
     ran_in f told =
         let b = both_told (HasHistoryOver scope (take many lines) told_all run.closed) lent.told disk.told (traced f) (lent_told retired leaf others old mid lent chain lends f told) past in
-        let t = now_told retired leaf others old mid lent idle once chain lends disk (Some name) changes may became f told in
+        let t = now_told retired leaf others old mid lent idle once chain lends disk Guests (Some name) changes may became f told in
         let k = subst (HasHistoryOver scope (take many lines) told_all run.closed (traced f)) (same_Some b.0 t.0 (sym b.1 ∙ t.1)) b.2 in
         record {
           history = k.history;
@@ -209,29 +215,49 @@ module _ (retired : List (List ℕ)) (leaf : LinkedFile) (others : List LinkedFi
           told_so = λ d opens.
               subst (λ drive. AreTold drive 1 [] (just_started (is_leaf (leaf ∷ others) name)) None (take many lines) told_all k.history k.course k.broken)
               (drive_is Guests retired leaf others old mid now lent disk idle served once chain lends back_is past_is count before after (Some name) changes may f told d opens) k.told_so;
-          stands = stands retired leaf others old mid lent idle once chain lends disk (Some name) changes may became now back_is past_is count f told Guests k.history k.broken k.moments (λ reading. cc);
+          stands = stands retired leaf others old mid lent idle once chain lends disk Guests (Some name) changes may became now back_is past_is count f told k.history k.broken k.moments (λ reading. cc) k.last;
+          full = full_ends retired leaf others old mid lent idle once chain lends disk Guests (Some name) changes may became now back_is past_is count f told changes (changed_names false (Some name) (leaf ∷ others)) may told_all k.full;
+          faults = last_returned retired leaf others old mid lent idle once chain lends disk Guests (Some name) changes may became now back_is past_is count f told
+              (λ store. FaultsAreTold told_all (failed_by run.closed) (length (leaf ∷ others)) (λ file. 0) store.failed_reads store.failed_changes)
+              (λ trace rest. lent_faults Guests retired leaf others old mid now lent disk idle served once chain lends back_is past_is count before after (Some name) changes may told_all (failed_by run.closed) told_faults);
           rests = rests_as f told k.history run.closed k.at_rest;
+          no_log = no_log_as f told k.history run.closed k.at_rest;
           dropped = dropped_as f told k.history k.course run.closed k.at_rest k.linked;
+          stays = stays_as f told k.history k.course run.closed k.at_rest k.stays;
         }
       where
         rests_as : (f : List Held) (told : old.folder ≡ Some f) (history : History) (closed : Result (Unit {0}) StoreFault)
-            → OnOk closed (IsAtRestOver scope (scoped.drive_over scope (traced f)) history (now_told retired leaf others old mid lent idle once chain lends disk (Some name) changes may became f told).0) → OnOk closed (Rests M history f old now)
-        rests_as f told history (Ok done) a = rests retired leaf others old mid lent idle once chain lends disk (Some name) changes may became now back_is past_is count f told history a.synced a.opens
+            → OnOk closed (IsAtRestOver scope (scoped.drive_over scope (traced f)) history (now_told retired leaf others old mid lent idle once chain lends disk Guests (Some name) changes may became f told).0) → OnOk closed (Rests M history f old now)
+        rests_as f told history (Ok done) a = rests retired leaf others old mid lent idle once chain lends disk Guests (Some name) changes may became now back_is past_is count f told history a.synced a.opens
         rests_as f told history (Err fault) a = tt
 
-        dropped_as : (f : List Held) (told : old.folder ≡ Some f) (history : History) (course : Course) (closed : Result (Unit {0}) StoreFault)
-            → (let t = (now_told retired leaf others old mid lent idle once chain lends disk (Some name) changes may became f told).0 in OnOk closed (IsAtRestOver scope (scoped.drive_over scope (traced f)) history t))
-            → (let t = (now_told retired leaf others old mid lent idle once chain lends disk (Some name) changes may became f told).0 in course ≡ no_merge → OnOk closed (EachLinks leaf.name staying t)) → OnOk closed (course ≡ no_merge → IsDroppedIn M name now)
-        dropped_as f told history course (Err fault) a links = tt
-        dropped_as f told history course (Ok done) a links = λ ended. (
-          staying,
-          left,
-          leads retired leaf others old mid lent idle once chain lends disk (Some name) changes may became now back_is past_is count f told history staying a.synced a.opens (links ended),
-          λ is. subst (λ n. WhereTold now.folder (λ after. LeadsTo (files_of after) n staying)) (leaf_named leaf others name is)
-              (first_leads retired leaf others old mid lent idle once chain lends disk (Some name) changes may became now back_is past_is count f told history staying a.synced a.opens (links ended)),
-        )
+        no_log_as : (f : List Held) (told : old.folder ≡ Some f) (history : History) (closed : Result (Unit {0}) StoreFault)
+            → OnOk closed (IsAtRestOver scope (scoped.drive_over scope (traced f)) history (now_told retired leaf others old mid lent idle once chain lends disk Guests (Some name) changes may became f told).0)
+            → OnOk closed (WhereTold now.folder (NoneNamesLog (changed_names false (Some name) (leaf ∷ others))))
+        no_log_as f told history (Ok done) a =
+            unlogged retired leaf others old mid lent idle once chain lends disk Guests (Some name) changes may became now back_is past_is count f told (changed_names false (Some name) (leaf ∷ others)) (ended_all _ a.no_log)
+        no_log_as f told history (Err fault) a = tt
 
-    pub scope_ran : (whole : IfOk run.transcript (λ text. (take many lines ≡ lines) × (string_bytes text ≡ transcript (names_of (leaf ∷ others)) lines told_all))) → run.fault ≡ last_fault told_all → IfSome run.fault (Counts disk) → IfErr run.closed (Counts disk)
+        stays_as : (f : List Held) (told : old.folder ≡ Some f) (history : History) (course : Course) (closed : Result (Unit {0}) StoreFault)
+            → (let t = (now_told retired leaf others old mid lent idle once chain lends disk Guests (Some name) changes may became f told).0 in OnOk closed (IsAtRestOver scope (scoped.drive_over scope (traced f)) history t))
+            → (let t = (now_told retired leaf others old mid lent idle once chain lends disk Guests (Some name) changes may became f told).0 in course ≢ no_merge → OnOk closed (EachLinks leaf.name (names_of (leaf ∷ others)) t))
+            → OnOk closed (course ≢ no_merge → WhereTold now.folder (λ after. LeadsTo (files_of after) (leaf_name M) (names_of (leaf ∷ others))))
+        stays_as f told history course (Err fault) a links = tt
+        stays_as f told history course (Ok done) a links = λ some. leads retired leaf others old mid lent idle once chain lends disk Guests (Some name) changes may became now back_is past_is count f told history (names_of (leaf ∷ others)) a.synced a.opens (links some)
+
+        dropped_as : (f : List Held) (told : old.folder ≡ Some f) (history : History) (course : Course) (closed : Result (Unit {0}) StoreFault)
+            → (let t = (now_told retired leaf others old mid lent idle once chain lends disk Guests (Some name) changes may became f told).0 in OnOk closed (IsAtRestOver scope (scoped.drive_over scope (traced f)) history t))
+            → (let t = (now_told retired leaf others old mid lent idle once chain lends disk Guests (Some name) changes may became f told).0 in course ≡ no_merge → OnOk closed (EachLinks leaf.name staying t)) → OnOk closed (course ≡ no_merge → IsDropped (leaf_name M) M now name)
+        dropped_as f told history course (Err fault) a links = tt
+        dropped_as f told history course (Ok done) a links = λ ended. record {
+          left = staying;
+          are_left = left;
+          leads = leads retired leaf others old mid lent idle once chain lends disk Guests (Some name) changes may became now back_is past_is count f told history staying a.synced a.opens (links ended);
+          follows = λ is. subst (λ n. WhereTold now.folder (λ after. LeadsTo (files_of after) n staying)) (leaf_named leaf others name is)
+              (first_leads retired leaf others old mid lent idle once chain lends disk Guests (Some name) changes may became now back_is past_is count f told history staying a.synced a.opens (links ended));
+        }
+
+    pub scope_ran : (whole : IfOk run.transcript (λ text. (take many lines ≡ lines) × (string_bytes text ≡ transcript (names_of (leaf ∷ others)) lines told_all) × AllByRecursion HasMemory told_all)) → run.fault ≡ last_fault told_all → IfSome run.fault (Counts disk) → IfErr run.closed (Counts disk)
         → (run.fault ≡ None → OnOk run.closed (disk ≡ record lent { told = disk.told })) → JudgesMergeOf (is_leaf (leaf ∷ others) name) M name old.folder before after None → RunOver Guests (Some name) M lines run old now before after
     scope_ran whole fault_is counted ended quiet drawn = record {
       many = many;

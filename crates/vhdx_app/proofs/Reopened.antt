@@ -1,14 +1,16 @@
 -- A leaf's name leads to the chain behind the retired leaves that stand for it, whatever a crash leaves of a store that had its files.
-use Rattle.std.proofs.Common.{◌≡◌, ◌≢◌, ℕ, Bool, true, List, [], ◌∷◌, ◌++◌, Some, refl, sym, ap, subst, ◌∙◌}
+use Rattle.std.proofs.Common.{◌≡◌, ◌≢◌, ℕ, Bool, true, List, [], ◌∷◌, ◌++◌, Option, Some, refl, sym, ap, subst, ◌∙◌}
 use Rattle.std.specs.List.{AllByRecursion}
+use Rattle.std.proofs.lemmas.List.{append_assoc}
 use Rattle.store_model.specs.Folder.{Held, back_from, file_named, given_back, has_name, without}
 use Rattle.store_model.specs.Trace.{NamedBytes, Trace}
 use Rattle.guest_model.specs.Calls.{Disk}
-use Rattle.chain_model.specs.Files.{Files, IsIn, IsLinked, files_in}
-use Rattle.chain_model.specs.Members.{IsChainOf, Leads, Member, NoneTwice, first_name}
+use Rattle.chain_model.specs.Files.{Files, IsIn, IsLinked, IsWhole, files_in}
+use Rattle.chain_model.specs.Members.{IsChainOf, Leads, Member, NoneTwice, first_name, Way}
 use Rattle.chain_model.specs.Members as model
 use Rattle.chain_model.specs.Moments.{EachOpens}
-use Rattle.chain_model.proofs.Linking.{more_files_link_alike, retired_may_lead}
+use Rattle.chain_model.proofs.Linking.{all_whole_in_more, more_files_link_alike, retired_may_lead, whole_by}
+use Rattle.chain_model.proofs.Showing.{all_append}
 use Rattle.link_rules.specs.Folders.{AllIdle, contents}
 use Rattle.link_rules.specs.Laws.{at_rest_all}
 use Rattle.chain_core.specs.Answering.{EachLinks}
@@ -16,6 +18,10 @@ use Rattle.vhdx_app.specs.Crashes.{EachImageOpens, IsCleanFolderImage}
 use Rattle.vhdx_app.specs.Folders.{LeadsTo}
 use Rattle.vhdx_app.proofs.Lent.{back_over, names_in}
 use Rattle.vhdx_app.proofs.Returned.{AreBack, all_named, are_back, back_beside, clean_image, in_image, kept_in_image, of_names, restricted}
+
+-- a way of this name
+abbrev pub way_at : List ℕ → List (List ℕ) → Option (List ℕ) → Way
+way_at name first drops = record { name = name; first = first; drops = drops }
 
 -- ---- retired leaves before a chain
 
@@ -123,27 +129,49 @@ module _ (folder : List Held) (names : List (List ℕ)) (idle : AllIdle folder) 
             by_list [] h = h
             by_list (m ∷ rest) h = (h.0, by_list rest h.1)
 
+    -- and each retired leaf before them is as long
+    outer_whole : (rest : List Member) → OutOf names rest → AllByRecursion (IsIn (at_rest_all (contents folder))) rest → AllByRecursion (IsWhole (at_rest_all (contents folder))) rest → AllByRecursion (IsWhole (files_in image)) rest
+    outer_whole [] out h whole = tt
+    outer_whole (m ∷ rest) out h whole = (
+      whole_by (files_in image) m h.0.file h.0.held h.0.parts (kept_in_image folder now m.name h.0.file image idle (stays m.name out.0) is.left is.whole h.0.there) h.0.reads (whole.0 h.0.file h.0.there h.0.held h.0.parts h.0.reads),
+      outer_whole rest out.1 h.1 whole.1,
+    )
+
+    whole_behind : AllByRecursion (IsWhole (at_rest_all (contents folder))) outer → (files : List Member) → AllByRecursion (IsIn (files_in within)) files → AllByRecursion (IsWhole (files_in within)) files → (rest later : List Member) → files ≡ rest ++ later
+        → AllByRecursion (IsWhole (files_in image)) ((outer ++ rest) ++ later)
+    whole_behind own files there whole rest later is_both =
+        subst (AllByRecursion (IsWhole (files_in image))) (ap (λ f. outer ++ f) is_both ∙ sym (append_assoc outer rest later))
+        (all_append (IsWhole (files_in image)) outer files (outer_whole outer apart (first_in (at_rest_all (contents folder)) outer chain linked.there) own) (all_whole_in_more (files_in within) (files_in image) more files there whole))
+
   -- what each image of the store is opened to each image of the folder is opened to
-  pub images_reopen : (among : ℕ → Bool) (disk : Disk) → EachOpens (first_name chain) among disk trace → EachImageOpens leaf among disk (given_back trace (without names folder))
+  pub images_reopen : AllByRecursion (IsWhole (at_rest_all (contents folder))) outer → (first : List (List ℕ)) (drops : Option (List ℕ)) (among : ℕ → Bool) (disk : Disk) → EachOpens (way_at (first_name chain) first drops) among disk trace
+      → EachImageOpens (way_at leaf first drops) among disk (given_back trace (without names folder))
   unfolding now within
-  images_reopen among disk opens image is =
+  images_reopen own first drops among disk opens image is =
       let o = opens (within image is) (clean_image trace now image is.left is.whole are_now) in
-      record { retired = outer ++ o.retired; chain = o.chain; linked = linked_behind image is o.retired o.chain o.linked; agrees = o.agrees }
+      record {
+        retired = outer ++ o.retired;
+        chain = o.chain;
+        linked = linked_behind image is o.retired o.chain o.linked;
+        by = o.by;
+        whole = whole_behind image is own (o.retired ++ o.chain) o.linked.there o.whole o.retired o.chain refl;
+        agrees = o.agrees;
+      }
 
   -- and by the same files
-  pub images_relink : (among : ℕ → Bool) (disk : Disk) (files : List (List ℕ)) → EachOpens (first_name chain) among disk trace → EachLinks (first_name chain) files trace → (image : List NamedBytes) → IsCleanFolderImage (given_back trace (without names folder)) image
+  pub images_relink : (first : List (List ℕ)) (drops : Option (List ℕ)) (among : ℕ → Bool) (disk : Disk) (files : List (List ℕ)) → EachOpens (way_at (first_name chain) first drops) among disk trace → EachLinks (first_name chain) files trace → (image : List NamedBytes) → IsCleanFolderImage (given_back trace (without names folder)) image
       → LeadsTo (files_in image) leaf files
   unfolding now within
-  images_relink among disk files opens links image is =
+  images_relink first drops among disk files opens links image is =
       let clean = clean_image trace now image is.left is.whole are_now in
       let o = opens (within image is) clean in
       record { retired = outer ++ o.retired; chain = o.chain; linked = linked_behind image is o.retired o.chain o.linked; are = links (within image is) clean o.retired o.chain o.linked }
 
   -- so is the name of the chain's own first file
-  pub images_link : (among : ℕ → Bool) (disk : Disk) (files : List (List ℕ)) → EachOpens (first_name chain) among disk trace → EachLinks (first_name chain) files trace → (image : List NamedBytes) → IsCleanFolderImage (given_back trace (without names folder)) image
+  pub images_link : (first : List (List ℕ)) (drops : Option (List ℕ)) (among : ℕ → Bool) (disk : Disk) (files : List (List ℕ)) → EachOpens (way_at (first_name chain) first drops) among disk trace → EachLinks (first_name chain) files trace → (image : List NamedBytes) → IsCleanFolderImage (given_back trace (without names folder)) image
       → LeadsTo (files_in image) (first_name chain) files
   unfolding now within
-  images_link among disk files opens links image is =
+  images_link first drops among disk files opens links image is =
       let clean = clean_image trace now image is.left is.whole are_now in
       let o = opens (within image is) clean in
       record {

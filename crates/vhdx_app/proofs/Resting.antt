@@ -1,5 +1,5 @@
 -- A folder of which nothing is unsynced: a crash leaves of it what a read gives.
-use Rattle.std.proofs.Common.{◌≡◌, ℕ, zero, ◌+◌, Bool, true, false, cond, List, [], ◌∷◌, map, Option, Some, unwrap_or, refl, sym, ap, subst, ◌∙◌, arith}
+use Rattle.std.proofs.Common.{◌≡◌, ℕ, zero, ◌+◌, Bool, true, false, cond, List, [], ◌∷◌, ◌++◌, map, Option, Some, unwrap_or, refl, sym, ap, subst, ◌∙◌, arith, inl}
 use Rattle.std.specs.Prelude.{option_map}
 use Rattle.std.specs.Str.{bytes_eq}
 use Rattle.store_model.specs.File.{File, Grow, IsFileImage, Op, Seal, Sync, Tear, Write, is_synced, is_synced_after, seen}
@@ -10,13 +10,14 @@ use Rattle.torn_match.specs.TornMatches.{HasNoTornMatch}
 use Rattle.guest_model.specs.Calls.{Disk}
 use Rattle.guest_model.proofs.HistoryLaws.{same_from_agrees}
 use Rattle.chain_model.specs.Files.{IsLinked, OpensTo, at_rest, files_in}
-use Rattle.chain_model.specs.Members.{Member, disk_of}
-use Rattle.chain_model.proofs.Linking.{more_files_link_alike}
+use Rattle.chain_model.specs.Members.{Member, disk_of, Way}
+use Rattle.chain_model.proofs.Linking.{all_whole_in_more, more_files_link_alike}
 use Rattle.link_rules.specs.Folders.{AllIdle, contents}
 use Rattle.link_rules.specs.Laws.{at_rest_all}
 use Rattle.link_rules.proofs.Lent.{rest_idle}
 use Rattle.vhdx_app.specs.Crashes.{EachImageOpens, HaveNoTornMatch, IsCleanFolderImage}
 use Rattle.vhdx_app.specs.Folders.{LeadsTo, files_of}
+use Rattle.vhdx_app.specs.Sessions.{LeadsWhole}
 use Rattle.vhdx_app.proofs.Lent.{seen_image}
 use Rattle.vhdx_app.proofs.Returned.{kept_in_image}
 
@@ -71,18 +72,21 @@ seen_files (held ∷ folder) idle name = by_name (bytes_eq held.name name) refl 
       ∙ sym (ap (λ c. option_map at_rest (option_map seen (cond c held.file (file_named name folder)))) e)
 
 -- what each image of it opens to it is opened to
-pub opens_at_rest : (folder : List Held) (leaf : List ℕ) (disk : Disk) → AllIdle folder → EachImageOpens leaf (λ s. false) disk folder → OpensTo (files_of folder) leaf disk
+pub opens_at_rest : (folder : List Held) (leaf : Way) (disk : Disk) → AllIdle folder → EachImageOpens leaf (λ s. false) disk folder → OpensTo (files_of folder) leaf.name disk
 opens_at_rest folder leaf disk idle opens =
     let o = opens (as_seen folder) (record { left = seen_left folder idle; whole = seen_whole folder idle }) in
-    let linked = more_files_link_alike (files_in (as_seen folder)) (files_of folder) leaf o.retired o.chain (λ name file had. sym (seen_files folder idle name) ∙ had) o.linked in
+    let linked = more_files_link_alike (files_in (as_seen folder)) (files_of folder) leaf.name o.retired o.chain (λ name file had. sym (seen_files folder idle name) ∙ had) o.linked in
     record { retired = o.retired; chain = o.chain; linked = linked; is = same_from_agrees (λ i. refl) o.agrees }
 
 -- and the other way round, outside any sectors
-pub rest_opens : (folder : List Held) (leaf : List ℕ) (among : ℕ → Bool) (retired chain : List Member) → AllIdle folder → IsLinked (files_of folder) leaf retired chain → EachImageOpens leaf among (disk_of chain) folder
-rest_opens folder leaf among retired chain idle linked image is = record {
+pub rest_opens : (folder : List Held) (leaf : Way) (among : ℕ → Bool) (retired chain : List Member) → AllIdle folder → LeadsWhole (files_of folder) leaf.name leaf.first → IsLinked (files_of folder) leaf.name retired chain
+    → EachImageOpens leaf among (disk_of chain) folder
+rest_opens folder leaf among retired chain idle whole linked image is = record {
   retired = retired;
   chain = chain;
-  linked = more_files_link_alike (files_of folder) (files_in image) leaf retired chain (λ name file had. kept_in_image folder folder name file image idle refl is.left is.whole had) linked;
+  by = inl (whole retired chain linked).0;
+  linked = more_files_link_alike (files_of folder) (files_in image) leaf.name retired chain (λ name file had. kept_in_image folder folder name file image idle refl is.left is.whole had) linked;
+  whole = all_whole_in_more (files_of folder) (files_in image) (λ name file had. kept_in_image folder folder name file image idle refl is.left is.whole had) (retired ++ chain) linked.there (whole retired chain linked).1;
   agrees = record { sectors = refl; same = λ i apart. refl };
 }
 

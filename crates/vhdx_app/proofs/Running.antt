@@ -1,6 +1,7 @@
 -- What a run does, from what its commands do.
-use Rattle.std.proofs.Common.{◌≡◌, ◌≢◌, ◌⊎◌, ℕ, Bool, List, Option, Some, None, refl, inl, inr, sym, subst, ◌∙◌}
-use Rattle.std.specs.Prelude.{MatchOption, codes}
+use Rattle.std.proofs.Common.{◌≡◌, ◌≢◌, ◌⊎◌, ℕ, Bool, List, Option, Some, None, refl, inl, inr, sym, ap, subst, ◌∙◌}
+use Rattle.std.specs.Prelude.{MatchOption, codes, option_map}
+use Rattle.std.proofs.lemmas.Option.{same_Some}
 use Rattle.command_line.specs.Requests.{File, Wish, plain}
 use Rattle.command_line.specs.Requests as wish
 use Rattle.command_line.specs.Words.{Asks, AsksNothing}
@@ -16,12 +17,18 @@ use Rattle.link_rules.specs.Touches.{IsOnWay, TouchesSafely}
 use Rattle.link_rules.proofs.Safe.{none_safely}
 use Rattle.vhdx_app.specs.Folders.{IsReplayedIn, OnlyFollows}
 use Rattle.printing.specs.Sent.{Sent, cut, whole}
-use Rattle.vhdx_app.specs.Runs.{AskMerge, Ends, HasMerge, FollowsFirst, IsRun, Runs, no_memory, usage}
+use Rattle.vhdx_app.specs.Runs.{AskMerge, Ends, HasMerge, FollowsFirst, IsRun, IsRunAlone, NoMerge, Runs, RunsNothing, StartsNoThread, no_memory, served_leaf, usage}
+use Rattle.script.specs.declared.form.ScriptKind.TheVariants as kinds
+use Rattle.vhdx_app.specs.Serves as serves
+use Rattle.vhdx_app.specs.Steps as steps
 use Rattle.vhdx_app.specs.Worlds.{World, world}
 use Rattle.printing.specs.declared.status.Status.{Status}
 use Rattle.printing.specs.declared.status.Status.TheVariants.{Done, Refused, Usage, Fault, NoMemory}
-use Rattle.vhdx_app.proofs.Home.{home_added, home_followed, home_still}
+use Rattle.named_file.proofs.Touched.{still_repaired, still_safely}
+use Rattle.vhdx_app.proofs.Checked.{looks_none, no_memory_found}
+use Rattle.vhdx_app.proofs.Home.{StaysHome, home_added, home_followed, home_still}
 use Rattle.vhdx_app.proofs.Left.{follows_none}
+use Rattle.vhdx_app.proofs.Mended.{no_memory_not_refused}
 use Rattle.vhdx_app.proofs.Made.{adds_none, looks_still, still_making}
 use Rattle.vhdx_app.proofs.Said.{asked, asked_none, no_memory_shown}
 use Rattle.vhdx_app.proofs.Stepped.{none_taken, unread_runs}
@@ -55,6 +62,60 @@ module _ (words : List (List ℕ)) (told : Option Request) (h : MatchOption told
     ends = ends;
   }
 
+  -- the same without threads, if it isn't asked for guests to be served
+  pub told_alone : (request : Request) → told ≡ Some request → (before now : World) (status : Status) → Runs (plain request) before now status → Ends (AskMerge words) before now status
+      → ((leaf : List ℕ) (workers : ℕ) → plain request ≡ wish.serve leaf workers → ⊥) → IsRunAlone words before now status
+  told_alone request is before now status runs ends other = record {
+    alone = λ none. told_is_run request is before now status runs ends;
+    other = λ leaf workers asks. absurd (other leaf workers (asked_once words (plain request) (wish.serve leaf workers) (asked words told request is h) asks));
+  }
+
+  -- guests are to be served, and nothing is done
+  pub serve_alone : (request : Request) → told ≡ Some request → (leaf : List ℕ) (workers : ℕ) → plain request ≡ wish.serve leaf workers → (before : World) (status : Status) → status ≡ Usage → IsRunAlone words before before status
+  serve_alone request is leaf workers same before status ended = record {
+    alone = λ none. absurd (none leaf workers (subst (Asks words) same (asked words told request is h)));
+    other = λ l w asks. usage ended refl;
+  }
+
+  -- what is asked for where guests are to be served, and where they aren't
+  pub serve_asked : (leaf : List ℕ) → served_leaf (option_map plain told) ≡ Some leaf → (workers : ℕ) × Asks words (wish.serve leaf workers)
+  serve_asked leaf is = go told refl is
+    where
+      by_wish : (w : Wish) → Asks words w → served_leaf (Some w) ≡ Some leaf → (workers : ℕ) × Asks words (wish.serve leaf workers)
+      by_wish (wish.serve l n) asks e = (n, subst (λ x. Asks words (wish.serve x n)) (same_Some l leaf e) asks)
+      by_wish (wish.dump l first count) asks e = cc
+      by_wish (wish.make name file) asks e = cc
+      by_wish (wish.info l) asks e = cc
+      by_wish (wish.steps l merge read_only) asks e = cc
+      by_wish (wish.check name) asks e = cc
+      by_wish (wish.repair name) asks e = cc
+      by_wish wish.help asks e = cc
+      by_wish wish.version asks e = cc
+
+      go : (t : Option Request) → told ≡ t → served_leaf (option_map plain t) ≡ Some leaf → (workers : ℕ) × Asks words (wish.serve leaf workers)
+      go None t e = cc
+      go (Some request) t e = by_wish (plain request) (asked words told request t h) e
+
+  pub serve_unasked : served_leaf (option_map plain told) ≡ None → StartsNoThread words
+  serve_unasked is leaf workers asks = go told refl is
+    where
+      by_wish : (w : Wish) → w ≡ wish.serve leaf workers → served_leaf (Some w) ≡ None → ⊥
+      by_wish w same e = let never : ◌≡◌ {A = Option (List ℕ)} (Some leaf) None = ap (λ x. served_leaf (Some x)) (sym same) ∙ e in cc
+
+      go : (t : Option Request) → told ≡ t → served_leaf (option_map plain t) ≡ None → ⊥
+      go None t e = none_asked t (wish.serve leaf workers) asks
+      go (Some request) t e = by_wish (plain request) (asked_once words (plain request) (wish.serve leaf workers) (asked words told request t h) asks) e
+
+  -- guests were served
+  pub served_is_run : (leaf : List ℕ) → served_leaf (option_map plain told) ≡ Some leaf → (before now : World) (status : Status) → ((workers : ℕ) → Runs (wish.serve leaf workers) before now status) → Ends NoMerge before now status → IsRun words before now status
+  served_is_run leaf is before now status runs ends =
+      let a = serve_asked leaf is in
+      record {
+        asked = λ w asks. subst (λ w. Runs w before now status) (asked_once words (wish.serve leaf a.0) w a.1 asks) (runs a.0);
+        nothing = λ nothing. absurd (nothing (wish.serve leaf a.0) a.1);
+        ends = record { rose = ends.rose; quiet = ends.quiet; home = ends.home; idle = λ fault none. ends.idle fault (λ memory has. absurd has) };
+      }
+
   -- nothing was told, and nothing is done
   pub none_is_run : told ≡ None → (before : World) (status : Status) → status ≡ Usage → Ends (AskMerge words) before before status → IsRun words before before status
   none_is_run is before status ended ends = record {
@@ -62,6 +123,9 @@ module _ (words : List (List ℕ)) (told : Option Request) (h : MatchOption told
     nothing = λ nothing. usage ended refl;
     ends = ends;
   }
+
+  pub none_alone : told ≡ None → (before : World) (status : Status) → status ≡ Usage → Ends (AskMerge words) before before status → IsRunAlone words before before status
+  none_alone is before status ended ends = record { alone = λ none. none_is_run is before status ended ends; other = λ leaf workers asks. usage ended refl }
 
 -- ---- the commands
 
@@ -80,6 +144,11 @@ module _ (before now : World) (status : Status) (idle : WhereTold before.host.fo
 
   pub made_ends : (name : List ℕ) (file : File) → MakeEnded name file (outside before.host before.drawn) (outside now.host now.drawn) before.written now.written before.sink_faults now.sink_faults status → {merges : Type 0} → Ends merges before now status
   made_ends name file ended = record { rose = λ fault. not_of_source (ended.ended.rose fault); quiet = λ fault. ((ended.ended.quiet fault).0, unread, (ended.ended.quiet fault).1); home = home_added name file before.host.folder now.host.folder idle ended.others; idle = λ fault none. ended.idle fault }
+
+  -- of one file alone
+  pub command_ends : (is_text : Status → List ℕ → Type 0) → Ended is_text before.host.faults now.host.faults before.written now.written before.sink_faults now.sink_faults status → StaysHome before.host.folder now.host.folder
+      → (status ≢ Fault → WhereTold before.host.folder (λ folder. WhereTold now.host.folder AllIdle)) → {merges : Type 0} → Ends merges before now status
+  command_ends is_text ended home stays_idle = record { rose = λ fault. not_of_source (ended.rose fault); quiet = λ fault. ((ended.quiet fault).0, unread, (ended.quiet fault).1); home = home; idle = λ fault none. stays_idle fault }
 
 -- ---- where nothing is done but that a text is printed
 
@@ -104,7 +173,24 @@ module _ (host : Hosted) (drawn : Option (List (List ℕ))) (left : Option (List
   no_memory_runs sent (wish.dump leaf first count) = record { printed = record { meant = NoMemory; text = codes "no memory\n"; said = refl; sent = sent }; follows = follows_first leaf _ _ status (follows_none leaf host) (λ shown. absurd (no_memory_shown _ _ _ _ _ _ sent shown)) (none_safely (λ f. IsOnWay (contents f) leaf) host) refl refl }
   no_memory_runs sent (wish.info leaf) = record { printed = record { meant = NoMemory; text = codes "no memory\n"; said = refl; sent = sent }; follows = follows_first leaf _ _ status (follows_none leaf host) (λ shown. absurd (no_memory_shown _ _ _ _ _ _ sent shown)) (none_safely (λ f. IsOnWay (contents f) leaf) host) refl refl }
   no_memory_runs sent (wish.make name file) = record { printed = record { meant = NoMemory; text = codes "no memory\n"; said = refl; sent = sent }; kept = λ done fault. looks_still file host; others = adds_none name file host; moments = still_making name file host; unread = refl }
-  no_memory_runs sent (wish.steps leaf merge read_only) = unread_runs leaf merge read_only (world host drawn left rises sunk old) (world host drawn left rises after new) status idle refl refl NoMemory (codes "no memory\n") sent refl (none_taken left)
+  no_memory_runs sent (wish.steps leaf merge read_only) = steps.unread (unread_runs kinds.Steps leaf ⊥ (world host drawn left rises sunk old) (world host drawn left rises after new) status refl refl NoMemory (codes "no memory\n") sent refl (none_taken left))
+  no_memory_runs sent (wish.serve leaf workers) = serves.unread (unread_runs kinds.Serve leaf ⊥ (world host drawn left rises sunk old) (world host drawn left rises after new) status refl refl NoMemory (codes "no memory\n") sent refl (none_taken left))
+  no_memory_runs sent (wish.check name) = record {
+    printed = record { meant = NoMemory; text = codes "no memory\n"; said = refl; sent = sent };
+    looks = looks_none name host;
+    replayed = λ shown. absurd (no_memory_found _ _ _ _ _ _ sent shown);
+    moments = none_safely (λ f other. other ≡ name) host;
+    undrawn = refl;
+    unread = refl;
+  }
+  no_memory_runs sent (wish.repair name) = record {
+    printed = record { meant = NoMemory; text = codes "no memory\n"; said = refl; sent = sent };
+    kept = λ refused. absurd (no_memory_not_refused _ _ _ _ _ _ sent refused);
+    only = still_repaired name host host refl;
+    moments = still_safely name host host refl refl;
+    drawn = inl refl;
+    unread = refl;
+  }
   no_memory_runs sent wish.help = record { printed = record { meant = NoMemory; text = codes "no memory\n"; said = refl; sent = sent }; stays = refl }
   no_memory_runs sent wish.version = record { printed = record { meant = NoMemory; text = codes "no memory\n"; said = refl; sent = sent }; stays = refl }
 
@@ -115,6 +201,9 @@ module _ (host : Hosted) (drawn : Option (List (List ℕ))) (left : Option (List
     nothing = λ nothing. no_memory refl sent;
     ends = sent_ends NoMemory (codes "no memory\n") (λ e. cc) sent;
   }
+
+  pub no_memory_alone : (words : List (List ℕ)) → Sent sunk after old new NoMemory (codes "no memory\n") status → IsRunAlone words (world host drawn left rises sunk old) (world host drawn left rises after new) status
+  no_memory_alone words sent = record { alone = λ none. no_memory_is_run words sent; other = λ leaf workers asks. no_memory refl sent }
 
 pub usage_ends : (host : Hosted) (drawn : Option (List (List ℕ))) (left : Option (List ℕ)) (rises : ℕ) (sunk : Option (List ℕ)) (old : ℕ) (status : Status) → WhereTold host.folder AllIdle → status ≡ Usage → {merges : Type 0} → Ends merges (world host drawn left rises sunk old) (world host drawn left rises sunk old) status
 usage_ends host drawn left rises sunk old status idle is = record { rose = λ fault. let e : Usage ≡ Fault = sym is ∙ fault in cc; quiet = λ fault. (refl, refl, refl); home = home_still host.folder host.folder idle refl; idle = λ fault none f told. idle }

@@ -10,18 +10,18 @@ use Rattle.link_rules.specs.Touches.{IsOnWay, TouchesSafely}
 use Rattle.link_rules.proofs.Safe.{none_safely}
 use Rattle.chain_core.specs.declared.starting.Mode.{Mode}
 use Rattle.script.specs.Sources.{CountsFault, IsPartTaken, IsTaken, LeavesOf, ReadsScript}
-use Rattle.script.specs.Grammar.{most_bytes}
+use Rattle.script.specs.Grammar.{IsScript, most_bytes}
 use Rattle.script.specs.declared.form.Line.{Line}
-use Rattle.script.specs.declared.form.ScriptKind.TheVariants as kinds
+use Rattle.script.specs.declared.form.ScriptKind.{ScriptKind}
 use Rattle.script.specs.declared.refusal.SourceRefusal.{SourceRefusal}
 use Rattle.script.specs.declared.refusal.SourceRefusal.TheVariants as source
 use Rattle.script_session.specs.declared.session.ScriptRun.{ScriptRun}
 use Rattle.printing.specs.Answers.{fault_line}
 use Rattle.vhdx_app.specs.Folders.{OnlyFollows}
 use Rattle.printing.specs.Sent.{Sent, cut, whole}
-use Rattle.vhdx_app.specs.Runs.{Ends, HasMerge}
+use Rattle.vhdx_app.specs.Runs.{Ends}
 use Rattle.vhdx_app.specs.Sessions.{LeafIsRun, source_said}
-use Rattle.vhdx_app.specs.Steps.{IsUnopenedText, RunsSteps}
+use Rattle.vhdx_app.specs.Steps.{IsUnopenedText, IsUnreadText, RunsUnopened, RunsUnread}
 use Rattle.vhdx_app.specs.Steps as steps
 use Rattle.vhdx_app.specs.Worlds.{World}
 use Rattle.vhdx_app.specs.declared.refusal.StepsRefusal.{StepsRefusal}
@@ -63,45 +63,50 @@ none_taken left bytes told = (0, told)
 
 -- ---- no script, or none that can be read
 
-module _ (leaf : List ℕ) (merge : Option (List ℕ)) (ro : Bool) (before now : World) (status : Status) (idle : WhereTold before.host.folder AllIdle) (same : now.host ≡ before.host) (undrawn : now.drawn ≡ before.drawn) where
+module _ (kind : ScriptKind) (leaf : List ℕ) (merges : Type 0) (before now : World) (status : Status) (same : now.host ≡ before.host) (undrawn : now.drawn ≡ before.drawn) where
   stays : OnlyFollows leaf before.host.folder now.host.folder
   stays = subst (λ (h : Hosted). OnlyFollows leaf before.host.folder h.folder) (sym same) (follows_none leaf before.host)
 
   safely : TouchesSafely (λ f. IsOnWay (contents f) leaf) before.host now.host
   safely = subst (TouchesSafely (λ f. IsOnWay (contents f) leaf) before.host) (sym same) (none_safely (λ f. IsOnWay (contents f) leaf) before.host)
 
-  home : StaysHome before.host.folder now.host.folder
-  home = home_still before.host.folder now.host.folder idle (ap (λ (h : Hosted). h.folder) same)
+  home : WhereTold before.host.folder AllIdle → StaysHome before.host.folder now.host.folder
+  home idle = home_still before.host.folder now.host.folder idle (ap (λ (h : Hosted). h.folder) same)
 
-  idles : status ≢ Fault → WhereTold before.host.folder (λ f. WhereTold now.host.folder AllIdle)
-  idles fault f told g is = subst AllIdle (same_Some f g (sym told ∙ sym (ap (λ (h : Hosted). h.folder) same) ∙ is)) (idle f told)
+  idles : WhereTold before.host.folder AllIdle → status ≢ Fault → WhereTold before.host.folder (λ f. WhereTold now.host.folder AllIdle)
+  idles idle fault f told g is = subst AllIdle (same_Some f g (sym told ∙ sym (ap (λ (h : Hosted). h.folder) same) ∙ is)) (idle f told)
 
   faults : now.host.faults ≡ before.host.faults
   faults = ap (λ (h : Hosted). h.faults) same
 
-  pub unread_runs : (meant : Status) (text : List ℕ) → Sent before.written now.written before.sink_faults now.sink_faults meant text status → IsUnopenedText leaf before now meant text
-      → WhereTold before.left (λ bytes. IsPartTaken bytes now.left) → RunsSteps leaf merge ro before now status
-  unread_runs meant text sent said taken =
-      steps.unopened taken (record { printed = record { meant = meant; text = text; said = said; sent = sent }; followed = stays; moments = safely; undrawn = undrawn })
+  -- a script that was read, and nothing else done
+  pub not_opened : (meant : Status) (text : List ℕ) → Sent before.written now.written before.sink_faults now.sink_faults meant text status → IsUnopenedText leaf before now meant text
+      → WhereTold before.left (λ bytes. ((lines : List Line) × IsScript kind bytes lines) × IsTaken bytes now.left) → RunsUnopened kind leaf before now status
+  not_opened meant text sent said reads = record { reads = reads; printed = record { meant = meant; text = text; said = said; sent = sent }; followed = stays; moments = safely; undrawn = undrawn }
 
-  pub unread_ends : (meant : Status) (text : List ℕ) → Sent before.written now.written before.sink_faults now.sink_faults meant text status → (meant ≡ Fault → Rose before.source_faults now.source_faults)
-      → (meant ≢ Fault → now.source_faults ≡ before.source_faults) → Ends (HasMerge merge) before now status
-  unread_ends meant text sent rose quiet = ends_by (HasMerge merge) before now meant status text sent (λ fault. inr (rose fault)) (λ fault. (faults, quiet fault)) home (λ fault none. idles fault)
+  pub unread_runs : (meant : Status) (text : List ℕ) → Sent before.written now.written before.sink_faults now.sink_faults meant text status → IsUnreadText kind before now meant text
+      → WhereTold before.left (λ bytes. IsPartTaken bytes now.left) → RunsUnread kind before now status
+  unread_runs meant text sent said taken = record { printed = record { meant = meant; text = text; said = said; sent = sent }; taken = taken; untouched = same; undrawn = undrawn }
+
+  pub unread_ends : WhereTold before.host.folder AllIdle → (meant : Status) (text : List ℕ) → Sent before.written now.written before.sink_faults now.sink_faults meant text status → (meant ≡ Fault → Rose before.source_faults now.source_faults)
+      → (meant ≢ Fault → now.source_faults ≡ before.source_faults) → Ends merges before now status
+  unread_ends idle meant text sent rose quiet = ends_by merges before now meant status text sent (λ fault. inr (rose fault)) (λ fault. (faults, quiet fault)) (home idle) (λ fault none. idles idle fault)
 
   -- by what refuses the script
-  pub refused_runs : (r : SourceRefusal) → (let result : Result (List Line) SourceRefusal = Err r in IfSome before.left (λ bytes. ReadsScript kinds.Steps bytes result)) → (let result : Result (List Line) SourceRefusal = Err r in IfSome before.left (λ bytes. LeavesOf bytes now.left result))
+  pub refused_runs : (r : SourceRefusal) → (let result : Result (List Line) SourceRefusal = Err r in IfSome before.left (λ bytes. ReadsScript kind bytes result)) → (let result : Result (List Line) SourceRefusal = Err r in IfSome before.left (λ bytes. LeavesOf bytes now.left result))
       → (let result : Result (List Line) SourceRefusal = Err r in CountsFault before.source_faults now.source_faults result) → Sent before.written now.written before.sink_faults now.sink_faults (source_said r).0 (source_said r).1 status
-      → RunsSteps leaf merge ro before now status
-  refused_runs (source.Line number) reads left counts sent = unread_runs Usage (steps.broken_line number) sent (record { number = number; text_is = refl; first = where_some _ before.left reads }) (λ bytes told. part_taken bytes now.left (where_some _ before.left left bytes told))
-  refused_runs (source.Source fault) reads left counts sent =
-      unread_runs Fault (fault_line (codes "source") fault.count) sent (steps.of_source counts.0 (ap (fault_line (codes "source")) counts.1)) (where_some _ before.left left)
+      → RunsUnread kind before now status
+  refused_runs (source.Line number) reads left counts sent =
+      let taken = where_some _ before.left left in
+      unread_runs Usage (steps.broken_line number) sent (record { number = number; text_is = refl; first = λ bytes told. (where_some _ before.left reads bytes told, taken bytes told) }) (λ bytes told. part_taken bytes now.left (taken bytes told))
+  refused_runs (source.Source fault) reads left counts sent = unread_runs Fault (fault_line (codes "source") fault.count) sent (counts.0, ap (fault_line (codes "source")) counts.1) (where_some _ before.left left)
   refused_runs source.NoRoom reads left counts sent = unread_runs NoMemory (codes "no memory\n") sent refl (where_some _ before.left left)
 
-  pub refused_ends : (r : SourceRefusal) → (let result : Result (List Line) SourceRefusal = Err r in CountsFault before.source_faults now.source_faults result)
-      → Sent before.written now.written before.sink_faults now.sink_faults (source_said r).0 (source_said r).1 status → Ends (HasMerge merge) before now status
-  refused_ends (source.Line number) counts sent = unread_ends Usage (steps.broken_line number) sent (λ e. cc) (λ e. counts)
-  refused_ends (source.Source fault) counts sent = unread_ends Fault (fault_line (codes "source") fault.count) sent (λ e. counts.0) (λ e. absurd (e refl))
-  refused_ends source.NoRoom counts sent = unread_ends NoMemory (codes "no memory\n") sent (λ e. cc) (λ e. counts)
+  pub refused_ends : WhereTold before.host.folder AllIdle → (r : SourceRefusal) → (let result : Result (List Line) SourceRefusal = Err r in CountsFault before.source_faults now.source_faults result)
+      → Sent before.written now.written before.sink_faults now.sink_faults (source_said r).0 (source_said r).1 status → Ends merges before now status
+  refused_ends idle (source.Line number) counts sent = unread_ends idle Usage (steps.broken_line number) sent (λ e. cc) (λ e. counts)
+  refused_ends idle (source.Source fault) counts sent = unread_ends idle Fault (fault_line (codes "source") fault.count) sent (λ e. counts.0) (λ e. absurd (e refl))
+  refused_ends idle source.NoRoom counts sent = unread_ends idle NoMemory (codes "no memory\n") sent (λ e. cc) (λ e. counts)
 
 -- a run of the leaf's name, by what its arguments are
 pub leaf_told : (named leaf : List ℕ) (merges merge : Option (List ℕ)) (mode m : Mode) (lines script : List Line) (old new : Hosted) (before now : Option (List (List ℕ))) (result : Result ScriptRun StepsRefusal) → named ≡ leaf → merges ≡ merge → mode ≡ m

@@ -1,5 +1,5 @@
 -- What is said of a script's run, by what it gave.
-use Rattle.std.proofs.Common.{◌≡◌, ◌++◌, ℕ, List, Option, Some, None, Result, Ok, Err, sym, ap, subst, ◌∙◌}
+use Rattle.std.proofs.Common.{◌≡◌, ℕ, List, Option, Some, None, Result, Ok, Err, sym, ap, subst, ◌∙◌}
 use Rattle.std.specs.Prelude.{String, codes, string_bytes}
 use Rattle.store_model.specs.declared.fault.StoreFault.{StoreFault}
 use Rattle.vx_base.specs.declared.NoRoom.{NoRoom}
@@ -26,7 +26,7 @@ module _ (before after : Option (List ℕ)) (old new : ℕ) (status : Status) wh
   pub told_whole : (text : List ℕ) (fault : Option StoreFault) (closed : Result (Unit {0}) StoreFault) (u : Unit {0}) → fault ≡ None → closed ≡ Ok u → Sent before after old new Done text status → IsSaid (lines_said text fault closed)
   told_whole text fault closed u a b h = said_by (lines_said text fault closed) (lines_said text None (Ok u)) (both_are text fault None closed (Ok u) a b) h
 
-  pub told_at_end : (text : List ℕ) (fault : Option StoreFault) (closed : Result (Unit {0}) StoreFault) (f : StoreFault) → fault ≡ None → closed ≡ Err f → Sent before after old new Fault (text ++ fault_line (codes "store") f.count) status
+  pub told_at_end : (text : List ℕ) (fault : Option StoreFault) (closed : Result (Unit {0}) StoreFault) (f : StoreFault) → fault ≡ None → closed ≡ Err f → Sent before after old new Fault text status
       → IsSaid (lines_said text fault closed)
   told_at_end text fault closed f a b h = said_by (lines_said text fault closed) (lines_said text None (Err f)) (both_are text fault None closed (Err f) a b) h
 

@@ -3,6 +3,7 @@ use Rattle.std.specs.Prelude.{◌≡◌, ◌≢◌, ◌⊎◌, ⊤, ◌<◌, ◌
 use Rattle.std.specs.List.{AllByRecursion}
 use Rattle.command_line.specs.Requests.{File as NewFile}
 use Rattle.command_line.specs.Requests as new
+use Rattle.file_open.specs.Opening as opening
 use Rattle.file_open.specs.Causes.{Meaning, refuses, host_failed, store_failed, no_memory}
 use Rattle.make_file.specs.Makes.{Outside}
 use Rattle.shown_ids.specs.Shown.{shown}
@@ -31,15 +32,17 @@ use Rattle.link_rules.specs.Laws.{AreMembers, at_rest_all}
 use Rattle.link_rules.specs.declared.linked.Linked.{Linked}
 use Rattle.link_rules.specs.declared.linked.LinkedFile.{LinkedFile}
 use Rattle.printing.specs.Answers.{fault_line}
+use Rattle.check_repair.specs.Findings.{Finding}
 use Rattle.vhdx_app.specs.Causes.{meaning_of_chain}
+use Rattle.vhdx_app.specs.Checks.{finding_lines}
 use Rattle.vhdx_app.specs.Making.{AddsOnly, LooksAt, MakesSafely, ShowIds}
 use Rattle.printing.specs.Sent.{Sent}
 use Rattle.vhdx_app.specs.Printed.{IsMakeText, Printed}
-use Rattle.vhdx_app.specs.Refusals.{Refusal, OfChain, refusal_line}
+use Rattle.vhdx_app.specs.Refusals.{Refusal, OfChain, file_refusal_said, of_file, refusal_line}
 use Rattle.vhdx_app.specs.declared.making.ParentChain.{ParentChain}
 use Rattle.vhdx_app.specs.declared.refusal.ChainRefusal.{ChainRefusal}
 use Rattle.printing.specs.declared.status.Status.{Status}
-use Rattle.printing.specs.declared.status.Status.TheVariants.{Done, Refused, Usage, Fault, NoMemory}
+use Rattle.printing.specs.declared.status.Status.TheVariants.{Done, Refused, Usage, Fault, NoMemory, Findings}
 
 -- ---- files that are lent together, and only read
 
@@ -178,6 +181,16 @@ Reports (refuses refusal) before after old new status = Sent before after old ne
 Reports (host_failed fault) before after old new status = Sent before after old new Fault (fault_line (codes "host") fault.count) status
 Reports (store_failed fault) before after old new status = Sent before after old new Fault (fault_line (codes "store") fault.count) status
 Reports no_memory before after old new status = Sent before after old new NoMemory (codes "no memory\n") status
+
+-- one text is another with the line of a rule that refuses the file
+abbrev pub adds : List ℕ → List ℕ → List ℕ → opening.Refusal → Type 0
+adds file old new refusal = new ≡ old ++ (codes "finding " ++ of_file file (file_refusal_said refusal) ++ codes "\n")
+
+-- What was found of a file was said: its lines, or that there is none; or memory ran out for them.
+pub data SaysFindings (name : List ℕ) (findings : List Finding) (before after : Option (List ℕ)) (old new : ℕ) (status : Status) : Type 0 where
+  clean : findings ≡ [] → Sent before after old new Done (codes "clean\n") status → SaysFindings name findings before after old new status
+  listed : findings ≢ [] → Sent before after old new Findings (finding_lines name findings) status → SaysFindings name findings before after old new status
+  ran_out : Sent before after old new NoMemory (codes "no memory\n") status → SaysFindings name findings before after old new status
 
 -- A command has ended: its text was sent; with a fault a count rose, the host's or the sink's, and else none did.
 pub record Ended (is_text : Status → List ℕ → Type 0) (faults_before faults : ℕ) (before after : Option (List ℕ)) (old new : ℕ) (status : Status) : Type 0 where

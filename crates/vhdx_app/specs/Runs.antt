@@ -1,6 +1,6 @@
 -- What a run does, by what the words ask for; and, at the end, all that is promised of one (`IsRun`).
 use Rattle.std.specs.Prelude.{◌≡◌, ◌≢◌, ◌⊎◌, ⊤, ℕ, List, Option, Some, None, codes}
-use Rattle.command_line.specs.Requests.{File as NewFile, Wish, dump, help, info, make, steps, version}
+use Rattle.command_line.specs.Requests.{File as NewFile, Wish, check, dump, help, info, make, repair, serve, steps, version}
 use Rattle.command_line.specs.Words.{Asks, AsksNothing, help_text, version_text}
 use Rattle.make_file.specs.Makes.{Outside, outside}
 use Rattle.store_model.specs.Cause.{Rose}
@@ -11,6 +11,9 @@ use Rattle.vhdx_app.specs.Folders.{AllHome, IsReplayedIn, OnlyFollows}
 use Rattle.vhdx_app.specs.Making.{AddsOnly, LooksAt, MakesSafely}
 use Rattle.printing.specs.Sent.{Sent}
 use Rattle.vhdx_app.specs.Printed.{IsDumpText, IsInfoText, IsMakeText, IsOwnText, Prints}
+use Rattle.vhdx_app.specs.Checks.{RunsCheck}
+use Rattle.vhdx_app.specs.Repairs.{RunsRepair}
+use Rattle.vhdx_app.specs.Serves.{RunsServe}
 use Rattle.vhdx_app.specs.Steps.{RunsSteps}
 use Rattle.vhdx_app.specs.Worlds.{World}
 use Rattle.printing.specs.declared.status.Status.{Status}
@@ -56,6 +59,9 @@ Runs (dump leaf first count) before now status = RunsShowing leaf (IsDumpText be
 Runs (info leaf) before now status = RunsShowing leaf (IsInfoText before.host now.host leaf) before now status
 Runs (make name file) before now status = RunsMake name file before now status
 Runs (steps leaf merge read_only) before now status = RunsSteps leaf merge read_only before now status
+Runs (serve leaf workers) before now status = RunsServe leaf before now status
+Runs (check name) before now status = RunsCheck name before now status
+Runs (repair name) before now status = RunsRepair name before now status
 Runs help before now status = RunsText help_text before now status
 Runs version before now status = RunsText version_text before now status
 
@@ -69,6 +75,10 @@ pub data RunsNothing (before now : World) (status : Status) : Type 0 where
 abbrev pub HasMerge : Option (List ℕ) → Type 0
 HasMerge None = ⊥
 HasMerge (Some name) = ⊤
+
+-- none is
+abbrev pub NoMerge : Type 0
+NoMerge = HasMerge None
 
 abbrev pub IsMerging : Wish → Type 0
 IsMerging (steps leaf merge read_only) = HasMerge merge
@@ -100,3 +110,20 @@ pub record IsRun (words : List (List ℕ)) (before now : World) (status : Status
   -- However it ends: a fault is answered where one was met, and only there; no file is away, and nothing of any is unsynced, but after a
   -- fault, and where memory ran out and a merge was to start.
   pub ends : Ends (AskMerge words) before now status
+
+-- ---- without threads
+
+-- the leaf whose guests are to be served
+abbrev pub served_leaf : Option Wish → Option (List ℕ)
+served_leaf (Some (serve leaf workers)) = Some leaf
+served_leaf other = None
+
+-- no thread is asked for
+abbrev pub StartsNoThread : List (List ℕ) → Type 0
+StartsNoThread words = (leaf : List ℕ) (workers : ℕ) → Asks words (serve leaf workers) → ⊥
+
+-- A run without threads is one of the command that the words ask for, if it starts none; and if it does, nothing is done: the status says so, or
+-- it is told that memory ran out.
+pub record IsRunAlone (words : List (List ℕ)) (before now : World) (status : Status) : Type 0 where
+  pub alone : StartsNoThread words → IsRun words before now status
+  pub other : (leaf : List ℕ) (workers : ℕ) → Asks words (serve leaf workers) → RunsNothing before now status

@@ -1,7 +1,7 @@
 -- What the functions of `steps` say of themselves; what a run promises doesn't rest on these.
-use Rattle.std.specs.Prelude.{◌≡◌, ◌≢◌, ◌⊎◌, ⊤, ◌<◌, ◌≤◌, ◌+◌, ◌++◌, ℕ, All, length, Bool, true, false, List, [], ◌∷◌, take, codes, Option, Some, None, Result, Ok, Err, IfErr, IfOk, IfSome, OnOk, String, string_bytes, slice_index_or}
+use Rattle.std.specs.Prelude.{◌≡◌, ◌≢◌, ◌⊎◌, ⊤, ◌<◌, ◌≤◌, ◌+◌, ℕ, All, length, Bool, true, false, List, [], ◌∷◌, ◌++◌, take, codes, Option, Some, None, Result, Ok, Err, IfErr, IfOk, IfSome, OnOk, String, string_bytes, slice_index_or}
+use Rattle.std.specs.List.{AllByRecursion}
 use Rattle.file_open.specs.Causes.{Meaning, refuses, host_failed, store_failed, no_memory}
-use Rattle.make_file.specs.Identifiers.{Draws, first_unfit}
 use Rattle.store_model.specs.Cause.{Rose}
 use Rattle.store_model.specs.Disk.{Disk, WhereBothTold, WhereTold}
 use Rattle.store_model.specs.File.{is_sealed, is_synced, seen}
@@ -16,9 +16,10 @@ use Rattle.vx_base.specs.declared.NoRoom.{NoRoom}
 use Rattle.guest_model.specs.Calls.{Disk as GuestDisk}
 use Rattle.guest_model.specs.History.{History, replay}
 use Rattle.guest_model.specs.declared.refusal.ChainRefusal.TheVariants as calls
-use Rattle.chain_model.specs.Files.{HasParts, OpensTo, at_rest}
+use Rattle.chain_model.specs.Files.{Files, HasParts, IsLinked, IsWhole, OpensTo, at_rest}
 use Rattle.chain_model.specs.Images.{name_of}
-use Rattle.chain_model.specs.Members.{NoneTwice}
+use Rattle.chain_model.specs.Members.{Member, NoneTwice}
+use Rattle.chain_model.specs.Members as model
 use Rattle.chain_model.specs.PhaseLaws.{IsNamedOnce}
 use Rattle.link_rules.specs.Causes.{AnswersLinking}
 use Rattle.link_rules.specs.Chains.{Links, most_files, names_of}
@@ -32,9 +33,8 @@ use Rattle.link_rules.specs.declared.linked.Linked.{Linked}
 use Rattle.link_rules.specs.declared.linked.LinkedFile.{LinkedFile}
 use Rattle.link_rules.specs.declared.refusal.LinkRefusal.{LinkRefusal}
 use Rattle.merge_plan.specs.Attached.{BeginsInUse}
-use Rattle.merge_plan.specs.Drawing.{drawn_ids, merge_ids}
 use Rattle.merge_plan.specs.LeafMerging.{LeafFiles}
-use Rattle.merge_plan.specs.LeafPlanning.{IsLeafBegun, IsLinkShort, IsLinkTooLong, leaf_merge_ids}
+use Rattle.merge_plan.specs.LeafPlanning.{IsLeafBegun, IsLinkShort, IsLinkTooLong}
 use Rattle.merge_plan.specs.Merging.{HasLast, HasNone, MergeFiles}
 use Rattle.merge_plan.specs.Planning.{AreShort, IsBegun, IsTooLong}
 use Rattle.merge_plan.specs.declared.drawing.MergeIds.{MergeIds}
@@ -45,7 +45,7 @@ use Rattle.chain_core.specs.LeafStarting.{RefusesLeafMerge, spent_leaf}
 use Rattle.chain_core.specs.MergeStarting.{RefusesMerge, spent}
 use Rattle.chain_core.specs.declared.merge_start.MergeStartRefusal.{MergeStartRefusal}
 use Rattle.chain_core.specs.declared.merge_start.MergeStartRefusal.TheVariants as merge_start
-use Rattle.chain_core.specs.Starting.{BeginsHigh, EachOpensAlike, JudgesIds}
+use Rattle.chain_core.specs.Starting.{BeginsHigh, BeginsLow, EachOpensAlike, JudgesIds}
 use Rattle.chain_core.specs.declared.starting.Mode.{Mode}
 use Rattle.chain_core.specs.declared.starting.Mode.TheVariants.{Guests, ReadOnly}
 use Rattle.merge_plan.specs.declared.drawing.NewIds.{NewIds}
@@ -54,23 +54,22 @@ use Rattle.chain_core.specs.declared.starting.StartRefusal.TheVariants as start
 use Rattle.script.specs.declared.form.Line.{Line}
 use Rattle.script.specs.declared.refusal.SourceRefusal.{SourceRefusal}
 use Rattle.script.specs.declared.refusal.SourceRefusal.TheVariants as source
-use Rattle.script_session.specs.Faults.{Counts}
-use Rattle.script_session.specs.Histories.{AreTold, Break, Course, no_merge}
+use Rattle.script_session.specs.Faults.{Counts, FaultsAreTold}
+use Rattle.script_session.specs.Histories.{AreTold, Break, Course, IsEndTold, no_merge}
 use Rattle.script_session.specs.MergeRunning.{HasRunLeafMerge, HasRunMerge}
-use Rattle.script_session.specs.Running.{HasRunScript, open_by}
-use Rattle.script_session.specs.Told.{Told, last_fault, transcript}
+use Rattle.script_session.specs.Running.{HasRunScript, open_by, open_last}
+use Rattle.script_session.specs.Told.{HasMemory, Told, failed_by, last_fault, transcript}
 use Rattle.script_session.specs.declared.session.ScriptRun.{ScriptRun}
 use Rattle.printing.specs.Answers.{fault_line}
 use Rattle.vhdx_app.specs.Causes.{LeavesStoreBy, meaning_of_chain}
 use Rattle.vhdx_app.specs.Commands.{AreOpened, Reports}
-use Rattle.vhdx_app.specs.Crashes.{AreSpared, OpensToFirst}
-use Rattle.vhdx_app.specs.Folders.{AllHome, LeadsTo, files_of}
-use Rattle.vhdx_app.specs.Making.{ShowIds}
+use Rattle.vhdx_app.specs.Crashes.{AreSpared, EachImageOpens, HasLong, NoneNamesLog, OpensToFirst}
+use Rattle.vhdx_app.specs.Folders.{AllHome, LastReturned, LeadsTo, files_of}
 use Rattle.printing.specs.Sent.{Sent}
 use Rattle.vhdx_app.specs.Refusals.{Refusal}
 use Rattle.vhdx_app.specs.Refusals as refusals
-use Rattle.vhdx_app.specs.Starts.{HasNameRoomIn, HasRoomIn, IsFullIn, IsLeafFullIn, changed_names, child_pairs, is_leaf, leaf_pairs, source_pairs}
-use Rattle.vhdx_app.specs.Steps.{AreLeft, begun_course, broken_line, drive_over}
+use Rattle.vhdx_app.specs.Starts.{DrawsFor, IsFullIn, IsLeafFullIn, JudgesDrawn, JudgesLeafMerge, JudgesMerge, changed_names, is_leaf}
+use Rattle.vhdx_app.specs.Steps.{IsDropped, begun_course, broken_line, drive_over, way_by}
 use Rattle.vhdx_app.specs.declared.refusal.ChainRefusal.{ChainRefusal}
 use Rattle.vhdx_app.specs.declared.refusal.ChainRefusal.TheVariants as chain
 use Rattle.vhdx_app.specs.declared.refusal.StepsRefusal.{StepsRefusal}
@@ -210,7 +209,7 @@ IsNoRule no_memory = ⊤
 abbrev pub HasCause : List LinkedFile → Disk → Option (List (List ℕ)) → Option (List (List ℕ)) → StepsRefusal → Type 0
 HasCause files disk before now (steps.Chain refusal) = IsNoRule (meaning_of_chain refusal)
 HasCause files disk before now (steps.Spent number) = BeginsHigh files number × (now ≡ before)
-HasCause files disk before now (steps.IdUnfit id) = (ids : NewIds) × JudgesIds files disk before now (Some id) ids
+HasCause files disk before now (steps.IdUnfit id) = BeginsLow files × (ids : NewIds) × JudgesIds files disk before now (Some id) ids
 HasCause files disk before now steps.ReadOnly = ⊥
 HasCause files disk before now (steps.NotInChain name) = ⊥
 HasCause files disk before now (steps.IsBase name) = ⊥
@@ -261,11 +260,16 @@ first_of (name ∷ others) = name
 abbrev pub leaf_name : Linked → List ℕ
 leaf_name linked = first_of (linked_names linked)
 
+-- the name leads to a chain of files of these names; each of them, and each retired leaf before them, is no shorter than what it settles to
+abbrev pub LeadsWhole : Files → List ℕ → List (List ℕ) → Type 0
+LeadsWhole files leaf names = (retired chain : List Member) → IsLinked files leaf retired chain → (model.names_of chain ≡ names) × AllByRecursion (IsWhole files) (retired ++ chain)
+
 -- what was linked is the chain of a folder's files, each as opening leaves it
 pub record IsChainIn (linked : Linked) (folder : List Held) : Type 0 where
   pub opened : AreOpened (contents folder) linked.files
   pub in_use : BeginsInUse linked.files
   pub chain : IsTheChain (contents folder) (leaf_name linked) linked
+  pub whole : LeadsWhole (files_of folder) (leaf_name linked) (names_of linked.files)
 
 -- What was linked is a chain of the host's files, whether it tells them or not, that may be lent: nothing of any file is unsynced; they are
 -- at most 64 with names that differ, also from those of the retired leaves before them, each followed by its parent.
@@ -283,54 +287,15 @@ pub record IsCounted (old new : Hosted) (fault : StoreFault) : Type 0 where
   pub some : 0 < fault.count
   pub last : WhereTold old.folder (λ folder. LastReturnedCounts fault.count old new)
 
--- three identifiers were drawn, and of those that are unfit this one is the first
-pub record JudgesDrawn (linked : Linked) (folder : Option (List Held)) (before now : Option (List (List ℕ))) (unfit : Option (List ℕ)) : Type 0 where
-  pub ids : NewIds
-  pub draws : Draws (drawn_ids ids) before now
-  pub known : List (List ℕ)
-  pub shown : WhereTold folder (λ f. ShowIds (contents f) linked.files known)
-  pub judged : first_unfit known (drawn_ids ids) ≡ unfit
-
--- A merge of the file of this name is planned over the chain, and of the identifiers that were drawn for it this one is the first that is
--- unfit, or none is.
-pub record JudgesMergeIn (linked : Linked) (name : List ℕ) (folder : Option (List Held)) (before now : Option (List (List ℕ))) (unfit : Option (List ℕ)) : Type 0 where
-  pub m : MergeFiles
-  pub ids : MergeIds
-  pub unspent : spent linked.files name ≡ None
-  pub begun : IsBegun linked.files name before now m ids
-  pub short : AreShort m ids
-  pub source : WhereTold folder (λ f. HasRoomIn (contents f) m.source (source_pairs m ids))
-  pub child : WhereTold folder (λ f. HasRoomIn (contents f) m.child (child_pairs m ids))
-  pub known : List (List ℕ)
-  pub shown : WhereTold folder (λ f. ShowIds (contents f) linked.files known)
-  pub judged : first_unfit known (merge_ids ids) ≡ unfit
-
--- So it is of the leaf.
-pub record JudgesLeafMergeIn (linked : Linked) (folder : Option (List Held)) (before now : Option (List (List ℕ))) (unfit : Option (List ℕ)) : Type 0 where
-  pub m : LeafFiles
-  pub ids : LeafMergeIds
-  pub unspent : spent_leaf linked.files ≡ None
-  pub begun : IsLeafBegun linked.files before now m ids
-  pub short : IsLinkShort m ids
-  pub link : WhereTold folder (λ f. HasRoomIn (contents f) m.source (leaf_pairs m ids))
-  pub retired : WhereTold folder (λ f. HasNameRoomIn (contents f) m.source (leaf_pairs m ids) m.target.name)
-  pub known : List (List ℕ)
-  pub shown : WhereTold folder (λ f. ShowIds (contents f) linked.files known)
-  pub judged : first_unfit known (leaf_merge_ids ids) ≡ unfit
-
--- so it is of the file of this name, which is the leaf, or isn't
-abbrev pub JudgesMergeOf : Bool → Linked → List ℕ → Option (List Held) → Option (List (List ℕ)) → Option (List (List ℕ)) → Option (List ℕ) → Type 0
-JudgesMergeOf true linked name folder before now unfit = JudgesLeafMergeIn linked folder before now unfit
-JudgesMergeOf false linked name folder before now unfit = JudgesMergeIn linked name folder before now unfit
-
 -- the leaf's name is opened to this disk
 abbrev pub OpensIn : Linked → List Held → (GuestDisk → Type 0) → Type 0
 OpensIn linked folder P = (disk : GuestDisk) → OpensTo (files_of folder) (leaf_name linked) disk → P disk
 
 -- What stands of the folder since the chain was opened, with a history of calls that were done.
 pub record Stands (mode : Mode) (merge : Option (List ℕ)) (linked : Linked) (h : History) (broken : Option Break) (folder : List Held) (old new : Hosted) : Type 0 where
-  pub moments : OpensIn linked folder (λ disk. Throughout (OpensToFirst (leaf_name linked) disk h (open_by broken)) old new)
-  pub spared : Throughout (AreSpared (changed_names merge linked.files) folder) old new
+  pub moments : OpensIn linked folder (λ disk. Throughout (OpensToFirst (way_by (leaf_name linked) linked merge) disk h (open_by broken)) old new)
+  pub last : OpensIn linked folder (λ disk. WhereTold new.folder (EachImageOpens (way_by (leaf_name linked) linked merge) (open_last h broken) (replay sector_size disk h)))
+  pub spared : Throughout (AreSpared (changed_names (is_reading mode) merge linked.files) folder) old new
   pub unchanged : is_reading mode ≡ true → WhereTold new.folder (λ after. (name : List ℕ) → contents after name ≡ contents folder name)
   pub home : WhereTold new.folder AllHome
 
@@ -339,11 +304,6 @@ pub record Rests (linked : Linked) (h : History) (folder : List Held) (old new :
   pub idle : StaysIdle old.folder new.folder
   pub opens : OpensIn linked folder (λ disk. WhereTold new.folder (λ after. OpensTo (files_of after) (leaf_name linked) (replay sector_size disk h)))
 
--- the file of this name is dropped from the chain by a merge; if it was the leaf, that name leads to the other files too
-abbrev pub IsDroppedIn : Linked → List ℕ → Hosted → Type 0
-IsDroppedIn linked name now = (left : List (List ℕ)) × AreLeft linked.files name left × WhereTold now.folder (λ after. LeadsTo (files_of after) (leaf_name linked) left)
-    × (is_leaf linked.files name ≡ true → WhereTold now.folder (λ after. LeadsTo (files_of after) name left))
-
 -- lines were told so over the folder
 pub record RanIn (mode : Mode) (merge : Option (List ℕ)) (linked : Linked) (lines : List Line) (told : List Told) (closed : Result (Unit {0}) StoreFault) (folder : List Held) (old new : Hosted) : Type 0 where
   pub history : History
@@ -351,22 +311,20 @@ pub record RanIn (mode : Mode) (merge : Option (List ℕ)) (linked : Linked) (li
   pub broken : Option Break
   pub told_so : OpensIn linked folder (λ disk. AreTold (drive_over (is_reading mode) disk) 1 [] (begun_course merge linked.files) None lines told history course broken)
   pub stands : Stands mode merge linked history broken folder old new
+  pub full : AllByRecursion (IsEndTold (λ next. WhereTold new.folder (HasLong (changed_names false merge linked.files) next))) told
+  pub faults : LastReturned (λ store. FaultsAreTold told (failed_by closed) (length linked.files) (λ file. 0) store.failed_reads store.failed_changes) old new
   pub rests : OnOk closed (Rests linked history folder old new)
-  pub dropped : OnOk closed (course ≡ no_merge → IfSome merge (λ name. IsDroppedIn linked name new))
-
-abbrev pub DrawsOver : Mode → Option (List ℕ) → Linked → Option (List Held) → Option (List (List ℕ)) → Option (List (List ℕ)) → Type 0
-DrawsOver Guests None linked folder before now = JudgesDrawn linked folder before now None
-DrawsOver ReadOnly None linked folder before now = now ≡ before
-DrawsOver Guests (Some name) linked folder before now = JudgesMergeOf (is_leaf linked.files name) linked name folder before now None
-DrawsOver ReadOnly (Some name) linked folder before now = ⊥
+  pub no_log : OnOk closed (WhereTold new.folder (NoneNamesLog (changed_names (is_reading mode) merge linked.files)))
+  pub dropped : OnOk closed (course ≡ no_merge → IfSome merge (IsDropped (leaf_name linked) linked new))
+  pub stays : OnOk closed (course ≢ no_merge → IfSome merge (λ name. WhereTold new.folder (λ after. LeadsTo (files_of after) (leaf_name linked) (names_of linked.files))))
 
 -- A script ran over the chain.
 pub record RunOver (mode : Mode) (merge : Option (List ℕ)) (linked : Linked) (lines : List Line) (run : ScriptRun) (old new : Hosted) (before now : Option (List (List ℕ))) : Type 0 where
   pub many : ℕ
   pub told : List Told
-  pub whole : IfOk run.transcript (λ text. (take many lines ≡ lines) × (string_bytes text ≡ transcript (names_of linked.files) lines told))
+  pub whole : IfOk run.transcript (λ text. (take many lines ≡ lines) × (string_bytes text ≡ transcript (names_of linked.files) lines told) × AllByRecursion HasMemory told)
   pub fault_is : run.fault ≡ last_fault told
-  pub drawn : DrawsOver mode merge linked old.folder before now
+  pub drawn : DrawsFor (is_reading mode) merge linked old.folder before now
   pub counted : IfSome run.fault (IsCounted old new)
   pub ended : IfErr run.closed (IsCounted old new)
   pub quiet : run.fault ≡ None → OnOk run.closed (new.faults ≡ old.faults)
@@ -398,9 +356,13 @@ HasLeafCause linked folder before now (steps.LocatorTooLarge len) = ⊥
 HasLeafCause linked folder before now (steps.MetadataFull file) = ⊥
 
 -- with a merge, whose files and identifiers these are
-pub record BeginsMergeIn (linked : Linked) (name : List ℕ) (before now : Option (List (List ℕ))) (m : MergeFiles) (ids : MergeIds) : Type 0 where
+pub record BeginsMerge (linked : Linked) (name : List ℕ) (before now : Option (List (List ℕ))) (m : MergeFiles) (ids : MergeIds) : Type 0 where
   pub unspent : spent linked.files name ≡ None
   pub begun : IsBegun linked.files name before now m ids
+
+pub record BeginsLeafMerge (linked : Linked) (before now : Option (List (List ℕ))) (m : LeafFiles) (ids : LeafMergeIds) : Type 0 where
+  pub unspent : spent_leaf linked.files ≡ None
+  pub begun : IsLeafBegun linked.files before now m ids
 
 -- the file of this name can't be merged, and nothing was drawn
 pub record CantMerge (linked : Linked) (name named : List ℕ) (is_so : List LinkedFile → List ℕ → Type 0) (before now : Option (List (List ℕ))) : Type 0 where
@@ -412,29 +374,24 @@ pub record CantMerge (linked : Linked) (name named : List ℕ) (is_so : List Lin
 abbrev pub HasMergeCause : Linked → List ℕ → Option (List Held) → Option (List (List ℕ)) → Option (List (List ℕ)) → StepsRefusal → Type 0
 HasMergeCause linked name folder before now (steps.Chain refusal) = IsNoRule (meaning_of_chain refusal)
 HasMergeCause linked name folder before now (steps.Spent number) = (spent linked.files name ≡ Some number) × (now ≡ before)
-HasMergeCause linked name folder before now (steps.IdUnfit id) = JudgesMergeIn linked name folder before now (Some id)
+HasMergeCause linked name folder before now (steps.IdUnfit id) = JudgesMerge linked name folder before now (Some id)
 HasMergeCause linked name folder before now steps.ReadOnly = ⊥
 HasMergeCause linked name folder before now (steps.NotInChain other) = CantMerge linked name other HasNone before now
 HasMergeCause linked name folder before now (steps.IsBase other) = CantMerge linked name other HasLast before now
-HasMergeCause linked name folder before now (steps.LocatorTooLarge len) = (m : MergeFiles) × (ids : MergeIds) × BeginsMergeIn linked name before now m ids × IsTooLong len m ids
+HasMergeCause linked name folder before now (steps.LocatorTooLarge len) = (m : MergeFiles) × (ids : MergeIds) × BeginsMerge linked name before now m ids × IsTooLong len m ids
 HasMergeCause linked name folder before now (steps.MetadataFull file) =
-    (m : MergeFiles) × (ids : MergeIds) × BeginsMergeIn linked name before now m ids × AreShort m ids × WhereTold folder (λ f. IsFullIn (contents f) m ids file)
-
--- with a merge of the leaf
-pub record BeginsLeafMergeIn (linked : Linked) (before now : Option (List (List ℕ))) (m : LeafFiles) (ids : LeafMergeIds) : Type 0 where
-  pub unspent : spent_leaf linked.files ≡ None
-  pub begun : IsLeafBegun linked.files before now m ids
+    (m : MergeFiles) × (ids : MergeIds) × BeginsMerge linked name before now m ids × AreShort m ids × WhereTold folder (λ f. IsFullIn (contents f) m ids file)
 
 abbrev pub HasLeafMergeCause : Linked → Option (List Held) → Option (List (List ℕ)) → Option (List (List ℕ)) → StepsRefusal → Type 0
 HasLeafMergeCause linked folder before now (steps.Chain refusal) = IsNoRule (meaning_of_chain refusal)
 HasLeafMergeCause linked folder before now (steps.Spent number) = (spent_leaf linked.files ≡ Some number) × (now ≡ before)
-HasLeafMergeCause linked folder before now (steps.IdUnfit id) = JudgesLeafMergeIn linked folder before now (Some id)
+HasLeafMergeCause linked folder before now (steps.IdUnfit id) = JudgesLeafMerge linked folder before now (Some id)
 HasLeafMergeCause linked folder before now steps.ReadOnly = ⊥
 HasLeafMergeCause linked folder before now (steps.NotInChain other) = ⊥
 HasLeafMergeCause linked folder before now (steps.IsBase other) = ⊥
-HasLeafMergeCause linked folder before now (steps.LocatorTooLarge len) = (m : LeafFiles) × (ids : LeafMergeIds) × BeginsLeafMergeIn linked before now m ids × IsLinkTooLong len m ids
+HasLeafMergeCause linked folder before now (steps.LocatorTooLarge len) = (m : LeafFiles) × (ids : LeafMergeIds) × BeginsLeafMerge linked before now m ids × IsLinkTooLong len m ids
 HasLeafMergeCause linked folder before now (steps.MetadataFull file) =
-    (m : LeafFiles) × (ids : LeafMergeIds) × BeginsLeafMergeIn linked before now m ids × IsLinkShort m ids × WhereTold folder (λ f. IsLeafFullIn (contents f) m ids file)
+    (m : LeafFiles) × (ids : LeafMergeIds) × BeginsLeafMerge linked before now m ids × IsLinkShort m ids × WhereTold folder (λ f. IsLeafFullIn (contents f) m ids file)
 
 -- with a merge of the file of this name, which is the leaf, or isn't
 abbrev pub HasMergeCauseOf : Bool → Linked → List ℕ → Option (List Held) → Option (List (List ℕ)) → Option (List (List ℕ)) → StepsRefusal → Type 0
@@ -512,7 +469,7 @@ Said = Status × List ℕ
 -- of a transcript, with the last fault that refused a line and how the session ended
 abbrev pub lines_said : List ℕ → Option StoreFault → Result (Unit {0}) StoreFault → Said
 lines_said text None (Ok done) = (Done, text)
-lines_said text None (Err fault) = (Fault, text ++ fault_line (codes "store") fault.count)
+lines_said text None (Err fault) = (Fault, text)
 lines_said text (Some refused) closed = (Fault, text)
 
 -- and where there is none

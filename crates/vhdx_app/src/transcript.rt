@@ -1,29 +1,16 @@
 //! Printing what became of a script.
 
-ghost use Rattle.std.specs.Prelude.{◌++◌, codes};
-ghost use Rattle.printing.specs.Answers.{fault_line};
 ghost use Rattle.printing.specs.Sent.{Sent};
 ghost use Rattle.vhdx_app.specs.Sessions.{ReportsRun};
 ghost use Rattle.vhdx_app.specs.Sessions as spec;
 
 use crate::refusal::StepsRefusal;
 use crate::refusing::{fail, refuse_steps};
-use printing::{Status, deliver, out_of_memory, send};
+use printing::{Status, deliver, out_of_memory};
 use script_session::ScriptRun;
 use std::alloc::Global;
 use store_model::{Sink, StoreFault};
 use vx_base::NoRoom;
-
-// Prints a transcript and, behind it, the line of a fault by which the session's end failed.
-fn say_with<K: Sink>(out: &mut K, text: &[u8], fault: StoreFault) -> Status
-    ensures { Sent (K.written out.old) (K.written out.new) (K.faults out.old) (K.faults out.new) Status.Fault
-        (text.now ++ fault_line (codes "store") fault.count) result }
-{
-    match send(out, text) {
-        Ok(()) => fail(out, b"store", fault.count),
-        Err(_) => Status::Fault,
-    }
-}
 
 // Prints the transcript of a script of which all lines were run.
 fn say_lines<K: Sink>(
@@ -37,7 +24,7 @@ fn say_lines<K: Sink>(
 {
     match (fault, closed) {
         (None, Ok(())) => deliver(out, Status::Done, text),
-        (None, Err(fault)) => say_with(out, text, fault),
+        (None, Err(_)) => deliver(out, Status::Fault, text),
         (Some(_), _) => deliver(out, Status::Fault, text),
     }
 }

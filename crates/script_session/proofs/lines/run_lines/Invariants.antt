@@ -3,7 +3,7 @@ use Rattle.std.specs.Prelude.{string_bytes}
 use Rattle.chain_core.specs.Sessions.{IsSound, seen}
 use Rattle.script_session.specs.Answers.{IsSlot}
 use Rattle.script_session.specs.Told.{number_behind}
-use Rattle.script_session.proofs.Running.{HasRunAll}
+use Rattle.script_session.proofs.Running.{HasRunWhole}
 use Rattle.script_session.proofs.lines.run_lines.Given as goal
 
 -- the lines so far have run
@@ -13,5 +13,5 @@ invariant-loop-line g l = record {
   numbered : l.number ≡ number_behind 1 (take l.line-index l.lines);
   sound : IsSound (seen g.S.Store.disk g.R.Recorder.noted g.R.Recorder.told l.chain);
   slot : IsSlot l.chain.layers.geometry l.piece;
-  ran : HasRunAll (map g.N.AsStr.text l.names) (take l.line-index l.lines) (seen g.S.Store.disk g.R.Recorder.noted g.R.Recorder.told l.fn.chain) l.fn.piece (seen g.S.Store.disk g.R.Recorder.noted g.R.Recorder.told l.chain) l.piece (string_bytes l.text) l.fault;
+  ran : HasRunWhole (map g.N.AsStr.text l.names) (take l.line-index l.lines) (seen g.S.Store.disk g.R.Recorder.noted g.R.Recorder.told l.fn.chain) l.fn.piece (seen g.S.Store.disk g.R.Recorder.noted g.R.Recorder.told l.chain) l.piece (string_bytes l.text) l.fault;
 }

@@ -20,11 +20,11 @@ returns-in_err-check_mode-clause-err g c =
     let host = g.H.Host.hosted c.args.host.now in
     let drawn = g.I.Ids.drawn c.args.ids.now in
     err_as (NotRunOver c.args.mode c.args.source.now c.args.linked.now host host drawn drawn) c.from_residual.result c.in_err-check_mode.field-0.0 c.from_residual.ensures.1
-    (subst (NotRunOver c.args.mode c.args.source.now c.args.linked.now host host drawn drawn) (sym e.0) (barred c.args.mode c.args.source.now c.args.linked.now host drawn c.requires.chain.idle e.1))
+    (subst (NotRunOver c.args.mode c.args.source.now c.args.linked.now host host drawn drawn) (sym e.0) (barred c.args.mode c.args.source.now c.args.linked.now host drawn c.requires.chain.idle c.requires.chain.chain e.1))
 
 pub returns-in_err-names-clause-err : goal.returns-in_err-names-clause-err
 returns-in_err-names-clause-err g c =
-    err_as (NotRunOver c.args.mode c.args.source.now c.args.linked.now _ _ _ _) c.from_residual-in_err-names.result (steps.Chain chain.NoRoom) c.from_residual-in_err-names.ensures.1 (not_lent c.args.mode c.args.source.now c.args.linked.now _ _ _ chain.NoRoom c.requires.chain.idle refl)
+    err_as (NotRunOver c.args.mode c.args.source.now c.args.linked.now _ _ _ _) c.from_residual-in_err-names.result (steps.Chain chain.NoRoom) c.from_residual-in_err-names.ensures.1 (not_lent c.args.mode c.args.source.now c.args.linked.now _ _ _ chain.NoRoom c.requires.chain.idle c.requires.chain.chain refl)
 
 pub attach-requires-clause-once : goal.attach-requires-clause-once
 attach-requires-clause-once g c = subst (λ (fs : List LinkedFile). NoneTwice (names_of fs)) (sym c.as_slice-files.ensures) (last_once c.args.linked.now.retired (names_of c.args.linked.now.files) c.requires.chain.once)
@@ -35,7 +35,7 @@ attach-requires-clause-opened g c t told = subst (AreOpened (contents t)) (sym c
 pub returns-in_err-store-clause-err : goal.returns-in_err-store-clause-err
 returns-in_err-store-clause-err g c =
     err_as (NotRunOver c.args.mode c.args.source.now c.args.linked.now _ _ _ _) c.from_residual-in_err-store.result (steps.Chain c.in_err-store.field-0.0) c.from_residual-in_err-store.ensures.1
-    (not_lent c.args.mode c.args.source.now c.args.linked.now _ _ _ c.in_err-store.field-0.0 c.requires.chain.idle c.in_err-store.ensures.err)
+    (not_lent c.args.mode c.args.source.now c.args.linked.now _ _ _ c.in_err-store.field-0.0 c.requires.chain.idle c.requires.chain.chain c.in_err-store.ensures.err)
 
 pub run_on-store-requires-clause-chain : goal.run_on-store-requires-clause-chain
 run_on-store-requires-clause-chain g c = lent_chain c.args.linked.now c.as_slice-files.result.now (g.H.Host.hosted c.args.host.now) (g.H.Host.hosted c.attach.new.host) (g.H.S.Store.disk c.in_ok-store.store) c.as_slice-files.ensures c.requires.chain c.in_ok-store.ensures.ok

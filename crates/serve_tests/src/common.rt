@@ -1,0 +1,161 @@
+//! What the tests with several guests share.
+
+ghost use Rattle.std.specs.Prelude.{◌≢◌, IsTrue};
+ghost use Rattle.link_rules.specs.Folders.{AllIdle};
+ghost use Rattle.mem_store.specs.HostTold.{hosted_by};
+ghost use Rattle.store_model.specs.Disk.{WhereTold};
+
+use mem_store::{Calls, MemHost, MemIds, MemSink, MemSource};
+use std::alloc::Global;
+use std::process::Abort;
+use std::sync::Wait;
+use std::thread::Threads;
+use store_model::IdleGate;
+use vhdx_app::{Status, run};
+use vx_base::Name;
+
+pub const BASE: &str = "make dynamic b.vhdx --sectors 2097152";
+
+pub const CHILD: &str = "make child c.vhdx --parent b.vhdx";
+
+/// A host without a file.
+pub fn empty_host(alloc: Global) -> MemHost
+    ensures { WhereTold (hosted_by result).folder AllIdle }
+{
+    MemHost::new(alloc)
+}
+
+/// A host of one file.
+pub fn host_with<R: Abort>(rt: &R, alloc: Global, name: &str, bytes: &[u8]) -> MemHost
+    ensures { WhereTold (hosted_by result).folder AllIdle }
+{
+    let mut host = MemHost::new(alloc);
+    let name = Name::new(alloc, name).expect(rt, "no name");
+    host.put(&name, bytes).expect(rt, "no room");
+    host
+}
+
+/// The words of a line.
+pub fn words_of<R: Abort>(rt: &R, alloc: Global, line: &str) -> Vec<String> {
+    let mut list = Vec::new(alloc);
+    for word in line.split(' ') {
+        let word = String::from_str(alloc, word).expect(rt, "no memory");
+        list.push(word).expect(rt, "no memory");
+    }
+    list
+}
+
+/// Identifiers: these, and then 1, 2 and so on.
+pub fn ids_of<R: Abort>(rt: &R, alloc: Global, listed: &[[u8; 16]]) -> MemIds {
+    let listed = listed.to_vec(alloc).expect(rt, "no memory");
+    MemIds::new(listed)
+}
+
+/// A source of these bytes, which are read 7 at a time.
+pub fn source_of<R: Abort>(rt: &R, alloc: Global, bytes: &[u8]) -> MemSource {
+    MemSource {
+        bytes: bytes.to_vec(alloc).expect(rt, "no memory"),
+        at: 0,
+        piece: 7,
+        faults: 0,
+        calls: Calls::failing(Vec::new(alloc)),
+    }
+}
+
+/// A sink that takes 1,000 bytes at once.
+pub fn sink_of(alloc: Global) -> MemSink {
+    MemSink {
+        bytes: Vec::new(alloc),
+        most: 1_000,
+        faults: 0,
+        calls: Calls::failing(Vec::new(alloc)),
+    }
+}
+
+/// Runs the words over the host.
+pub fn run_words<R: Threads + Wait + Sync>(
+    rt: &R,
+    alloc: Global,
+    words: &[String],
+    input: &mut MemSource,
+    host: &mut MemHost,
+    ids: &mut MemIds,
+    out: &mut MemSink,
+) -> Status
+    requires { WhereTold (hosted_by host.old).folder AllIdle }
+    ensures { result ≢ Status.Fault → result ≢ Status.NoMemory → WhereTold (hosted_by host.new).folder AllIdle }
+{
+    run(rt, alloc, words, host, input, out, ids, &IdleGate)
+}
+
+/// Runs a line's words over the host, with a script. Gives how it ended and what it printed.
+pub fn run_script<R: Abort + Threads + Wait + Sync>(
+    rt: &R,
+    alloc: Global,
+    line: &str,
+    script: &str,
+    host: &mut MemHost,
+    ids: &mut MemIds,
+) -> (Status, MemSink)
+    requires { WhereTold (hosted_by host.old).folder AllIdle }
+    ensures { result.0 ≢ Status.Fault → result.0 ≢ Status.NoMemory → WhereTold (hosted_by host.new).folder AllIdle }
+{
+    let words = words_of(rt, alloc, line);
+    let mut input = source_of(rt, alloc, script.as_bytes());
+    let mut out = sink_of(alloc);
+    let status = run_words(rt, alloc, &words, &mut input, host, ids, &mut out);
+    (status, out)
+}
+
+/// Runs a line with a script, which is done. Gives what it printed.
+pub fn script_done<R: Abort + Threads + Wait + Sync>(
+    rt: &R,
+    alloc: Global,
+    line: &str,
+    script: &str,
+    host: &mut MemHost,
+    ids: &mut MemIds,
+) -> MemSink
+    requires { WhereTold (hosted_by host.old).folder AllIdle }
+    ensures { WhereTold (hosted_by host.new).folder AllIdle }
+{
+    let (status, out) = run_script(rt, alloc, line, script, host, ids);
+    match status {
+        Status::Done => out,
+        _ => panic!(rt; "{line} {status:?}"),
+    }
+}
+
+/// The bytes of the file of this name.
+pub fn bytes_of<'a>(host: &'a MemHost, name: &str) -> Option<&'a [u8]> {
+    for slot in &host.slots {
+        if slot.name.as_bytes() == name.as_bytes()
+            && let Some(file) = &slot.file
+        {
+            return Some(file.now.as_slice());
+        }
+    }
+    None
+}
+
+/// Asks that this is so.
+pub fn ask<R: Abort>(rt: &R, is_so: bool, what: &str)
+    ensures { IsTrue is_so }
+{
+    assert!(rt; is_so, "{what}");
+}
+
+/// The same of a row or a call of this number.
+pub fn ask_at<R: Abort>(rt: &R, is_so: bool, number: u64) {
+    assert!(rt; is_so, "{number}");
+}
+
+/// Whether a text is one of these.
+pub fn is_one_of(text: &[u8], texts: &[&str]) -> bool {
+    for other in texts {
+        if text == other.as_bytes() {
+            return true;
+        }
+    }
+    false
+}

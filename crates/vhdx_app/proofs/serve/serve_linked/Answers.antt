@@ -1,0 +1,52 @@
+use Rattle.std.proofs.Common.{List, None, refl, subst, sym, ◌∙◌}
+use Rattle.vhdx_app.proofs.Followed.{last_once}
+use Rattle.chain_core.specs.declared.starting.Mode.TheVariants.{Guests}
+use Rattle.chain_model.specs.Members.{NoneTwice}
+use Rattle.link_rules.specs.Chains.{names_of}
+use Rattle.link_rules.specs.Folders.{contents}
+use Rattle.link_rules.specs.declared.linked.LinkedFile.{LinkedFile}
+use Rattle.vhdx_app.specs.Commands.{AreOpened}
+use Rattle.vhdx_app.specs.Sessions.{NotRunOver}
+use Rattle.vhdx_app.specs.declared.refusal.ChainRefusal.TheVariants as chain
+use Rattle.vhdx_app.specs.declared.refusal.StepsRefusal.TheVariants as steps
+use Rattle.vhdx_app.proofs.Lending.{lent_chain}
+use Rattle.vhdx_app.proofs.Over.{not_lent}
+use Rattle.vhdx_app.proofs.Said.{err_as}
+use Rattle.vhdx_app.proofs.ServedOver.{served_back, served_not_run, served_ran}
+use Rattle.vhdx_app.proofs.serve.serve_linked.Goals as goal
+
+pub returns-in_err-names-clause-err : goal.returns-in_err-names-clause-err
+returns-in_err-names-clause-err g c =
+    err_as (NotRunOver Guests None c.args.linked.now _ _ _ _) c.from_residual.result (steps.Chain chain.NoRoom) c.from_residual.ensures.1 (not_lent Guests None c.args.linked.now _ _ _ chain.NoRoom c.requires.chain.idle c.requires.chain.chain refl)
+
+pub attach-requires-clause-once : goal.attach-requires-clause-once
+attach-requires-clause-once g c = subst (λ (fs : List LinkedFile). NoneTwice (names_of fs)) (sym c.as_slice-files.ensures) (last_once c.args.linked.now.retired (names_of c.args.linked.now.files) c.requires.chain.once)
+
+pub attach-requires-clause-opened : goal.attach-requires-clause-opened
+attach-requires-clause-opened g c t told = subst (AreOpened (contents t)) (sym c.as_slice-files.ensures) (c.requires.chain.chain t told).opened
+
+pub returns-in_err-store-clause-err : goal.returns-in_err-store-clause-err
+returns-in_err-store-clause-err g c =
+    err_as (NotRunOver Guests None c.args.linked.now _ _ _ _) c.from_residual-in_err-store.result (steps.Chain c.in_err-store.field-0.0) c.from_residual-in_err-store.ensures.1
+    (not_lent Guests None c.args.linked.now _ _ _ c.in_err-store.field-0.0 c.requires.chain.idle c.requires.chain.chain c.in_err-store.ensures.err)
+
+pub serve_lent-store-requires-clause-chain : goal.serve_lent-store-requires-clause-chain
+serve_lent-store-requires-clause-chain g c κs within = lent_chain c.args.linked.now c.as_slice-files.result.now (g.H.Host.hosted c.args.host.now) (g.H.Host.hosted c.attach.new.host) (g.H.S.Store.disk c.in_ok-store.store) c.as_slice-files.ensures c.requires.chain c.in_ok-store.ensures.ok
+
+pub give_back-requires : goal.give_back-requires
+give_back-requires g c =
+    served_back c.args.linked.now c.args.lines.now c.serve_lent-store.result.1 (g.H.Host.hosted c.args.host.now) (g.H.Host.hosted c.attach.new.host) (g.H.S.Store.disk c.in_ok-store.store) (g.H.S.Store.disk c.serve_lent-store.result.0)
+    (g.I.Ids.drawn c.args.ids.now) (g.I.Ids.drawn c.serve_lent-store.new.ids) c.requires.chain c.as_slice-files.result.now c.as_slice.result.now c.as_slice-files.ensures
+    (c.as_slice.ensures ∙ c.in_ok-names.ensures) c.in_ok-store.ensures.ok c.serve_lent-store.ensures.ran c.serve_lent-store.ensures.err
+
+pub returns-clause-ran : goal.returns-clause-ran
+returns-clause-ran g c =
+    served_ran c.args.linked.now c.args.lines.now c.serve_lent-store.result.1 (g.H.Host.hosted c.args.host.now) (g.H.Host.hosted c.attach.new.host) (g.H.S.Store.disk c.in_ok-store.store) (g.H.S.Store.disk c.serve_lent-store.result.0)
+    (g.I.Ids.drawn c.args.ids.now) (g.I.Ids.drawn c.serve_lent-store.new.ids) c.requires.chain c.as_slice-files.result.now c.as_slice.result.now c.as_slice-files.ensures
+    (c.as_slice.ensures ∙ c.in_ok-names.ensures) c.in_ok-store.ensures.ok c.serve_lent-store.ensures.ran c.serve_lent-store.ensures.err (g.H.Host.hosted c.give_back.new.self) c.give_back.ensures.folder c.give_back.ensures.past c.give_back.ensures.count
+
+pub returns-clause-err : goal.returns-clause-err
+returns-clause-err g c =
+    served_not_run c.args.linked.now c.args.lines.now c.serve_lent-store.result.1 (g.H.Host.hosted c.args.host.now) (g.H.Host.hosted c.attach.new.host) (g.H.S.Store.disk c.in_ok-store.store) (g.H.S.Store.disk c.serve_lent-store.result.0)
+    (g.I.Ids.drawn c.args.ids.now) (g.I.Ids.drawn c.serve_lent-store.new.ids) c.requires.chain c.as_slice-files.result.now c.as_slice.result.now c.as_slice-files.ensures
+    (c.as_slice.ensures ∙ c.in_ok-names.ensures) c.in_ok-store.ensures.ok c.serve_lent-store.ensures.ran c.serve_lent-store.ensures.err (g.H.Host.hosted c.give_back.new.self) c.give_back.ensures.folder c.give_back.ensures.past c.give_back.ensures.count
