@@ -1,6 +1,6 @@
 #!/usr/bin/env python3
 """Holds the program to compare/model.py on damaged files: makes sound files of several shapes, with and without a log to be replayed,
-damages fields of every structure at random, and compares what `info` and `dump` print, their status, and the bytes that they leave.
+damages fields of every structure at random, and compares what `info`, `dump` and `check` print, their status, and the bytes that they leave.
 
     damaged.py [--files N] [--seed S]    file I has the seed S + I, so `--files 1 --seed T` makes the file of a difference again
 
@@ -556,6 +556,8 @@ def compared(seed, folder):
         settled = model.Settled(data)
     first, count = ranges(plan, rng, answer)
     calls = [(("info", NAME), model.info(NAME, answer)), (("dump", NAME, first, count), model.dump(NAME, answer, first, count))]
+    if not plan.parent:
+        calls.append((("check", NAME), model.check(NAME, data)))
     if rng.random() < 0.5:
         calls.reverse()
     met, differences = {call[0][0]: int(call[1][0].split()[1]) if call[1][1] else 0 for call in calls}, []

@@ -412,17 +412,24 @@ def blocks_of(disk, bat):
     return found
 
 
+def bad_states(blocks, parent):
+    return [index for index, _, bitmap, state, _ in blocks
+            if state not in ((0, 6) if bitmap else (0, 1, 2, 3, 6, 7) if parent else (0, 1, 2, 3, 6))]
+
+
 def block_states(blocks, parent):
-    for index, _, bitmap, state, _ in blocks:
-        if state not in ((0, 6) if bitmap else (0, 1, 2, 3, 6, 7) if parent else (0, 1, 2, 3, 6)):
-            raise Refused(15, "BadBatState", f"index {index}")
+    for index in bad_states(blocks, parent):
+        raise Refused(15, "BadBatState", f"index {index}")
+
+
+def bad_places(present, header, places, length):
+    taken = [(header.log_offset, header.log_length), *places.values()]
+    return [index for index, at, size in present if at < MB or at + size > length or any(overlap(at, size, *other) for other in taken)]
 
 
 def block_places(present, header, places, length):
-    taken = [(header.log_offset, header.log_length), *places.values()]
-    for index, at, size in present:
-        if at < MB or at + size > length or any(overlap(at, size, *other) for other in taken):
-            raise Refused(16, "BlockPlace", f"index {index}")
+    for index in bad_places(present, header, places, length):
+        raise Refused(16, "BlockPlace", f"index {index}")
 
 
 def block_overlaps(present):
@@ -432,16 +439,20 @@ def block_overlaps(present):
             raise Refused(17, "BlockOverlap", f"index {block.index} and {min(others)}")
 
 
-def block_bitmaps(blocks):
+def lacking_bitmaps(blocks):
     bitmaps = {chunk: state for _, chunk, bitmap, state, _ in blocks if bitmap}
-    for index, chunk, bitmap, state, _ in blocks:
-        if state == 7 and not bitmap and bitmaps[chunk] == 0:
-            raise Refused(18, "BitmapMissing", f"index {index}")
+    return [index for index, chunk, bitmap, state, _ in blocks if state == 7 and not bitmap and bitmaps[chunk] == 0]
+
+
+def block_bitmaps(blocks):
+    for index in lacking_bitmaps(blocks):
+        raise Refused(18, "BitmapMissing", f"index {index}")
 
 
 # A file as a whole, and a sector of its disk.
 
-def opened(data, chains):
+def numbered(data):
+    """The header, the settled file, its regions and its disk; the first rule that is broken before the blocks are looked at."""
     header, settled = settle(data)
     regions = region_entries(settled)
     unknown_regions(regions)
@@ -455,11 +466,20 @@ def opened(data, chains):
     item_rules(values, places["bat"][1])
     disk = disk_of(values)
     sector_size(disk)
+    return header, settled, places, disk
+
+
+def present_in(disk, blocks):
+    return [Block(index, at, MB if bitmap else disk.block) for index, _, bitmap, state, at in blocks if state > 5]
+
+
+def opened(data, chains):
+    header, settled, places, disk = numbered(data)
     if not chains:
         differencing(disk)
     blocks = blocks_of(disk, settled.read(*places["bat"]))
     block_states(blocks, disk.parent)
-    present = [Block(index, at, MB if bitmap else disk.block) for index, _, bitmap, state, at in blocks if state > 5]
+    present = present_in(disk, blocks)
     block_places(present, header, places, settled.length)
     block_overlaps(present)
     block_bitmaps(blocks)
@@ -494,6 +514,50 @@ def sector(at, number):
     return None if state == 0 and disk.parent else bytes(disk.logical)
 
 
+# All that is found wrong with a file without a parent.
+
+def table_findings(header, settled, places, disk):
+    """Every entry in a bad state; of the others every block in a bad place, every pair that overlaps, every block without its bitmap."""
+    blocks = blocks_of(disk, settled.read(*places["bat"]))
+    states = bad_states(blocks, disk.parent)
+    good = [block for block in blocks if block[0] not in states]
+    present = present_in(disk, good)
+    pairs = [(a.index, b.index) for a in present for b in present if a.index < b.index and overlap(a.offset, a.length, b.offset, b.length)]
+    return ([Refused(15, "BadBatState", f"index {index}") for index in states]
+            + [Refused(16, "BlockPlace", f"index {index}") for index in bad_places(present, header, places, settled.length)]
+            + [Refused(17, "BlockOverlap", f"index {first} and {second}") for first, second in pairs]
+            + [Refused(18, "BitmapMissing", f"index {index}") for index in lacking_bitmaps(good)])
+
+
+def region_copy_holds(settled, copy):
+    table = settled.read(131072 + 65536 * copy, 65536)
+    return table[:4] == b"regi" and checksum_holds(table) and struct.unpack_from("<I", table, 8)[0] <= 2047
+
+
+def copy_findings(settled):
+    front = settled.read(0, 196608)
+    headers = [header_copy(front, copy) for copy in (1, 2)]
+    found = [Refused(28, "HeaderCopy", f"copy {copy}") for copy in (1, 2) if not headers[copy - 1]]
+    found += [Refused(29, "RegionCopy", f"copy {copy}") for copy in (1, 2) if not region_copy_holds(settled, copy)]
+    return found + [Refused(30, "LogNamed")] * (any(headers) and current_header(front).log != NOTHING)
+
+
+def findings(data):
+    try:
+        file_type(data)
+    except Refused as why:
+        return [why]
+    try:
+        rules = table_findings(*numbered(data))
+    except Refused as why:
+        rules = [why]
+    try:
+        settled = settle(data)[1]
+    except Refused:
+        settled = Settled(data)
+    return rules + copy_findings(settled)
+
+
 # What the commands print, and their statuses.
 
 def refusal_line(name, refused):
@@ -518,6 +582,11 @@ def dump_lines(at, first, count):
     if first + count > sectors:
         raise Refused(32, "OutOfRange", f"first {first} count {count} sectors {sectors}")
     return "".join(f"{n} {sector(at, n).hex()}\n" for n in range(first, first + count))
+
+
+def check(name, data):
+    found = findings(data)
+    return ("".join(refusal_line(name, why).replace("refused", "finding", 1) for why in found) or "clean\n", 5 if found else 0)
 
 
 def info(name, answer):

@@ -1,0 +1,294 @@
+#!/usr/bin/env python3
+"""Runs the built program over real files, as a person would, and compares what it prints and leaves.
+
+    tests/program.py PROGRAM
+
+Each block of README.md and docs/USE.md that shows a command is run, in order, and prints what stands there, but for identifiers. Then come
+statuses and texts, files that can't be read or written, a disk that is full, runs that are killed, and two runs at once over one chain. It
+works in a new folder, takes less than a minute, and ends with the line 'N passed, M failed'.
+"""
+import os
+import pathlib
+import random
+import re
+import resource
+import shutil
+import signal
+import subprocess
+import sys
+import tempfile
+import threading
+
+TOP = pathlib.Path(__file__).resolve().parent.parent
+ID = re.compile(r"\{[0-9a-f]{8}(-[0-9a-f]{4}){3}-[0-9a-f]{12}\}")
+SECTORS = 2097152
+ROUNDS = 100
+
+results = []
+
+
+def tell(name, is_well, why=""):
+    """Notes a row, and says it where it went wrong."""
+    results.append(is_well)
+    if not is_well:
+        print(f"FAILED: {name}: {why}", flush=True)
+
+
+class Folder:
+    """A folder in which the program is run."""
+
+    def __init__(self, program, path, words=()):
+        self.program, self.path, self.before = str(program), pathlib.Path(path), list(words)
+
+    def start(self, *words, **how):
+        """The program, started with these words."""
+        pipes = {"stdin": subprocess.PIPE, "stdout": subprocess.PIPE, "stderr": subprocess.PIPE}
+        return subprocess.Popen([*self.before, self.program, *words], cwd=self.path, text=True, **{**pipes, **how})
+
+    def run(self, *words, script="", **how):
+        """How the program ends with these words and this on its standard input: its status, standard output and standard error."""
+        with self.start(*words, **how) as run:
+            out, err = run.communicate(script, timeout=60)
+            return run.returncode, out, err
+
+    def check(self, name, words, status, out, err="", script="", **how):
+        """A run that has to end so. The end of what stands on standard error is looked at alone."""
+        found = self.run(*words, script=script, **how)
+        tell(name, found[:2] == (status, out) and found[2].endswith(err) and bool(found[2]) == bool(err), repr(found))
+
+    def make(self, *words):
+        status, out, err = self.run("make", *words)
+        if status:
+            raise SystemExit(f"make {words}: {status} {out}{err}")
+
+    def chain(self, more=""):
+        """A base of 1 GB, its child, in whose fifth sector 22 stands, and where these calls were made, and the child of that."""
+        for old in self.path.glob("*.vhdx"):
+            old.unlink()
+        self.make("dynamic", "b.vhdx", "--sectors", str(SECTORS))
+        self.make("child", "m.vhdx", "--parent", "b.vhdx")
+        self.run("steps", "m.vhdx", script="write 5 1 22\n" + more)
+        self.make("child", "c.vhdx", "--parent", "m.vhdx")
+
+    def byte(self, leaf, sector):
+        """The first byte of a sector, as a dump shows it."""
+        status, out, err = self.run("dump", leaf, str(sector), "1")
+        return out.split()[1][:2] if status == 0 else f"{status} {out}{err}"
+
+
+# ---- the documents
+
+
+def blocks_of(document):
+    """The commands that a document shows, each with what it prints."""
+    shown = []
+    for line in document.read_text(encoding="utf-8").split("\n"):
+        if line.startswith("    $ "):
+            shown.append((line[6:], []))
+        elif line.startswith("    ") and shown and shown[-1] is not None:
+            shown[-1][1].append(line[4:])
+        elif shown and shown[-1] is not None:
+            shown.append(None)
+    return [it for it in shown if it]
+
+
+def is_alike(shown, printed):
+    """Whether a line is the one that is shown, whatever identifiers it has; behind `..` anything may stand."""
+    shown, printed = ID.sub("{}", shown), ID.sub("{}", printed)
+    return printed.startswith(shown[:-2]) if shown.endswith("..") else printed == shown
+
+
+def by_guest(lines):
+    """The lines of a transcript of several guests, without their places: each guest's in its order."""
+    return sorted((line.split(" ", 1)[1] for line in lines), key=lambda line: line.split(" ")[0])
+
+
+def check_documents(program, room):
+    """Runs what README.md and docs/USE.md show, each in a folder of its own."""
+    for name in ("README.md", "docs/USE.md"):
+        folder = Folder(program, room / pathlib.Path(name).stem)
+        folder.path.mkdir()
+        for command, wanted in blocks_of(TOP / name):
+            line = command.replace("/path/to/repository/vhdx", folder.program)
+            ran = subprocess.run(["bash", "-c", line], cwd=folder.path, capture_output=True, text=True, timeout=60)
+            printed = ran.stdout.split("\n")[:-1]
+            if "vhdx serve " in command:
+                wanted, printed = by_guest(wanted), by_guest(printed)
+            well = len(printed) == len(wanted) and all(is_alike(*pair) for pair in zip(wanted, printed))
+            tell(f"{name}: {command}", well, f"{ran.stdout}{ran.stderr}")
+
+
+# ---- statuses and texts
+
+
+def check_words(folder):
+    usage = folder.run("--help")[1]
+    for words in ([], ["dump"], ["dumb", "b.vhdx"], ["dump", "b.vhdx", "00", "1"], ["dump", "a/b.vhdx", "0", "1"], ["make", "child", "x.vhdx"]):
+        folder.check(f"words {words}", words, 2, "", usage)
+    folder.check("a word that isn't UTF-8", [b"dump", b"\xff", b"0", b"1"], 2, "", usage)
+    folder.check("a broken line", ["steps", "none.vhdx"], 2, "line 2\n", "", "flush\nwrite 0 1 g1\n")
+    folder.check("a comment behind a line", ["steps", "none.vhdx"], 2, "line 1\n", "", "flush # now\n")
+    folder.check("a missing file", ["info", "none.vhdx"], 1, "refused 21 FileMissing none.vhdx\n")
+    tell("help", folder.run("--help")[0] == 0 and "steps LEAF" in usage, usage)
+
+
+def check_faults(folder):
+    (folder.path / "folder.vhdx").mkdir()
+    folder.check("a folder", ["info", "folder.vhdx"], 3, "fault host 1\n", "directory (os error 21)\n")
+    (folder.path / "folder.vhdx").rmdir()
+    folder.chain()
+    with folder.start("steps", "c.vhdx") as run:
+        # it reads its script first: no file is open yet
+        folder.check("a file that no run has open", ["info", "c.vhdx"], 0, folder.run("info", "c.vhdx")[1])
+        run.communicate("")
+    with open("/dev/full", "w", encoding="utf-8") as full:
+        folder.check("no room for what is printed", ["info", "c.vhdx"], 3, None, "No space left on device (os error 28)\n", stdout=full)
+
+
+def check_denied(program, room):
+    """A file that may not be written is read, and a write to it is a fault; as another user where this one is root."""
+    path = room / "denied"
+    path.mkdir()
+    words = ["setpriv", "--reuid=65534", "--regid=65534", "--clear-groups"] if os.geteuid() == 0 else []
+    Folder(program, path).chain()
+    for file in path.glob("*.vhdx"):
+        file.chmod(0o444)
+    path.chmod(0o755)
+    folder = Folder(program, path, words)
+    status, out, _ = folder.run("info", "c.vhdx")
+    tell("info of a file that may not be written", status == 0 and len(out.split("\n")) == 4, out)
+    folder.check("a call on it", ["steps", "c.vhdx", "--read-only"], 0, "1 read 5 1 = 512*22\n", "", "read 5 1\n")
+    found = folder.run("steps", "c.vhdx", script="write 0 1 aa\n")
+    tell("a session on it", found[:2] == (3, "fault store 1\n") and "c.vhdx: Bad file descriptor" in found[2], repr(found))
+
+
+def limited(most):
+    """Lets a run's files grow to so many bytes, as where a disk is full."""
+    def limit():
+        signal.signal(signal.SIGXFSZ, signal.SIG_IGN)
+        resource.setrlimit(resource.RLIMIT_FSIZE, (most, most))
+    return limit
+
+
+def check_full_disk(folder):
+    folder.chain()
+    how = {"preexec_fn": limited(6291456), "restore_signals": False}
+    script = "write 0 1 aa\nflush\nwrite 1048576 1 bb\nread 0 1\n"
+    status, out, err = folder.run("steps", "c.vhdx", script=script, **how)
+    wanted = "- write 0 1 aa = refused 35 Broken c.vhdx count 1\n- flush = refused 35 Broken c.vhdx count 1\n"
+    tell("a full disk", status == 3 and out.startswith(wanted) and "c.vhdx: File too large" in err, f"{status} {out}{err}")
+    tell("what it leaves", folder.byte("c.vhdx", 5) == "22", folder.byte("c.vhdx", 5))
+    folder.check("and goes on from", ["steps", "c.vhdx"], 0, "1 write 0 1 aa = done\n", "", "write 0 1 aa\n")
+
+
+# ---- stops, and two runs at once
+
+
+def check_stops(folder):
+    """A merge that is killed somewhere, again and again, until it comes to its end: the disk is the same each time."""
+    folder.chain("".join(f"write {2048 * i} 8 {i:02x}\n" for i in range(1, 256)))
+    for i in range(8):
+        run = folder.start("steps", "c.vhdx", "--merge", "m.vhdx")
+        timer = threading.Timer(random.uniform(0.001, 0.02), run.kill)
+        timer.start()
+        run.communicate("copy\nfinish\n")
+        timer.cancel()
+        found = [folder.byte("c.vhdx", sector) for sector in (5, 2048, 2048 * 255)]
+        tell(f"behind stop {i}", found == ["22", "01", "ff"], repr(found))
+    status = folder.run("steps", "c.vhdx", "--merge", "m.vhdx", script="copy\nfinish\n")
+    tell("the merge's end", status[0] == 0 or "refused 40" in status[1], repr(status))
+    tell("and its disk", folder.byte("c.vhdx", 2048 * 255) == "ff")
+
+
+def both(folder, one, other):
+    """Two runs at once, each of words and a script: how they ended."""
+    ends = [None, None]
+
+    def end(i, words, script):
+        ends[i] = folder.run(*words, script=script)
+
+    threads = [threading.Thread(target=end, args=(i, *it)) for i, it in enumerate((one, other))]
+    random.shuffle(threads)
+    for it in threads:
+        it.start()
+    for it in threads:
+        it.join()
+    return ends
+
+
+def is_kept_out(end):
+    """Whether a run found a file of the chain in another's hands, and did nothing."""
+    return end[0] == 3 and end[1] == "fault host 1\n" and "another run has it open" in end[2]
+
+
+def check_pairs(folder):
+    """Each pair of commands at once over one chain, again and again: a run is done as if alone, or is kept out; what is acknowledged stays."""
+    write = (["steps", "c.vhdx"], "write 7 1 aa\nflush\n")
+    pairs = {
+        "two writers": (write, (["steps", "c.vhdx"], "write 9 1 bb\nflush\n")),
+        "a writer and a merge of the leaf": (write, (["steps", "c.vhdx", "--merge", "c.vhdx"], "copy\nfinish\n")),
+        "a writer and a merge inside": (write, (["steps", "c.vhdx", "--merge", "m.vhdx"], "copy\nfinish\n")),
+        "a dump and a merge of the leaf": ((["dump", "c.vhdx", "5", "1"], ""), (["steps", "c.vhdx", "--merge", "c.vhdx"], "copy\nfinish\n")),
+    }
+    for name, (one, other) in pairs.items():
+        folder.chain()
+        kept = [f.read_bytes() for f in sorted(folder.path.glob("*.vhdx"))]
+        names = sorted(folder.path.glob("*.vhdx"))
+        well, why, done = True, "", 0
+        for _ in range(ROUNDS):
+            for path, content in zip(names, kept):
+                path.write_bytes(content)
+            first, second = both(folder, one, other)
+            done += first[0] == 0
+            if not all(end[0] == 0 or is_kept_out(end) for end in (first, second)):
+                well, why = False, f"{first} {second}"
+            if one is write and first[0] == 0 and folder.byte("c.vhdx", 7) != "aa":
+                well, why = False, f"an acknowledged write is lost: {first} {second}"
+            if one is not write and first[0] == 0 and not first[1].startswith("5 22"):
+                well, why = False, f"another disk: {first}"
+            if folder.byte("c.vhdx", 5) != "22":
+                well, why = False, f"the disk changed: {first} {second}"
+        tell(name, well, why)
+        tell(f"{name}: some of the first were done", done > 0)
+
+
+def check_child(folder):
+    """A child that is made while its parent is merged away is a child of what is there, or isn't made."""
+    well, why = True, ""
+    for _ in range(ROUNDS // 4):
+        folder.chain()
+        ends = both(folder, (["make", "child", "d.vhdx", "--parent", "c.vhdx"], ""), (["steps", "c.vhdx", "--merge", "c.vhdx"], "copy\nfinish\n"))
+        if ends[0][0] == 0 and folder.byte("d.vhdx", 5) != "22":
+            # the leaf was merged behind it: its child mismatches, as the standard means it to
+            if ends[1][0] != 0 or "refused 22" not in folder.byte("d.vhdx", 5):
+                well, why = False, f"{ends} {folder.byte('d.vhdx', 5)}"
+        elif ends[0][0] and not is_kept_out(ends[0]):
+            well, why = False, repr(ends)
+    tell("a child made beside a merge", well, why)
+
+
+def main():
+    if len(sys.argv) != 2:
+        raise SystemExit(__doc__)
+    with tempfile.TemporaryDirectory(prefix="vhdx-program-") as made:
+        room = pathlib.Path(made)
+        room.chmod(0o755)
+        program = room / "vhdx"
+        shutil.copyfile(sys.argv[1], program)
+        program.chmod(0o755)
+        (room / "files").mkdir()
+        folder = Folder(program, room / "files")
+        check_documents(program, room)
+        check_words(folder)
+        check_faults(folder)
+        check_denied(program, room)
+        check_full_disk(folder)
+        check_stops(folder)
+        check_pairs(folder)
+        check_child(folder)
+    print(f"{sum(results)} passed, {len(results) - sum(results)} failed")
+    return 0 if all(results) else 1
+
+
+if __name__ == "__main__":
+    sys.exit(main())
