@@ -100,10 +100,7 @@ fn broke_behind(
 }
 
 // The last fault that a call was refused by, behind this answer.
-fn fault_behind(
-    fault: Option<StoreFault>,
-    answer: Result<u64, ChainRefusal>,
-) -> Option<StoreFault>
+fn fault_behind(fault: Option<StoreFault>, answer: Result<u64, ChainRefusal>) -> Option<StoreFault>
     ensures { result ≡ fault_after fault answer }
 {
     match answer {
@@ -144,11 +141,7 @@ impl<S: Store> SharedChain<S> {
         ensures { result ≡ length (steps_of self.now.chain.recorder self.now.broke) }
     {
         let done = self.chain.len();
-        if self.broke.is_some() {
-            done + 1
-        } else {
-            done
-        }
+        if self.broke.is_some() { done + 1 } else { done }
     }
 
     /// Reads whole sectors. Answers the call's place in the history.
