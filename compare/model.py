@@ -3,7 +3,8 @@ definitions, its code or its tests. It is evidence beside the proofs: compare/da
 
 open_file(data) gives Opened(..) or Refused(number, name, values), the first rule that the bytes break; sector(opened, n) the bytes of a
 sector of its disk; info(name, answer) and dump(name, answer, first, count) what these commands print, and their status. There is a
-function for each rule, in the order in which they are asked. Other files aren't looked at: a parent is refused, a retired name is kept alone.
+function for each rule, in the order in which they are asked. Other files aren't looked at: of a file with a parent the model judges its own
+tables and its locator's type, and a retired name is kept alone.
 """
 import collections
 import functools
@@ -19,7 +20,7 @@ Entry = collections.namedtuple("Entry", "place length tail number flushed last u
 Block = collections.namedtuple("Block", "index offset length")
 Item = collections.namedtuple("Item", "index key offset length required")
 Opened = collections.namedtuple("Opened", "header regions disk settled")
-Disk = collections.namedtuple("Disk", "block leave parent size id logical physical retired")
+Disk = collections.namedtuple("Disk", "block leave parent size id logical physical retired locator")
 
 
 class Refused(Exception):
@@ -284,6 +285,7 @@ DISK_ID = id_bytes("BECA12AB-B2E6-4523-93EF-C309E000C746"), 0
 LOGICAL = id_bytes("8141BF1D-A96F-4709-BA47-F233A8FAAB5F"), 0
 PHYSICAL = id_bytes("CDA348C7-445D-4471-9CC9-E9885251C556"), 0
 LOCATOR = id_bytes("A8D35F2D-B30B-454D-ABF7-D3D84834AB0C"), 0
+LOCATOR_TYPE = id_bytes("B04AEFB7-D19E-4A81-B789-25B8E9445913")
 RETIRED = id_bytes("7D3F0A52-6C1B-4E0E-9B1A-2F4C8E6D9A31"), 1
 LENGTHS = {PARAMETERS: 8, SIZE: 8, DISK_ID: 16, LOGICAL: 4, PHYSICAL: 4}
 KNOWN = (*LENGTHS, LOCATOR, RETIRED)
@@ -384,7 +386,7 @@ def item_rules(values, bat_length):
 def disk_of(values):
     block, flags = struct.unpack("<II", values[PARAMETERS])
     return Disk(block, flags & 1, flags & 2, number_in(values, SIZE), values[DISK_ID], number_in(values, LOGICAL),
-                number_in(values, PHYSICAL), retired_name(values.get(RETIRED)))
+                number_in(values, PHYSICAL), retired_name(values.get(RETIRED)), values.get(LOCATOR))
 
 
 def sector_size(disk):
@@ -392,9 +394,12 @@ def sector_size(disk):
         raise Refused(26, "SectorSize", "sector 4096")
 
 
-def differencing(disk):
+def locator_type(disk):
+    """A file with a parent has a locator of the one type that there is; none of the files that are compared has one, so no more is judged."""
     if disk.parent:
-        raise Refused(51, "Differencing")
+        if disk.locator[:16] == LOCATOR_TYPE:
+            raise ValueError("a locator that leads to a parent")
+        raise Refused(19, "BadLocator", "entry 0")
 
 
 # The block allocation table and its blocks ([MS-VHDX], Blocks; BAT).
@@ -473,23 +478,22 @@ def present_in(disk, blocks):
     return [Block(index, at, MB if bitmap else disk.block) for index, _, bitmap, state, at in blocks if state > 5]
 
 
-def opened(data, chains):
+def opened(data):
     header, settled, places, disk = numbered(data)
-    if not chains:
-        differencing(disk)
     blocks = blocks_of(disk, settled.read(*places["bat"]))
     block_states(blocks, disk.parent)
     present = present_in(disk, blocks)
     block_places(present, header, places, settled.length)
     block_overlaps(present)
     block_bitmaps(blocks)
+    locator_type(disk)
     return Opened(header, places, disk, settled)
 
 
-def open_file(data, chains=False):
-    """Opened or Refused; with chains, a file with a parent isn't refused for that."""
+def open_file(data):
+    """Opened or Refused."""
     try:
-        return opened(data, chains)
+        return opened(data)
     except Refused as why:
         return why
 
@@ -514,7 +518,7 @@ def sector(at, number):
     return None if state == 0 and disk.parent else bytes(disk.logical)
 
 
-# All that is found wrong with a file without a parent.
+# All that is found wrong with a file.
 
 def table_findings(header, settled, places, disk):
     """Every entry in a bad state; of the others every block in a bad place, every pair that overlaps, every block without its bitmap."""
@@ -523,10 +527,15 @@ def table_findings(header, settled, places, disk):
     good = [block for block in blocks if block[0] not in states]
     present = present_in(disk, good)
     pairs = [(a.index, b.index) for a in present for b in present if a.index < b.index and overlap(a.offset, a.length, b.offset, b.length)]
-    return ([Refused(15, "BadBatState", f"index {index}") for index in states]
-            + [Refused(16, "BlockPlace", f"index {index}") for index in bad_places(present, header, places, settled.length)]
-            + [Refused(17, "BlockOverlap", f"index {first} and {second}") for first, second in pairs]
-            + [Refused(18, "BitmapMissing", f"index {index}") for index in lacking_bitmaps(good)])
+    found = ([Refused(15, "BadBatState", f"index {index}") for index in states]
+             + [Refused(16, "BlockPlace", f"index {index}") for index in bad_places(present, header, places, settled.length)]
+             + [Refused(17, "BlockOverlap", f"index {first} and {second}") for first, second in pairs]
+             + [Refused(18, "BitmapMissing", f"index {index}") for index in lacking_bitmaps(good)])
+    try:
+        locator_type(disk)
+    except Refused as why:
+        found.append(why)
+    return found
 
 
 def region_copy_holds(settled, copy):
