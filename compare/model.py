@@ -4,7 +4,7 @@ definitions, its code or its tests. It is evidence beside the proofs: compare/da
 open_file(data) gives Opened(..) or Refused(number, name, values), the first rule that the bytes break; sector(opened, n) the bytes of a
 sector of its disk; info(name, answer) and dump(name, answer, first, count) what these commands print, and their status. There is a
 function for each rule, in the order in which they are asked. Other files aren't looked at: of a file with a parent the model judges its own
-tables and its locator's type, and a retired name is kept alone.
+tables and its locator's type, and of a retired one that no file has the name to which it leads.
 """
 import collections
 import functools
@@ -598,12 +598,21 @@ def check(name, data):
     return ("".join(refusal_line(name, why).replace("refused", "finding", 1) for why in found) or "clean\n", 5 if found else 0)
 
 
+def refused_line(name, answer):
+    """The line of what refuses a file to be shown, if anything does: a rule, or that the file to which a retired one leads isn't there."""
+    if isinstance(answer, Refused):
+        return refusal_line(name, answer)
+    return refusal_line(answer.disk.retired, Refused(21, "FileMissing")) if answer.disk.retired else None
+
+
 def info(name, answer):
-    return (refusal_line(name, answer), 1) if isinstance(answer, Refused) else (info_line(name, answer), 0)
+    refused = refused_line(name, answer)
+    return (refused, 1) if refused else (info_line(name, answer), 0)
 
 
 def dump(name, answer, first, count):
+    refused = refused_line(name, answer)
     try:
-        return (refusal_line(name, answer), 1) if isinstance(answer, Refused) else (dump_lines(answer, first, count), 0)
+        return (refused, 1) if refused else (dump_lines(answer, first, count), 0)
     except Refused as why:
         return refusal_line(name, why), 1
