@@ -1,5 +1,5 @@
 -- A guest's turn, from its beginning to its end.
-use Rattle.std.proofs.Common.{◌≡◌, ◌⊎◌, ◌+◌, ◌-◌, ◌==◌, ◌++◌, ◌∷◌, ℕ, List, [], length, map, inl, ap₂, Some, None, Result, Ok, Err, inr, refl, sym, ap, subst, ◌∙◌, arith, length-append, take_at}
+use Rattle.std.proofs.Common.{◌≡◌, ◌⊎◌, ◌+◌, ◌-◌, ◌==◌, ◌++◌, ◌∷◌, ℕ, List, [], length, inl, ap₂, Some, None, Result, Ok, Err, inr, refl, sym, ap, subst, ◌∙◌, arith, length-append, take_at}
 use Rattle.std.specs.Prelude.{Option, OnOk, if◌then◌else◌}
 use Rattle.std.proofs.lemmas.List.{append-nil, length-map, map-append}
 use Rattle.store_model.specs.Disk.{Disk}
@@ -83,15 +83,15 @@ module _ {S T : Type 0} where
   told_of s = steps_of s.chain.recorder s.broke
 
   -- what the seat knew, the value knew before the call
-  shown : (call : Call) (known before after : Basis S T) (x : ChainRefusal) → Contains before known → IsCausedIn call before after (Err x)
-      → (seat last : Known Step (Basis S T)) → seat.basis ≡ known → last.basis ≡ after → IsShown call x seat last
-  shown call known before after x covers h seat last was is =
+  shown : (disk : S → Disk) (call : Call) (known before after : Basis S T) (x : ChainRefusal) → Contains before known → IsCausedIn disk call before after (Err x)
+      → (seat last : Known Step (Basis S T)) → seat.basis ≡ known → last.basis ≡ after → IsShown disk call x seat last
+  shown disk call known before after x covers h seat last was is =
       go x h
     where
-      whole : (x : ChainRefusal) → IsCausedIn call known after (Err x) → IsCausedIn call seat.basis last.basis (Err x)
-      whole x k = subst (λ b. IsCausedIn call b last.basis (Err x)) (sym was) (subst (λ b. IsCausedIn call known b (Err x)) (sym is) k)
+      whole : (x : ChainRefusal) → IsCausedIn disk call known after (Err x) → IsCausedIn disk call seat.basis last.basis (Err x)
+      whole x k = subst (λ b. IsCausedIn disk call b last.basis (Err x)) (sym was) (subst (λ b. IsCausedIn disk call known b (Err x)) (sym is) k)
 
-      go : (x : ChainRefusal) → IsCausedIn call before after (Err x) → IsShown call x seat last
+      go : (x : ChainRefusal) → IsCausedIn disk call before after (Err x) → IsShown disk call x seat last
       go EmptyRange h = whole EmptyRange h
       go (OutOfRange a b c) h = whole (OutOfRange a b c) h
       go (TooLong a b) h = whole (TooLong a b) h
@@ -213,7 +213,7 @@ module _ {S T : Type 0} where
         go NoPiece e = still e
         go NoRoom e = still e
 
-    by_answer : (a : Result ℕ ChainRefusal) → IsEntered (entry who call) old.chain.recorder new.chain.recorder a → IsBroke (breach_of who call) old.broke new.broke a → IsCausedIn call (basis_of disk old) (basis_of disk new) a
+    by_answer : (a : Result ℕ ChainRefusal) → IsEntered (entry who call) old.chain.recorder new.chain.recorder a → IsBroke (breach_of who call) old.broke new.broke a → IsCausedIn disk call (basis_of disk old) (basis_of disk new) a
         → OnOk a (RepliesBehind disk old.first old.chain.recorder call r) → Answers disk who call r before ended a
     by_answer (Ok place) e b c behind =
         let seen : told_of new ≡ done_steps old.chain.recorder ++ Done (entry who call) ∷ [] = done_told old.chain.recorder new.chain.recorder (entry who call) new.broke e.0 b.1 in
@@ -230,7 +230,7 @@ module _ {S T : Type 0} where
         }
     by_answer (Err x) e b c behind = (
       adds x e b,
-      shown call before.basis (basis_of disk old) (basis_of disk new) x turn.covers c before ended refl refl,
+      shown disk call before.basis (basis_of disk old) (basis_of disk new) x turn.covers c before ended refl refl,
     )
 
     pub turn_called : (last : Known Step (Basis S T)) → last ≡ after_turn after (told_of new) (basis_of disk new) → OnOk answer (RepliesBehind disk old.first old.chain.recorder call r) → IsCall disk who call r before last answer

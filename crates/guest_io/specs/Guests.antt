@@ -65,13 +65,13 @@ module _ {S T : Type 0} where
 
   -- What shows a refusal: that of the events' count is noted, or it is the lock's, of the seat for good; any other has its cause in what the seat
   -- knew before and knows now.
-  abbrev pub IsShown : Call → ChainRefusal → Known Step (Basis S T) → Known Step (Basis S T) → Type 0
-  IsShown call (refusals.Spent t) old new = (2 ^ 63 ≤ t) × ((new.refused ≡ Some t) ⊎ HasNote new.basis.notes (notes.Spent t))
-  IsShown call refusal old new = IsCausedIn call old.basis new.basis (Err refusal)
+  abbrev pub IsShown : (S → Disk) → Call → ChainRefusal → Known Step (Basis S T) → Known Step (Basis S T) → Type 0
+  IsShown disk call (refusals.Spent t) old new = (2 ^ 63 ≤ t) × ((new.refused ≡ Some t) ⊎ HasNote new.basis.notes (notes.Spent t))
+  IsShown disk call refusal old new = IsCausedIn disk call old.basis new.basis (Err refusal)
 
   abbrev pub Answers : (S → Disk) → Caller → Call → Reply → Known Step (Basis S T) → Known Step (Basis S T) → Result ℕ ChainRefusal → Type 0
   Answers disk who call r old new (Ok place) = IsDone disk who call r old new place
-  Answers disk who call r old new (Err refusal) = AddsNothing who call refusal old new × IsShown call refusal old new
+  Answers disk who call r old new (Err refusal) = AddsNothing who call refusal old new × IsShown disk call refusal old new
 
   -- A guest's call.
   pub record IsCall (disk : S → Disk) (who : Caller) (call : Call) (r : Reply) (old new : Known Step (Basis S T)) (answer : Result ℕ ChainRefusal) : Type 0 where

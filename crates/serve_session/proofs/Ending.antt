@@ -1,6 +1,6 @@
 -- What guests were told, once all seats are joined and the session has ended.
-use Rattle.std.proofs.Common.{◌≡◌, ◌⊎◌, ◌+◌, ◌-◌, ◌^◌, ◌<◌, ◌≤◌, ◌++◌, ◌∷◌, ℕ, zero, suc, Bool, true, false, [], List, length, map, take, Option, None, Some, Result, Ok, Err, inl, inr, refl, sym, ap, ap₂, subst, ◌∙◌, arith, length-append}
-use Rattle.std.specs.Prelude.{All, IfErr, IfOk, IfSome, OnOk, String, get_or, is_some, string_bytes}
+use Rattle.std.proofs.Common.{◌≡◌, ◌⊎◌, ◌+◌, ◌-◌, ◌^◌, ◌<◌, ◌≤◌, ◌++◌, ◌∷◌, ℕ, zero, suc, Bool, false, [], List, length, map, take, Option, None, Some, Result, Ok, Err, inl, inr, refl, sym, ap, ap₂, subst, ◌∙◌, arith, length-append}
+use Rattle.std.specs.Prelude.{All, IfErr, IfOk, IfSome, OnOk, String, get_or, string_bytes}
 use Rattle.std.specs.List.{AllByRecursion}
 use Rattle.std.proofs.lemmas.List.{append-nil, get_or-take, length-map, map-append}
 use Rattle.std.proofs.Math.Seq.{get_or-append_seam}
@@ -21,7 +21,7 @@ use Rattle.chain_core.specs.Answering.{fault_of}
 use Rattle.chain_core.specs.Ending.{IsOfSession, SomeChangeFailed}
 use Rattle.chain_core.specs.Sessions.{Session}
 use Rattle.chain_core.specs.States.{IsServing, State, sector_of}
-use Rattle.layer_session.proofs.Equal.{none_some, some_none, some_same}
+use Rattle.layer_session.proofs.Equal.{some_none, some_same}
 use Rattle.seats.specs.Counting.{once_between, times}
 use Rattle.script.specs.declared.form.Form.{Form}
 use Rattle.script.specs.declared.form.Line.{Line}
@@ -29,7 +29,6 @@ use Rattle.script.specs.declared.told.ToldCall.{ToldCall}
 use Rattle.script.specs.Transcript.{IsTold, serve_text}
 use Rattle.script_session.specs.Faults.{FaultsAreTold, IsFailedChange, IsFaultOf}
 use Rattle.script_session.specs.Histories.{Break}
-use Rattle.script_session.specs.Running.{open_by}
 use Rattle.script_session.specs.Told.{Told, failed_by}
 use Rattle.turn_lock.specs.Histories.{StartsWith}
 use Rattle.turn_lock.specs.Seats.{Known, TableId}
@@ -41,15 +40,15 @@ use Rattle.shared_chain.specs.declared.basis.Note.TheVariants as notes
 use Rattle.shared_chain.specs.declared.basis.Step.{Step}
 use Rattle.shared_chain.specs.declared.basis.Step.TheVariants.{Broke, Done}
 use Rattle.shared_chain.specs.Bases.{Contains, basis_of, fault_notes, full_notes, notes_in, read_notes, spent_notes}
-use Rattle.shared_chain.specs.Closing.{IsEnded}
+use Rattle.script_session.specs.Running.{IsEnded, open_by}
 use Rattle.shared_chain.specs.Faults.{CountsChange, EndsCounted}
 use Rattle.shared_chain.specs.Homes.{session_of}
-use Rattle.shared_chain.specs.Laws.{of_both, in_right}
+use Rattle.shared_chain.specs.Laws.{of_both}
 use Rattle.shared_chain.specs.Notes.{HasNote}
 use Rattle.shared_chain.specs.Shared.{Shared}
 use Rattle.shared_chain.specs.Steps.{broke_step, done_steps, open_by as opens_by, steps_of}
-use Rattle.serve_session.specs.Actors.{AreHeard, AreJoined, BreaksAt, HasBreach, HasBreacher, HasPlace, IsHeard, IsHeardOf, OwnsAt, first_basis, first_notes}
-use Rattle.serve_session.specs.Served.{AreOutcomes, AreServed, EachGuest, Has, HasBreaker, HasBroken, HasDone, IsOutcome, IsRefused, IsRising, IsTranscript, IsWhole, Outcome, SomeGuest, all_told, as_told, call_of, entry_of, forms_of, is_broken, is_full, is_misplaced, is_spent, is_unread, places_in, told_calls, told_guests}
+use Rattle.serve_session.specs.Actors.{AreHeard, AreJoined, HasBreach, HasBreacher, IsHeard, IsHeardOf, OwnsAt, first_notes}
+use Rattle.serve_session.specs.Served.{AreOutcomes, AreServed, EachGuest, Has, HasBreaker, HasBroken, IsOutcome, IsRefused, IsTranscript, Outcome, SomeGuest, all_told, as_told, call_of, entry_of, forms_of, is_broken, is_full, is_misplaced, is_spent, is_unread, places_in, told_guests}
 use Rattle.serve_session.specs.Serving.{drive_from}
 use Rattle.serve_session.proofs.Guests.{all_told_are, each_map, some_and, told_count, told_guests_count}
 
@@ -403,7 +402,7 @@ module _ {S T : Type 0} (disk : S → Disk) (first : Chain S KeepAll T) where
         refused_by call ReadOnly k = is_misplaced ReadOnly k
         refused_by call (Broken file count) k = is_broken (fault_of file count) (broken_is file count k)
         refused_by call (Spent t) k = is_spent t k
-        refused_by call (FileFull next) k = is_full next k.0
+        refused_by call (FileFull next) k = is_full next k.0 (k.2 trace store_told from serving empty)
         refused_by call (ReadFault file count) k = is_unread file count k.0
         refused_by call NoMerge k = absurd k
         refused_by call (Stale taken now) k = absurd k

@@ -1,5 +1,5 @@
 -- What serving guests leaves, with the end of the session.
-use Rattle.std.proofs.Common.{◌≡◌, ◌+◌, ◌<◌, ◌≤◌, ℕ, zero, suc, Bool, false, [], List, ◌∷◌, length, map, replicate, Option, None, Some, Result, Ok, Err, refl, sym, ap, subst, ◌∙◌, arith}
+use Rattle.std.proofs.Common.{◌≡◌, ◌+◌, ◌<◌, ℕ, zero, suc, Bool, false, [], List, length, replicate, Option, None, Some, Result, Ok, Err, refl, sym, ap, subst, ◌∙◌, arith}
 use Rattle.std.specs.Prelude.{All, IfErr, IfOk, IfSome, OnOk, String, string_bytes}
 use Rattle.std.specs.List.{AllByRecursion}
 use Rattle.std.proofs.lemmas.List.{length-replicate}
@@ -7,24 +7,23 @@ use Rattle.store_model.specs.Disk.{Disk}
 use Rattle.store_model.specs.declared.fault.StoreFault.{StoreFault}
 use Rattle.vx_base.specs.declared.NoRoom.{NoRoom}
 use Rattle.guest_model.specs.declared.recorder.KeepAll.{KeepAll}
-use Rattle.guest_model.specs.History.{History}
 use Rattle.chain_core.specs.declared.chain.Chain.{Chain}
 use Rattle.layer_session.proofs.Equal.{some_none}
 use Rattle.script.specs.declared.form.Line.{Line}
 use Rattle.script.specs.declared.told.ToldCall.{ToldCall}
 use Rattle.script.specs.Transcript.{serve_text}
-use Rattle.script_session.specs.Faults.{IsFailedChange, IsFaultOf}
-use Rattle.script_session.specs.Histories.{Drive}
+use Rattle.script_session.specs.Faults.{IsFailedChange}
 use Rattle.script_session.specs.Told.{Told, failed_by}
 use Rattle.script_session.specs.declared.session.ScriptRun.{ScriptRun}
 use Rattle.seats.specs.Counting.{once_between, times}
 use Rattle.turn_lock.specs.Seats.{Known, TableId, first_seat}
 use Rattle.shared_chain.specs.declared.basis.Basis.{Basis}
-use Rattle.shared_chain.specs.declared.basis.Breach.{Breach}
+use Rattle.shared_chain.specs.declared.basis.Note.TheVariants as notes
 use Rattle.shared_chain.specs.declared.basis.Step.{Step}
 use Rattle.shared_chain.specs.Bases.{Contains, basis_of, notes_in}
 use Rattle.shared_chain.specs.Laws.{contains_itself}
-use Rattle.shared_chain.specs.Closing.{IsEnded, LeavesHistory}
+use Rattle.script_session.specs.Running.{IsEnded}
+use Rattle.shared_chain.specs.Closing.{LeavesHistory}
 use Rattle.shared_chain.specs.Faults.{CountsChange, EndsCounted}
 use Rattle.shared_chain.specs.Homes.{session_of}
 use Rattle.shared_chain.specs.Shared.{Shared}
@@ -32,8 +31,9 @@ use Rattle.shared_chain.specs.Steps.{steps_of}
 use Rattle.serve_session.specs.declared.actor.Actor.{Actor}
 use Rattle.serve_session.specs.Actors.{AreJoined, HasRun, first_basis}
 use Rattle.serve_session.specs.Lists.{AreActors, AreFresh, HasJoined, IsReady, RunsEach, with_splits}
-use Rattle.serve_session.specs.Served.{AreServed, EachGuest, IsTranscript, Outcome, all_told, guest_count}
+use Rattle.serve_session.specs.Served.{EachGuest, IsTranscript, Outcome, all_told, guest_count}
 use Rattle.serve_session.specs.Serving.{HasServed}
+use Rattle.serve_session.proofs.Filled.{ends_told, full_noted}
 use Rattle.serve_session.proofs.Joining.{all_run, fresh_ready, none_joined}
 use Rattle.serve_session.proofs.Ending.{faults_told, first_is, served_all, transcript_is, which}
 
@@ -74,7 +74,7 @@ module _ {S T : Type 0} (disk : S → Disk) where
 
   -- nobody was served
   pub none_served : (v : Shared (Chain S KeepAll T)) → v ≡ record { chain = v.first; first = v.first; full = None; spent = None; broke = None; fault = None } → v.first.recorder ≡ [] → (names : List (List ℕ)) (lines : List Line) (run : ScriptRun) (after : Disk)
-      → IfOk run.transcript (λ text. ⊥) → run.fault ≡ v.fault → EndsCounted (disk v.first.store) after v.fault run.closed → LeavesHistory (session_of disk v.first) v.chain.recorder v.broke run.closed after → HasServed disk v.first names lines run after
+      → IfOk run.transcript (λ text. ⊥) → run.fault ≡ v.fault → EndsCounted (disk v.first.store) after v.fault run.closed → LeavesHistory (session_of disk v.first) v.chain.recorder v.full v.broke run.closed after → HasServed disk v.first names lines run after
   none_served v fresh empty names lines run after none fault counted leaves = record {
     guests = replicate (guest_count lines) [];
     history = [];
@@ -95,8 +95,11 @@ module _ {S T : Type 0} (disk : S → Disk) where
       end = changed_end (disk v.first.store).files after run.closed counted.files counted.end;
       none = changed_none (disk v.first.store) after run.closed counted.none;
     };
-    leaves = subst (λ b. LeavesHistory (session_of disk v.first) [] b run.closed after) (ap (λ (s : Shared (Chain S KeepAll T)). s.broke) fresh)
-        (subst (λ h. LeavesHistory (session_of disk v.first) h v.broke run.closed after) (ap (λ (s : Shared (Chain S KeepAll T)). s.chain.recorder) fresh ∙ empty) leaves);
+    full = None;
+    ends = all_empty _ (guest_count lines);
+    leaves = subst (λ b. LeavesHistory (session_of disk v.first) [] None b run.closed after) (ap (λ (s : Shared (Chain S KeepAll T)). s.broke) fresh)
+        (subst (λ n. LeavesHistory (session_of disk v.first) [] n v.broke run.closed after) (ap (λ (s : Shared (Chain S KeepAll T)). s.full) fresh)
+        (subst (λ h. LeavesHistory (session_of disk v.first) h v.full v.broke run.closed after) (ap (λ (s : Shared (Chain S KeepAll T)). s.chain.recorder) fresh ∙ empty) leaves));
   }
     where
       none_of : {Z : Type 0} (P : String Z → Type 0) (r : Result (String Z) NoRoom) → IfOk r (λ text. ⊥) → IfOk r P
@@ -106,7 +109,7 @@ module _ {S T : Type 0} (disk : S → Disk) where
   -- all were
   pub all_served : (first : Chain S KeepAll T) (lock : TableId) (names : List (List ℕ)) (lines : List Line) (n : ℕ) (old seat : Known Step (Basis S T)) (told : List (List ToldCall)) (short : Bool) (j : HasJoined disk first lock names lines n old seat told short)
       → n ≡ guest_count lines → first.layers.geometry.sector ≡ 512 → (v : Shared (Chain S KeepAll T)) → steps_of v.chain.recorder v.broke ≡ seat.seen → Contains (basis_of disk v) seat.basis → ((p : ℕ) → times p seat.mine ≡ once_between p 1 (length seat.seen + 1))
-      → (run : ScriptRun) (after : Disk) → IsEnded (session_of disk v.chain) after run.closed → run.fault ≡ v.fault → EndsCounted (disk v.first.store) after v.fault run.closed → LeavesHistory (session_of disk v.first) v.chain.recorder v.broke run.closed after
+      → (run : ScriptRun) (after : Disk) → IsEnded (session_of disk v.chain) after run.closed → run.fault ≡ v.fault → EndsCounted (disk v.first.store) after v.fault run.closed → LeavesHistory (session_of disk v.first) v.chain.recorder v.full v.broke run.closed after
       → IfOk run.transcript (λ text. (short ≡ false) × (string_bytes text ≡ serve_text v.chain.recorder told)) → HasServed disk first names lines run after
   all_served first lock names lines n old seat told short j count sector v seen basis places run after ended fault counted leaves text =
       let same : v.first ≡ first = first_is disk first lock names lines seat told short j.guests j.joined v seen basis places in
@@ -123,5 +126,7 @@ module _ {S T : Type 0} (disk : S → Disk) where
         transcript = transcript_is disk first lock names lines seat told short j.guests j.joined v seen basis places run.transcript text;
         counted = subst (λ f. EndsCounted (disk first.store) after f run.closed) (sym fault) counted_first;
         faults = faults_told disk first lock names lines seat told short j.guests j.joined v seen basis places after run.closed ended counted_first;
-        leaves = subst (λ (c : Chain S KeepAll T). LeavesHistory (session_of disk c) v.chain.recorder v.broke run.closed after) same leaves;
+        full = v.full;
+        ends = ends_told disk first seat.seen seat.basis.notes v.full (λ next h. full_noted next (disk v.chain.store) v.chain.broken v.full v.spent (basis.notes (notes.Full next) h)) lines j.guests j.joined.heard;
+        leaves = subst (λ (c : Chain S KeepAll T). LeavesHistory (session_of disk c) v.chain.recorder v.full v.broke run.closed after) same leaves;
       }

@@ -1,6 +1,6 @@
 -- What a seat has heard of a guest's calls, as it sees more, and by one more call.
-use Rattle.std.proofs.Common.{◌≡◌, ◌⊎◌, ◌+◌, ◌-◌, ◌*◌, ◌/◌, ◌^◌, ◌<◌, ◌≤◌, ◌==◌, ◌++◌, ◌∷◌, ℕ, Bool, true, false, [], List, length, replicate, Option, Some, None, Result, Ok, Err, inl, inr, refl, sym, ap, ap₂, subst, ◌∙◌, arith, eqb-true, length-append, lt-ltb, leb-true, take}
-use Rattle.std.specs.Prelude.{◌&&◌, IfSome, MatchBool, OnOk, if◌then◌else◌, is_some, nat_le, nat_lt}
+use Rattle.std.proofs.Common.{◌≡◌, ◌⊎◌, ◌+◌, ◌*◌, ◌/◌, ◌^◌, ◌<◌, ◌≤◌, ◌==◌, ◌++◌, ◌∷◌, ℕ, Bool, true, false, [], List, length, replicate, Option, Some, None, Result, Ok, Err, inl, inr, refl, sym, ap, ap₂, subst, ◌∙◌, arith, eqb-true, length-append, lt-ltb, leb-true, take}
+use Rattle.std.specs.Prelude.{◌&&◌, IfSome, MatchBool, if◌then◌else◌, is_some, nat_le, nat_lt}
 use Rattle.std.proofs.lemmas.Bool.{ltb-true, ne_eqb}
 use Rattle.std.proofs.lemmas.List.{length-map, length-replicate}
 use Rattle.store_model.specs.Disk.{Disk}
@@ -22,23 +22,24 @@ use Rattle.seats.specs.Counting.{once_at, times}
 use Rattle.seats.proofs.Counting.{times-push}
 use Rattle.script.specs.declared.form.Form.{Form}
 use Rattle.script.specs.declared.form.Form.TheVariants.{Copy, Fetch, Finish, Flush, Put, Read, Trim, Write}
+use Rattle.script_session.specs.Answers.{too_long}
 use Rattle.turn_lock.specs.Histories.{StartsWith}
-use Rattle.turn_lock.specs.Seats.{Known, TableId}
+use Rattle.turn_lock.specs.Seats.{Known}
 use Rattle.turn_lock.proofs.Fronts.{starts-itself, starts-length, starts-through}
 use Rattle.shared_chain.specs.declared.basis.Basis.{Basis}
 use Rattle.shared_chain.specs.declared.basis.Breach.{Breach}
 use Rattle.shared_chain.specs.declared.basis.Note.{Note}
 use Rattle.shared_chain.specs.declared.basis.Note.TheVariants as notes
 use Rattle.shared_chain.specs.declared.basis.Step.{Step}
-use Rattle.shared_chain.specs.declared.basis.Step.TheVariants.{Broke, Done}
-use Rattle.shared_chain.specs.Answers.{IsCausedIn, RepliesBehind}
+use Rattle.shared_chain.specs.declared.basis.Step.TheVariants.{Done}
+use Rattle.shared_chain.specs.Answers.{RepliesBehind, StopsOver}
 use Rattle.shared_chain.specs.Bases.{Contains}
 use Rattle.shared_chain.specs.Laws.{contains_through}
 use Rattle.shared_chain.specs.Notes.{HasNote}
 use Rattle.shared_chain.specs.Steps.{breach_of, done_steps, open_by}
-use Rattle.guest_io.specs.Guests.{AddsNothing, Answers, HasBroken, IsCall, IsDone, IsFree, IsShown, caller_of}
-use Rattle.serve_session.specs.Actors.{AreHeard, BreaksAt, HasBreach, HasBreacher, HasHeard, HasPlace, IsHeard, IsHeardOf, OwnsAt, first_basis, first_notes}
-use Rattle.serve_session.specs.Asking.{IsAsked, IsTooLong, asks_too_many, count_of, emptied, is_want, outcome_of, reply_in, shown_in, too_long}
+use Rattle.guest_io.specs.Guests.{Answers, HasBroken, IsCall, IsDone, caller_of}
+use Rattle.serve_session.specs.Actors.{AreHeard, BreaksAt, HasBreacher, HasHeard, HasPlace, IsHeard, IsHeardOf, OwnsAt, first_basis}
+use Rattle.serve_session.specs.Asking.{IsAsked, asks_too_many, count_of, emptied, is_want, outcome_of, reply_in, shown_in}
 use Rattle.serve_session.specs.Served.{Has, IsRising, Outcome, call_of, entry_of, places_in}
 use Rattle.serve_session.proofs.Guests.{all_below, breaker_last, breaker_left, has_last, has_left, places_snoc, rising_snoc}
 
@@ -87,7 +88,7 @@ module _ {S T : Type 0} (disk : S → Disk) (first : Chain S KeepAll T) where
   heard_of_later noted more call ReadOnly k h = h
   heard_of_later noted more call (Broken file count) k h = k (notes.ChangeFailed file count) h
   heard_of_later noted more call (Spent t) k h = h
-  heard_of_later noted more call (FileFull next) k h = (h.0, k (notes.Full next) h.1)
+  heard_of_later noted more call (FileFull next) k h = (h.0, k (notes.Full next) h.1, h.2)
   heard_of_later noted more call (ReadFault file count) k h = (h.0, k (notes.ReadFailed file count) h.1, h.2)
   heard_of_later noted more call NoMerge k h = absurd h
   heard_of_later noted more call (Stale taken now) k h = absurd h
@@ -289,7 +290,8 @@ module _ {S T : Type 0} (disk : S → Disk) (first : Chain S KeepAll T) where
         by_call r (Err ReadOnly) a = stays ReadOnly (at_place (Some ReadOnly) (call_of form) a.1) a.0
         by_call r (Err (Broken file count)) a = broken (call_of form) own_opens file count a.1 a.0
         by_call r (Err (Spent t)) a = stays (Spent t) a.1.0 a.0
-        by_call r (Err (FileFull next)) a = stays (FileFull next) (at_place None (call_of form) a.1.0, a.1.1) a.0
+        by_call r (Err (FileFull next)) a =
+            stays (FileFull next) (at_place None (call_of form) a.1.0, a.1.1, subst (λ o. IfSome o (λ (chain : Chain S KeepAll T). StopsOver disk chain (call_of form) (FileFull next))) knows_now.first a.1.2) a.0
         by_call r (Err (ReadFault file count)) a =
             stays (ReadFault file count) (at_place None (call_of form) a.1.0, a.1.1, λ was. a.1.2 (hears.knows.notes (notes.ReadFailed file count) was)) a.0
         by_call r (Err NoMerge) a = absurd a.1

@@ -1,6 +1,6 @@
 -- Guests' seats are split from the first, and joined into it again.
-use Rattle.std.proofs.Common.{◌≡◌, ◌≢◌, ◌⊎◌, ◌+◌, ◌-◌, ◌<◌, ◌≤◌, ◌==◌, ◌++◌, ◌∷◌, ℕ, zero, suc, Bool, true, false, [], List, length, Option, None, Some, inl, inr, refl, sym, ap, ap₂, subst, ◌∙◌, arith, length-append}
-use Rattle.std.specs.Prelude.{◌||◌, All, get_or}
+use Rattle.std.proofs.Common.{◌≡◌, ◌≢◌, ◌⊎◌, ◌+◌, ◌-◌, ◌<◌, ◌++◌, ◌∷◌, ℕ, zero, suc, Bool, true, false, [], List, length, inl, inr, refl, sym, ap, ap₂, subst, ◌∙◌, arith, length-append}
+use Rattle.std.specs.Prelude.{◌||◌, All}
 use Rattle.std.proofs.lemmas.Bool.{cases_eq, or_parts}
 use Rattle.std.proofs.lemmas.List.Elements.{All-cons}
 use Rattle.store_model.specs.Disk.{Disk}
@@ -13,7 +13,7 @@ use Rattle.seats.specs.Families.{with_join, with_split}
 use Rattle.seats.specs.declared.Family.{Family}
 use Rattle.seats.proofs.Counting.{times-append}
 use Rattle.turn_lock.specs.Histories.{StartsWith}
-use Rattle.turn_lock.specs.Seats.{Known, TableId, first_seat, split_off, together_of}
+use Rattle.turn_lock.specs.Seats.{Known, TableId, together_of}
 use Rattle.shared_chain.specs.declared.basis.Basis.{Basis}
 use Rattle.shared_chain.specs.declared.basis.Step.{Step}
 use Rattle.shared_chain.specs.Bases.{Contains, together}
@@ -21,7 +21,7 @@ use Rattle.shared_chain.specs.Laws.{contains_through}
 use Rattle.guest_io.specs.Guests.{IsFree}
 use Rattle.serve_session.specs.declared.actor.Actor.{Actor}
 use Rattle.serve_session.specs.Actors.{AreHeard, AreJoined, HasHeard, HasRun, IsActor, OwnsAt, first_basis}
-use Rattle.serve_session.specs.Lists.{AreActors, AreFresh, HasJoined, IsFresh, IsReady, RunsEach, with_splits}
+use Rattle.serve_session.specs.Lists.{AreActors, AreFresh, IsFresh, IsReady, RunsEach, with_splits}
 use Rattle.serve_session.specs.Served.{EachGuest, IsRising, Outcome, SomeGuest, forms_of, places_in, told_calls, told_guests}
 use Rattle.serve_session.proofs.Guests.{each_map, each_snoc, some_last, some_left, some_map, told_guests_snoc}
 use Rattle.serve_session.proofs.Hearing.{all_heard_later, owns_still}

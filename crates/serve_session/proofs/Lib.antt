@@ -3,6 +3,7 @@ mod Hearing
 mod Stepping
 mod Joining
 mod Ending
+mod Filled
 mod Final
 mod Sessions
 mod Sending

@@ -1,9 +1,9 @@
 -- A session with several guests, from its start to its end.
-use Rattle.std.proofs.Common.{◌≡◌, ◌≢◌, ◌==◌, ◌||◌, ℕ, Bool, true, false, List, [], ◌∷◌, drop, length, take, Option, Some, None, Result, Ok, Err, inr, refl, sym, ap, ap₂, subst, ◌∙◌, ne_eqb}
-use Rattle.std.specs.Prelude.{IfErr, IfOk, IfSome, OnOk, is_some}
+use Rattle.std.proofs.Common.{◌≡◌, ◌==◌, ◌||◌, ℕ, Bool, true, false, List, [], ◌∷◌, Option, Some, None, Result, Ok, Err, inr, refl, sym, ap, ap₂, subst, ◌∙◌, ne_eqb}
+use Rattle.std.specs.Prelude.{IfErr, is_some}
 use Rattle.std.proofs.lemmas.Bool.{or_from, or_parts}
 use Rattle.std.proofs.lemmas.Result.{on_ok_weaker}
-use Rattle.store_model.specs.Disk.{Disk, WhereBothTold, WhereTold}
+use Rattle.store_model.specs.Disk.{Disk, WhereBothTold}
 use Rattle.store_model.specs.File.{is_synced, seen}
 use Rattle.store_model.specs.Trace.{Trace, file_of}
 use Rattle.store_model.specs.declared.fault.StoreFault.{StoreFault}
@@ -20,23 +20,23 @@ use Rattle.merge_plan.specs.Attached.{CanStart}
 use Rattle.chain_core.specs.declared.chain.Chain.{Chain}
 use Rattle.chain_core.specs.declared.starting.Mode.TheVariants.{Guests}
 use Rattle.chain_core.specs.Starting.{HasStarted, IsOfDisk, StartsWith, opening_disk, started, under, way_to}
-use Rattle.chain_core.specs.States.{IsServing, State, dirty_now, disk_now, sector_of}
+use Rattle.chain_core.specs.States.{IsServing, State, sector_of}
 use Rattle.script.specs.declared.form.Line.{Line}
 use Rattle.script_session.specs.Faults.{Counts, FaultsAreTold}
-use Rattle.script_session.specs.Histories.{Break, Drive, disk_after}
-use Rattle.script_session.specs.Running.{IsAtRest, drive_of, open_by, open_last}
+use Rattle.script_session.specs.Histories.{IsSoLong, disk_after}
+use Rattle.script_session.specs.Running.{drive_of, open_by, open_last}
 use Rattle.script_session.specs.Told.{failed_by, sector_size}
 use Rattle.script_session.specs.declared.session.ScriptRun.{ScriptRun}
+use Rattle.script_session.proofs.Lengths.{ends_later}
 use Rattle.script_session.proofs.Scripts.{past_as}
-use Rattle.shared_chain.specs.declared.basis.Breach.{Breach}
 use Rattle.shared_chain.proofs.Breaking.{past_wider, wider}
 use Rattle.shared_chain.specs.Closing.{HasLeft}
 use Rattle.shared_chain.specs.Faults as shared
-use Rattle.shared_chain.specs.Homes.{session_of}
 use Rattle.shared_chain.specs.Steps.{open_by as opens_by}
 use Rattle.serve_session.specs.Running.{HasRunServe, HasServedFiles, HaveServed}
-use Rattle.serve_session.specs.Served.{AreServed, Outcome, all_told}
-use Rattle.serve_session.specs.Serving.{HasServed, drive_from}
+use Rattle.serve_session.specs.Served.{AreServed, all_told}
+use Rattle.serve_session.specs.Serving.{HasServed, IsUpTo, drive_from}
+use Rattle.serve_session.proofs.Filled.{long_up}
 
 -- ---- what is left of the files
 
@@ -68,7 +68,7 @@ module _ {S T : Type 0} (disk : S → Disk) (first : Chain S KeepAll T) (names :
     served : AreServed (drive_of Guests leaf others trace) lines h.guests h.history (failed_by run.closed) h.broken
     served = subst (λ d. AreServed d lines h.guests h.history (failed_by run.closed) h.broken) drive_is (h.served mid mid_is from serving refl)
 
-    module _ (now : Trace) (left : HasLeft (is_some first.layers.leaf) from h.history h.breach run.closed now) where
+    module _ (now : Trace) (left : HasLeft (is_some first.layers.leaf) from h.history h.full h.breach run.closed now) where
       to_size : sector_of left.to ≡ sector_size
       to_size = left.comes.sector ∙ size
 
@@ -81,6 +81,7 @@ module _ {S T : Type 0} (disk : S → Disk) (first : Chain S KeepAll T) (names :
         last = wider (way_to leaf (leaf ∷ others) None) (λ s. is_dirty sector_size h.history s || opens_by h.breach s) (open_last h.history h.broken) (disk_after (drive_of Guests leaf others trace) h.history) now
             (λ s apart. let parts = or_parts (is_dirty sector_size h.history s) (open_by h.broken s) apart in or_from (is_dirty sector_size h.history s) (opens_by h.breach s) parts.0 (h.opens s parts.1))
             (last_as (sector_of left.to) sector_size left.to.opening (opening_disk trace (leaf ∷ others)) left.to.leaf (way_to leaf (leaf ∷ others) None) left.to.history h.history now to_size left.comes.opening left.comes.leaf left.comes.history (opens_by h.breach) left.last);
+        full = ends_later (IsUpTo h.full) (IsSoLong (λ n. n == 0) now) (long_up h.full (λ n. n == 0) now left.long) (all_told h.guests) h.ends;
         still = λ other apart.
             left.still other (ap (λ (w : ℕ → Bool). w other) left.comes.writes ∙ ne_eqb other 0 apart) ∙ ap (λ t. file_of t other) left.comes.since;
         at_rest = on_ok_weaker run.closed (λ w. record {
@@ -96,7 +97,7 @@ module _ {S T : Type 0} (disk : S → Disk) (first : Chain S KeepAll T) (names :
   have = go old.told (disk first.store).told refl begun.1.serving after.told h.leaves
     where
       go : (a b : Option Trace) → (disk first.store).told ≡ b → StartsWith (under begun.1.ids) (leaf ∷ others) first.layers a b → (c : Option Trace)
-          → WhereBothTold (λ trace now. (from : State) → IsServing first.layers from trace → from.history ≡ [] → HasLeft (is_some first.layers.leaf) from h.history h.breach run.closed now) b c
+          → WhereBothTold (λ trace now. (from : State) → IsServing first.layers from trace → from.history ≡ [] → HasLeft (is_some first.layers.leaf) from h.history h.full h.breach run.closed now) b c
           → WhereBothTold (HaveServed (leaf ∷ others) lines h.guests h.history h.broken run.closed) a c
       go None None e s None l = tt
       go None None e s (Some c) l = absurd l
@@ -104,13 +105,6 @@ module _ {S T : Type 0} (disk : S → Disk) (first : Chain S KeepAll T) (names :
       go (Some a) None e s c l = absurd s
       go (Some a) (Some b) e s None l = absurd l
       go (Some a) (Some b) e s (Some c) l = files a b e s c (l (started a leaf others (under begun.1.ids leaf.parts)) s refl)
-
-  counts_as : (f : StoreFault) → shared.Counts after f → Counts after f
-  counts_as f c = record { within = c.within; some = c.some; counted = c.counted }
-
-  if_some : (o : Option StoreFault) → IfSome o (shared.Counts after) → IfSome o (Counts after)
-  if_some None c = tt
-  if_some (Some f) c = counts_as f c
 
   if_err : (r : Result (Unit {0}) StoreFault) → IfErr r (shared.CountsChange after) → IfErr r (Counts after)
   if_err (Ok done) c = tt
@@ -124,7 +118,7 @@ module _ {S T : Type 0} (disk : S → Disk) (first : Chain S KeepAll T) (names :
     count = h.count;
     transcript = h.transcript;
     drawn = (begun.0, begun.1.ids, begun.1.fit);
-    counted = if_some run.fault h.counted.last;
+    counted = h.counted.last;
     ended = if_err run.closed h.counted.end;
     quiet = λ none. on_ok_weaker run.closed (λ same. counts_join old (disk first.store) after begun.1.counts same) (h.counted.quiet none);
     faults =

@@ -1,9 +1,8 @@
 -- A guest of a script, behind one of its lines.
-use Rattle.std.proofs.Common.{◌≡◌, ◌+◌, ◌^◌, ◌<◌, ◌++◌, ◌∷◌, ℕ, Bool, true, false, [], List, length, Option, None, Result, refl, sym, ap, subst, ◌∙◌, arith, length-append}
+use Rattle.std.proofs.Common.{◌≡◌, ◌+◌, ◌^◌, ◌<◌, ◌++◌, ◌∷◌, ℕ, Bool, true, false, [], List, length, Result, refl, sym, ap, subst, ◌∙◌, length-append}
 use Rattle.std.specs.Prelude.{◌||◌, MatchBool, if◌then◌else◌, not}
 use Rattle.std.proofs.lemmas.List.{append-nil}
 use Rattle.store_model.specs.Disk.{Disk}
-use Rattle.guest_model.specs.declared.call.Call.{Call}
 use Rattle.guest_model.specs.declared.call.Caller.{Caller}
 use Rattle.guest_model.specs.declared.call.Reply.{Reply}
 use Rattle.guest_model.specs.declared.recorder.KeepAll.{KeepAll}
@@ -13,6 +12,7 @@ use Rattle.chain_core.specs.declared.chain.Chain.{Chain}
 use Rattle.layer_session.proofs.Equal.{true_false}
 use Rattle.script.specs.Grammar.{is_call}
 use Rattle.script.specs.declared.form.Form.{Form}
+use Rattle.script_session.specs.Answers.{too_long}
 use Rattle.turn_lock.specs.Seats.{Known, TableId}
 use Rattle.turn_lock.proofs.Fronts.{starts-itself}
 use Rattle.shared_chain.specs.declared.basis.Basis.{Basis}
@@ -21,7 +21,7 @@ use Rattle.shared_chain.specs.Laws.{contains_itself}
 use Rattle.guest_io.specs.Guests.{IsCall, IsFree, KeepsSeat, caller_of}
 use Rattle.serve_session.specs.declared.actor.Actor.{Actor}
 use Rattle.serve_session.specs.Actors.{HasHeard, HasKept, IsActor, called_form}
-use Rattle.serve_session.specs.Asking.{IsAsked, asks_too_many, count_of, emptied, is_want, outcome_of, reply_in, shown_in, too_long}
+use Rattle.serve_session.specs.Asking.{IsAsked, asks_too_many, count_of, emptied, is_want, outcome_of, reply_in, shown_in}
 use Rattle.serve_session.specs.Served.{Outcome, call_of, told_call}
 use Rattle.serve_session.proofs.Guests.{told_snoc}
 use Rattle.serve_session.proofs.Hearing.{asked_kept, next_one, nothing_more}

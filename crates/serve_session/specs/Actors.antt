@@ -1,5 +1,5 @@
 -- What a guest of a script has done so far, by its seat and what it was told.
-use Rattle.std.specs.Prelude.{◌≡◌, ◌⊎◌, ◌+◌, ◌-◌, ◌^◌, ◌<◌, ◌≤◌, ⊤, ℕ, Bool, false, true, List, [], ◌∷◌, ◌++◌, if◌then◌else◌, length, Option, Some, None, Result, Ok, Err}
+use Rattle.std.specs.Prelude.{◌≡◌, ◌⊎◌, ◌+◌, ◌-◌, ◌^◌, ◌<◌, ◌≤◌, ⊤, ℕ, Bool, false, true, List, [], ◌∷◌, ◌++◌, if◌then◌else◌, length, Some, None, Ok, Err}
 use Rattle.store_model.specs.Disk.{Disk}
 use Rattle.guest_model.specs.declared.call.Call.{Call}
 use Rattle.guest_model.specs.declared.recorder.KeepAll.{KeepAll}
@@ -24,7 +24,7 @@ use Rattle.shared_chain.specs.declared.basis.Note.{Note}
 use Rattle.shared_chain.specs.declared.basis.Note.TheVariants as notes
 use Rattle.shared_chain.specs.declared.basis.Step.{Step}
 use Rattle.shared_chain.specs.declared.basis.Step.TheVariants.{Broke, Done}
-use Rattle.shared_chain.specs.Answers.{RepliesBehind}
+use Rattle.shared_chain.specs.Answers.{RepliesBehind, StopsOver}
 use Rattle.shared_chain.specs.Bases.{Contains, notes_in}
 use Rattle.shared_chain.specs.Notes.{HasNote}
 use Rattle.shared_chain.specs.Steps.{done_steps, open_by}
@@ -70,7 +70,7 @@ module _ {S T : Type 0} (disk : S → Disk) (first : Chain S KeepAll T) where
   IsHeardOf noted call refusals.ReadOnly = misplaced call first.layers ≡ Some refusals.ReadOnly
   IsHeardOf noted call (refusals.Broken file count) = HasNote noted (notes.ChangeFailed file count)
   IsHeardOf noted call (refusals.Spent t) = 2 ^ 63 ≤ t
-  IsHeardOf noted call (refusals.FileFull next) = (misplaced call first.layers ≡ None) × HasNote noted (notes.Full next)
+  IsHeardOf noted call (refusals.FileFull next) = (misplaced call first.layers ≡ None) × HasNote noted (notes.Full next) × StopsOver disk first call (refusals.FileFull next)
   IsHeardOf noted call (refusals.ReadFault file count) =
       (misplaced call first.layers ≡ None) × HasNote noted (notes.ReadFailed file count) × (HasNote first_notes (notes.ReadFailed file count) → 2 ^ 64 - 1 ≤ count)
   IsHeardOf noted call other = ⊥

@@ -1,5 +1,5 @@
 -- What a guest's line asks for, and what the call tells it.
-use Rattle.std.specs.Prelude.{◌≡◌, ◌*◌, if◌then◌else◌, ⊤, ℕ, Bool, false, true, nat_lt, List, [], take, MatchBool, Option, Some, None, Result, Ok, Err}
+use Rattle.std.specs.Prelude.{◌≡◌, ◌*◌, if◌then◌else◌, ℕ, Bool, false, true, nat_lt, List, [], take, MatchBool, Option, Some, None, Result, Ok, Err}
 use Rattle.store_model.specs.Disk.{Disk}
 use Rattle.guest_model.specs.declared.call.Call.{Call}
 use Rattle.guest_model.specs.declared.call.Call.TheVariants as calls
@@ -13,14 +13,10 @@ use Rattle.shared_chain.specs.declared.basis.Basis.{Basis}
 use Rattle.shared_chain.specs.declared.basis.Step.{Step}
 use Rattle.guest_io.specs.Guests.{IsCall}
 use Rattle.script.specs.declared.form.Form.{Form}
-use Rattle.script.specs.declared.form.Form.TheVariants.{Copy, Fetch, Finish, Flush, Put, Read, Trim, Write}
+use Rattle.script.specs.declared.form.Form.TheVariants.{Read, Write}
 use Rattle.script.specs.Transcript.{LineReply, of_call}
+use Rattle.script_session.specs.Answers.{too_long}
 use Rattle.serve_session.specs.Served.{Outcome, call_of}
-
--- the call is refused for its range alone once it is made with no sectors
-abbrev pub too_long : ℕ → Result ℕ ChainRefusal → Result ℕ ChainRefusal
-too_long count (Err refusals.EmptyRange) = Err (refusals.TooLong count 2048)
-too_long count other = other
 
 -- a line asks for more sectors than a read or a write may name
 abbrev pub asks_too_many : Form → Bool

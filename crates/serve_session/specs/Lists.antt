@@ -5,7 +5,6 @@ use Rattle.guest_model.specs.declared.recorder.KeepAll.{KeepAll}
 use Rattle.chain_core.specs.declared.chain.Chain.{Chain}
 use Rattle.script.specs.declared.form.Line.{Line}
 use Rattle.script.specs.declared.told.ToldCall.{ToldCall}
-use Rattle.seats.specs.declared.Family.{Family}
 use Rattle.turn_lock.specs.Seats.{Known, TableId, split_off}
 use Rattle.shared_chain.specs.declared.basis.Basis.{Basis}
 use Rattle.shared_chain.specs.declared.basis.Step.{Step}

@@ -1,5 +1,6 @@
 -- What a session with several guests does to the files of a chain, from its start to its end.
-use Rattle.std.specs.Prelude.{◌≡◌, ◌≢◌, ⊤, ℕ, List, [], ◌∷◌, length, string_bytes, Option, None, Result, IfErr, IfOk, IfSome, OnOk}
+use Rattle.std.specs.Prelude.{◌≡◌, ◌≢◌, ◌==◌, ⊤, ℕ, List, [], ◌∷◌, length, string_bytes, Option, None, Result, IfErr, IfOk, IfSome, OnOk}
+use Rattle.std.specs.List.{AllByRecursion}
 use Rattle.store_model.specs.Disk.{Disk, WhereBothTold}
 use Rattle.store_model.specs.Trace.{Trace, file_of}
 use Rattle.store_model.specs.declared.fault.StoreFault.{StoreFault}
@@ -10,18 +11,20 @@ use Rattle.chain_core.specs.Starting.{opening_disk, way_to}
 use Rattle.chain_core.specs.declared.starting.Mode.TheVariants.{Guests}
 use Rattle.script.specs.declared.form.Line.{Line}
 use Rattle.script_session.specs.Faults.{Counts, FaultsAreTold}
-use Rattle.script_session.specs.Histories.{Break, disk_after}
+use Rattle.script_session.specs.Histories.{Break, IsEndTold, IsSoLong, disk_after}
 use Rattle.script_session.specs.Running.{DrawsFor, IsAtRest, drive_of, open_by, open_last}
 use Rattle.script_session.specs.Told.{failed_by, sector_size}
 use Rattle.script_session.specs.declared.session.ScriptRun.{ScriptRun}
 use Rattle.serve_session.specs.Served.{AreServed, IsTranscript, Outcome, all_told, guest_count}
 
 -- What stands behind guests that were told so, over the files of a store. At each moment each image opens from the leaf's name to the disk of
--- a prefix of the history, outside the sectors that are open then, and at the end to that of all. No file but the leaf was changed.
+-- a prefix of the history, outside the sectors that are open then, and at the end to that of all. Where a call is told that the leaf is full,
+-- it is so long. No file but the leaf was changed.
 pub record HasServedFiles (leaf : LinkedFile) (others : List LinkedFile) (lines : List Line) (guests : List (List Outcome)) (history : History) (broken : Option Break) (closed : Result (Unit {0}) StoreFault) (trace now : Trace) : Type 0 where
   pub served : AreServed (drive_of Guests leaf others trace) lines guests history (failed_by closed) broken
   pub moments : EachOpensToPrefix sector_size (opening_disk trace (leaf ∷ others)) history (open_by broken) (way_to leaf (leaf ∷ others) None) trace now
   pub last : EachOpens (way_to leaf (leaf ∷ others) None) (open_last history broken) (disk_after (drive_of Guests leaf others trace) history) now
+  pub full : AllByRecursion (IsEndTold (IsSoLong (λ n. n == 0) now)) (all_told guests)
   pub still : (other : ℕ) → other ≢ 0 → file_of now other ≡ file_of trace other
   pub at_rest : OnOk closed (IsAtRest (way_to leaf (leaf ∷ others) None) (drive_of Guests leaf others trace) history now)
 

@@ -1,6 +1,6 @@
 -- What a script of several guests is told over one disk: there is one history of the calls that were done, and each call is told its
 -- reply at its place (profile).
-use Rattle.std.specs.Prelude.{◌≡◌, ◌⊎◌, ◌^◌, ◌+◌, ◌*◌, ◌<◌, ◌≤◌, ◌==◌, ◌&&◌, if◌then◌else◌, ⊤, ℕ, false, List, [], ◌∷◌, ◌++◌, length, map, max, min, replicate, Option, Some, None, Result, Ok, Err, IfSome}
+use Rattle.std.specs.Prelude.{◌≡◌, ◌⊎◌, ◌^◌, ◌+◌, ◌*◌, ◌<◌, ◌≤◌, ◌==◌, ◌&&◌, if◌then◌else◌, ⊤, ℕ, List, [], ◌∷◌, ◌++◌, length, map, max, min, replicate, Option, Some, None, Result, Ok, Err, IfSome}
 use Rattle.std.specs.List.{AllByRecursion, flat_map}
 use Rattle.store_model.specs.declared.fault.StoreFault.{StoreFault}
 use Rattle.guest_model.specs.declared.call.Call.{Call}
@@ -14,11 +14,11 @@ use Rattle.guest_model.specs.History.{History, replay}
 use Rattle.chain_core.specs.Refusing.{barred, out_of, range_of}
 use Rattle.script.specs.Grammar.{is_call}
 use Rattle.script.specs.declared.form.Form.{Form}
-use Rattle.script.specs.declared.form.Form.TheVariants.{Copy, Fetch, Finish, Flush, Put, Read, Trim, Write}
+use Rattle.script.specs.declared.form.Form.TheVariants.{Read, Trim, Write}
 use Rattle.script.specs.declared.form.Line.{Line}
 use Rattle.script.specs.declared.told.ToldCall.{ToldCall}
 use Rattle.script.specs.Transcript.{answered, of_call, serve_text}
-use Rattle.script_session.specs.Histories.{Break, Drive}
+use Rattle.script_session.specs.Histories.{Break, Drive, Stops}
 use Rattle.script_session.specs.Told.{Told, sector_size}
 use Rattle.turn_lock.specs.Histories.{StartsWith}
 
@@ -104,13 +104,13 @@ abbrev pub misplaced : Drive → Call → Option ChainRefusal
 misplaced drive call = out_of (range_of drive.geometry call) (barred call drive.can_change)
 
 -- What refuses a call: it is misplaced; the count of events, or of turns, is used up; a change of the leaf has failed, which has broken the
--- session for all; or, of a call that isn't misplaced, a read of a file failed, or the file is full.
+-- session for all; or, of a call that isn't misplaced, a read of a file failed, or the file is full, which stops it as a line of `steps`.
 pub data IsRefused (drive : Drive) (broken : Option StoreFault) (call : Call) : ChainRefusal → Type 0 where
   is_misplaced : (e : ChainRefusal) → misplaced drive call ≡ Some e → IsRefused drive broken call e
   is_spent : (t : ℕ) → 2 ^ 63 ≤ t → IsRefused drive broken call (refusals.Spent t)
   is_broken : (fault : StoreFault) → broken ≡ Some fault → IsRefused drive broken call (refusals.Broken fault.file fault.count)
   is_unread : (file count : ℕ) → misplaced drive call ≡ None → IsRefused drive broken call (refusals.ReadFault file count)
-  is_full : (next : ℕ) → misplaced drive call ≡ None → IsRefused drive broken call (refusals.FileFull next)
+  is_full : (next : ℕ) → misplaced drive call ≡ None → Stops call (refusals.FileFull next) → IsRefused drive broken call (refusals.FileFull next)
 
 abbrev pub entry_of : ℕ → ℕ → Call → Entry
 entry_of guest number call = record { guest = guest; no = number; call = call }

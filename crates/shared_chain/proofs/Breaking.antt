@@ -1,5 +1,5 @@
 -- What broke a session, and what a crash may leave of one that is broken.
-use Rattle.std.proofs.Common.{◌≡◌, ◌+◌, ◌&&◌, ◌||◌, ℕ, Bool, true, false, List, [], ◌∷◌, drop, length, take, Option, Some, None, Result, Ok, Err, refl, sym, ap, subst, ◌∙◌, arith}
+use Rattle.std.proofs.Common.{◌≡◌, ◌+◌, ◌&&◌, ◌||◌, ℕ, Bool, true, false, [], ◌∷◌, drop, length, take, Option, Some, None, Err, refl, sym, ap, subst, ◌∙◌, arith}
 use Rattle.std.specs.Prelude.{◌/◌, is_some, nat_le, nat_lt}
 use Rattle.std.proofs.lemmas.Bool.{or_from, or_parts}
 use Rattle.store_model.specs.Trace.{EachMoment, Trace, moment}
@@ -14,10 +14,11 @@ use Rattle.guest_model.specs.Calls.{Disk, is_named}
 use Rattle.guest_model.specs.History.{History, is_dirty}
 use Rattle.chain_model.specs.Members.{Way}
 use Rattle.chain_model.specs.Moments.{EachOpens, EachOpensToPrefix, is_next, is_open}
-use Rattle.layer_session.proofs.Equal.{false_true, some_same}
+use Rattle.layer_session.proofs.Equal.{false_true}
 use Rattle.chain_core.specs.Sessions.{Session}
 use Rattle.shared_chain.specs.declared.basis.Breach.{Breach}
 use Rattle.shared_chain.specs.Faults.{fault_after}
+use Rattle.shared_chain.specs.Notes.{full_after}
 use Rattle.shared_chain.specs.Steps.{breach_of, broke_after, first_breach, open_by}
 use Rattle.shared_chain.proofs.Refusals.{Early, IsPlaceRefusal, is_broken, is_misplaced, is_spent}
 
@@ -85,18 +86,18 @@ one_broke : (broke : Option Breach) (b : Breach) → is_some broke ≡ true → 
 one_broke None b some = absurd (false_true some)
 one_broke (Some earlier) b some = refl
 
--- a call that is refused before it reaches the files changes neither what broke the session nor the last fault
-pub early_same : (call : Call) (s : Session) (x : ChainRefusal) (broke : Option Breach) (fault : Option StoreFault) (b : Breach) → Early call s x → is_some broke ≡ is_some s.broken → ((f : StoreFault) → s.broken ≡ Some f → fault ≡ Some f)
-    → (broke_after broke b (Err x) ≡ broke) × (fault_after fault (Err x) ≡ fault)
-early_same call s _ broke fault b (is_spent many) same told = (refl, refl)
-early_same call s _ broke fault b (is_broken f is) same told = (one_broke broke b (same ∙ ap (λ (o : Option StoreFault). is_some o) is), sym (told f is))
-early_same call s _ broke fault b (is_misplaced x is kind) same told = at_place x kind
+-- a call that is refused before it reaches the files changes neither what broke the session nor the last fault, nor is it refused for want of room
+pub early_same : (call : Call) (s : Session) (x : ChainRefusal) (full : Option ℕ) (broke : Option Breach) (fault : Option StoreFault) (b : Breach) → Early call s x → is_some broke ≡ is_some s.broken → ((f : StoreFault) → s.broken ≡ Some f → fault ≡ Some f)
+    → (broke_after broke b (Err x) ≡ broke) × (fault_after fault (Err x) ≡ fault) × (full_after full (Err x) ≡ full)
+early_same call s _ full broke fault b (is_spent many) same told = (refl, refl, refl)
+early_same call s _ full broke fault b (is_broken f is) same told = (one_broke broke b (same ∙ ap (λ (o : Option StoreFault). is_some o) is), sym (told f is), refl)
+early_same call s _ full broke fault b (is_misplaced x is kind) same told = at_place x kind
   where
-    at_place : (x : ChainRefusal) → IsPlaceRefusal x → (broke_after broke b (Err x) ≡ broke) × (fault_after fault (Err x) ≡ fault)
-    at_place EmptyRange is = (refl, refl)
-    at_place (OutOfRange a c d) is = (refl, refl)
-    at_place (TooLong a c) is = (refl, refl)
-    at_place ReadOnly is = (refl, refl)
+    at_place : (x : ChainRefusal) → IsPlaceRefusal x → (broke_after broke b (Err x) ≡ broke) × (fault_after fault (Err x) ≡ fault) × (full_after full (Err x) ≡ full)
+    at_place EmptyRange is = (refl, refl, refl)
+    at_place (OutOfRange a c d) is = (refl, refl, refl)
+    at_place (TooLong a c) is = (refl, refl, refl)
+    at_place ReadOnly is = (refl, refl, refl)
     at_place (Broken file count) is = absurd is
     at_place (Spent t) is = absurd is
     at_place (FileFull next) is = absurd is

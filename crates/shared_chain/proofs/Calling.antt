@@ -21,13 +21,15 @@ use Rattle.store_model.specs.declared.fault.StoreFault.{StoreFault}
 use Rattle.shared_chain.specs.declared.basis.Breach.{Breach}
 use Rattle.shared_chain.specs.Faults.{fault_after}
 use Rattle.shared_chain.specs.Steps.{breach_of, broke_after}
-use Rattle.shared_chain.specs.Answers.{Answered, HasCauseOf, IsBroke, IsCalled, IsCausedIn, IsEntered, RepliesBehind}
+use Rattle.script_session.specs.Answers.{HasCauseOf}
+use Rattle.shared_chain.specs.Answers.{Answered, IsBroke, IsCalled, IsCausedIn, IsEntered, RepliesBehind}
 use Rattle.shared_chain.specs.Bases.{notes_in}
 use Rattle.shared_chain.specs.Homes.{IsHome, session_of}
 use Rattle.shared_chain.specs.Shared.{Shared}
 use Rattle.shared_chain.specs.Notes.{NotesBy, full_after, spent_after}
 use Rattle.shared_chain.proofs.Causing.{early_caused, reached_caused, same_place}
 use Rattle.shared_chain.proofs.Breaking.{none_broke}
+use Rattle.shared_chain.proofs.Filling.{stops_over}
 use Rattle.shared_chain.proofs.Homing.{replied, still_home}
 use Rattle.shared_chain.proofs.Noting.{IsChange, noted}
 use Rattle.shared_chain.proofs.Reaching.{reached, reached_change_is}
@@ -88,14 +90,16 @@ module _ {S T : Type 0} (disk : S → Disk) (old new : Chain S KeepAll T) where
             let e = subst (λ o. IfSome o (λ x. (answer ≡ Err x) × (after ≡ record before { events = counted before.events }))) is a.early in
             no_entry (entry who call) answer x e.0 (kept_list old.recorder new.recorder (ap (λ (s : Session). s.told) e.1))
 
-    module _ (first : Chain S KeepAll T) (broke : Option Breach) (fault : Option StoreFault) (home : IsHome (session_of disk first) before old.recorder broke fault) where
-      pub home_after : IsHome (session_of disk first) after new.recorder (broke_after broke (breach_of who call) answer) (fault_after fault answer)
-      home_after = still_home (session_of disk first) before after old.recorder new.recorder broke fault who call answer home a refl entered
+    module _ (first : Chain S KeepAll T) (old_full : Option ℕ) (broke : Option Breach) (fault : Option StoreFault) (home : IsHome (session_of disk first) before old.recorder old_full broke fault) where
+      pub home_after : IsHome (session_of disk first) after new.recorder (full_after old_full answer) (broke_after broke (breach_of who call) answer) (fault_after fault answer)
+      home_after = still_home (session_of disk first) before after old.recorder new.recorder old_full broke fault who call answer home a refl entered
 
-      pub home_as : (broke' : Option Breach) (fault' : Option StoreFault) → broke' ≡ broke_after broke (breach_of who call) answer → fault' ≡ fault_after fault answer → IsHome (session_of disk first) after new.recorder broke' fault'
-      home_as broke' fault' broke_is fault_is =
-          subst (λ f. IsHome (session_of disk first) after new.recorder broke' f) (sym fault_is)
-          (subst (λ b. IsHome (session_of disk first) after new.recorder b (fault_after fault answer)) (sym broke_is) home_after)
+      pub home_as : (full' : Option ℕ) (broke' : Option Breach) (fault' : Option StoreFault) → full' ≡ full_after old_full answer → broke' ≡ broke_after broke (breach_of who call) answer → fault' ≡ fault_after fault answer
+          → IsHome (session_of disk first) after new.recorder full' broke' fault'
+      home_as full' broke' fault' full_is broke_is fault_is =
+          subst (λ f. IsHome (session_of disk first) after new.recorder full' broke' f) (sym fault_is)
+          (subst (λ b. IsHome (session_of disk first) after new.recorder full' b (fault_after fault answer)) (sym broke_is)
+          (subst (λ n. IsHome (session_of disk first) after new.recorder n (broke_after broke (breach_of who call) answer) (fault_after fault answer)) (sym full_is) home_after))
 
       -- what has broken it
       is_broke : IsBroke (breach_of who call) broke (broke_after broke (breach_of who call) answer) answer
@@ -119,26 +123,28 @@ module _ {S T : Type 0} (disk : S → Disk) (old new : Chain S KeepAll T) where
               subst (λ r. IsChange r before.disk after.disk before.broken after.broken) (sym e.0)
               (subst (λ (s : Session). IsChange (Err x) before.disk s.disk before.broken s.broken) (sym e.1) (early_change call before x (early call before x is)))
 
-      module _ (old_full old_spent full spent : Option ℕ) (is_full : full ≡ full_after old_full answer) (is_spent : spent ≡ spent_after old_spent answer) where
+      module _ (old_spent full spent : Option ℕ) (is_full : full ≡ full_after old_full answer) (is_spent : spent ≡ spent_after old_spent answer) where
         notes_by : NotesBy answer (notes_in before.disk before.broken old_full old_spent) (notes_in after.disk after.broken full spent)
         notes_by =
             subst (λ f. NotesBy answer (notes_in before.disk before.broken old_full old_spent) (notes_in after.disk after.broken f spent)) (sym is_full)
             (subst (λ s. NotesBy answer (notes_in before.disk before.broken old_full old_spent) (notes_in after.disk after.broken (full_after old_full answer) s)) (sym is_spent)
             (noted before.disk after.disk before.broken after.broken old_full old_spent answer changes))
 
-        caused : IsCausedIn call (record { first = Some first; notes = notes_in before.disk before.broken old_full old_spent }) (record { first = Some first; notes = notes_in after.disk after.broken full spent }) answer
+        caused : IsCausedIn disk call (record { first = Some first; notes = notes_in before.disk before.broken old_full old_spent }) (record { first = Some first; notes = notes_in after.disk after.broken full spent }) answer
         caused = go (refused call before) refl
           where
             place : misplaced call first.layers ≡ misplaced call old.layers
             place = same_place call old.layers first.layers home.geometry home.session
 
             go : (o : Option ChainRefusal) → refused call before ≡ o
-                → IsCausedIn call (record { first = Some first; notes = notes_in before.disk before.broken old_full old_spent }) (record { first = Some first; notes = notes_in after.disk after.broken full spent }) answer
-            go None is = reached_caused call first before after old_full old_spent full spent place answer (not_early call before is).1 (reached call before after answer home.sound is a.cause) notes_by
+                → IsCausedIn disk call (record { first = Some first; notes = notes_in before.disk before.broken old_full old_spent }) (record { first = Some first; notes = notes_in after.disk after.broken full spent }) answer
+            go None is =
+                reached_caused disk call first before after old_full old_spent full spent place answer (not_early call before is).1 (reached call before after answer home.sound is a.cause) notes_by
+                (λ next e. stops_over (session_of disk first) before after old.recorder old_full broke fault home who call answer a is next e)
             go (Some x) is =
                 let e = subst (λ o. IfSome o (λ x. (answer ≡ Err x) × (after ≡ record before { events = counted before.events }))) is a.early in
-                subst (IsCausedIn call (record { first = Some first; notes = notes_in before.disk before.broken old_full old_spent }) (record { first = Some first; notes = notes_in after.disk after.broken full spent })) (sym e.0)
-                (early_caused call first before after old_full old_spent full spent place x (early call before x is)
+                subst (IsCausedIn disk call (record { first = Some first; notes = notes_in before.disk before.broken old_full old_spent }) (record { first = Some first; notes = notes_in after.disk after.broken full spent })) (sym e.0)
+                (early_caused disk call first before after old_full old_spent full spent place x (early call before x is)
                 (subst (λ r. NotesBy r (notes_in before.disk before.broken old_full old_spent) (notes_in after.disk after.broken full spent)) e.0 notes_by))
 
         abbrev was : Shared (Chain S KeepAll T)
@@ -168,7 +174,7 @@ module _ {S T : Type 0} (disk : S → Disk) (old new : Chain S KeepAll T) where
                   absurd (ok_err (sym is ∙ e.0))
 
           go : (r' : Result ℕ ChainRefusal) → answer ≡ r' → OnOk r' (WhereTold before.disk.told (λ trace. (v : State) → IsServing old.layers v trace → reply (disk_now v) call ≡ r)) → OnOk r' (RepliesBehind disk first old.recorder call r)
-          go (Ok place) is k = replied (session_of disk first) before old.recorder broke fault call r home (whole place is) k
+          go (Ok place) is k = replied (session_of disk first) before old.recorder old_full broke fault call r home (whole place is) k
           go (Err x) is k = tt
 
       pub found_as : (r : Reply) (seen : Shared (Chain S KeepAll T)) → old ≡ seen.chain → first ≡ seen.first

@@ -16,7 +16,7 @@ use Rattle.chain_core.specs.Sessions.{Session}
 use Rattle.shared_chain.specs.declared.basis.Basis.{Basis}
 use Rattle.shared_chain.specs.declared.basis.Note.{Note}
 use Rattle.shared_chain.specs.declared.basis.Note.TheVariants as notes
-use Rattle.shared_chain.specs.Answers.{IsCausedIn}
+use Rattle.shared_chain.specs.Answers.{IsCausedIn, StopsOver}
 use Rattle.shared_chain.specs.Bases.{fault_notes, full_notes, notes_in, read_notes, spent_notes}
 use Rattle.shared_chain.specs.Laws.{of_both}
 use Rattle.shared_chain.specs.Notes.{HasNote, NotesBy}
@@ -76,7 +76,7 @@ at_end before now count rose told h = omega (arith, rose.later, rose.risen, told
 
 -- ---- causes
 
-module _ {S T : Type 0} (call : Call) (first : Chain S KeepAll T) (old new : Session) (old_full old_spent full spent : Option ℕ) where
+module _ {S T : Type 0} (disk : S → Disk) (call : Call) (first : Chain S KeepAll T) (old new : Session) (old_full old_spent full spent : Option ℕ) where
   abbrev before : Basis S T
   before = record { first = Some first; notes = notes_in old.disk old.broken old_full old_spent }
 
@@ -84,7 +84,7 @@ module _ {S T : Type 0} (call : Call) (first : Chain S KeepAll T) (old new : Ses
   after = record { first = Some first; notes = notes_in new.disk new.broken full spent }
 
   module _ (place : misplaced call first.layers ≡ misplaced call old.layers) where
-    at_place : (x : ChainRefusal) → IsPlaceRefusal x → misplaced call old.layers ≡ Some x → IsCausedIn call before after (Err x)
+    at_place : (x : ChainRefusal) → IsPlaceRefusal x → misplaced call old.layers ≡ Some x → IsCausedIn disk call before after (Err x)
     at_place EmptyRange is h = place ∙ h
     at_place (OutOfRange a b c) is h = place ∙ h
     at_place (TooLong a b) is h = place ∙ h
@@ -102,30 +102,31 @@ module _ {S T : Type 0} (call : Call) (first : Chain S KeepAll T) (old new : Ses
     at_place NoRoom is h = absurd is
 
     -- of a call that is refused before it reaches the files
-    pub early_caused : (x : ChainRefusal) → Early call old x → NotesBy (Err x) before.notes after.notes → IsCausedIn call before after (Err x)
+    pub early_caused : (x : ChainRefusal) → Early call old x → NotesBy (Err x) before.notes after.notes → IsCausedIn disk call before after (Err x)
     early_caused _ (is_spent many) noted = (many, (noted (notes.Spent old.events)).1 (inl (inl (omega arith))))
     early_caused _ (is_broken fault is) noted = (noted (notes.ChangeFailed fault.file fault.count)).1 (inl (inl (refl, refl)))
     early_caused _ (is_misplaced x is kind) noted = at_place x kind is
 
     -- and of one that reached them
-    pub reached_caused : (answer : Result ℕ ChainRefusal) → misplaced call old.layers ≡ None → IsReached old new answer → NotesBy answer before.notes after.notes → IsCausedIn call before after answer
-    reached_caused (Ok at) placed h noted = place ∙ placed
-    reached_caused (Err EmptyRange) placed h noted = absurd h
-    reached_caused (Err (OutOfRange a b c)) placed h noted = absurd h
-    reached_caused (Err (TooLong a b)) placed h noted = absurd h
-    reached_caused (Err ReadOnly) placed h noted = absurd h
-    reached_caused (Err (Broken file count)) placed h noted = (noted (notes.ChangeFailed file count)).1 (inl (inl (refl, refl)))
-    reached_caused (Err (Spent t)) placed h noted = absurd h
-    reached_caused (Err (FileFull next)) placed h noted = (place ∙ placed, (noted (notes.Full next)).1 (inl (inl (omega arith))))
-    reached_caused (Err (ReadFault file count)) placed h noted = (
+    pub reached_caused : (answer : Result ℕ ChainRefusal) → misplaced call old.layers ≡ None → IsReached old new answer → NotesBy answer before.notes after.notes → ((next : ℕ) → answer ≡ Err (FileFull next) → StopsOver disk first call (FileFull next))
+        → IsCausedIn disk call before after answer
+    reached_caused (Ok at) placed h noted stops = place ∙ placed
+    reached_caused (Err EmptyRange) placed h noted stops = absurd h
+    reached_caused (Err (OutOfRange a b c)) placed h noted stops = absurd h
+    reached_caused (Err (TooLong a b)) placed h noted stops = absurd h
+    reached_caused (Err ReadOnly) placed h noted stops = absurd h
+    reached_caused (Err (Broken file count)) placed h noted stops = (noted (notes.ChangeFailed file count)).1 (inl (inl (refl, refl)))
+    reached_caused (Err (Spent t)) placed h noted stops = absurd h
+    reached_caused (Err (FileFull next)) placed h noted stops = (place ∙ placed, (noted (notes.Full next)).1 (inl (inl (omega arith))), stops next refl)
+    reached_caused (Err (ReadFault file count)) placed h noted stops = (
       place ∙ placed,
       (noted (notes.ReadFailed file count)).1 (inl (inl (refl, omega arith))),
       λ was. at_end (old.disk.failed_reads file) (new.disk.failed_reads file) count h.0.2.rose h.0.2.told (noted_reads old.disk old.broken old_full old_spent file count was),
     )
-    reached_caused (Err NoMerge) placed h noted = absurd h
-    reached_caused (Err (Stale taken now)) placed h noted = absurd h
-    reached_caused (Err (NotYet stripe)) placed h noted = absurd h
-    reached_caused (Err (Abandoned file count)) placed h noted = absurd h
-    reached_caused (Err (NoStripe stripe stripes)) placed h noted = absurd h
-    reached_caused (Err NoPiece) placed h noted = absurd h
-    reached_caused (Err NoRoom) placed h noted = place ∙ placed
+    reached_caused (Err NoMerge) placed h noted stops = absurd h
+    reached_caused (Err (Stale taken now)) placed h noted stops = absurd h
+    reached_caused (Err (NotYet stripe)) placed h noted stops = absurd h
+    reached_caused (Err (Abandoned file count)) placed h noted stops = absurd h
+    reached_caused (Err (NoStripe stripe stripes)) placed h noted stops = absurd h
+    reached_caused (Err NoPiece) placed h noted stops = absurd h
+    reached_caused (Err NoRoom) placed h noted stops = place ∙ placed

@@ -1,6 +1,6 @@
 -- The store's counts of faults, by what calls and the end of a session answer.
-use Rattle.std.proofs.Common.{◌≡◌, ◌≢◌, ◌⊎◌, ◌<◌, ◌≤◌, ℕ, true, Option, Some, None, Result, Ok, Err, inl, inr, refl, sym, ap, subst, ◌∙◌, arith}
-use Rattle.std.specs.Prelude.{IfErr, IfSome, OnOk, is_some}
+use Rattle.std.proofs.Common.{◌≡◌, ◌≢◌, ◌⊎◌, ◌<◌, ◌≤◌, ℕ, Option, Some, None, Result, Ok, Err, inl, inr, refl, sym, ap, subst, ◌∙◌, arith}
+use Rattle.std.specs.Prelude.{IfErr, IfSome, OnOk}
 use Rattle.std.proofs.lemmas.Bool.{cases_eq}
 use Rattle.store_model.specs.Cause.{Rose, RoseAt}
 use Rattle.store_model.specs.Disk.{Disk, ReadFailed}
@@ -16,10 +16,11 @@ use Rattle.chain_core.specs.Answering.{IsCausedBy, IsCausedByRead, fault_of}
 use Rattle.chain_core.specs.Ending.{IsOfSession, SomeChangeFailed}
 use Rattle.chain_core.specs.Refusing.{refused}
 use Rattle.chain_core.specs.Sessions.{IsSound, Session, leaf_number}
-use Rattle.layer_session.proofs.Equal.{none_some, some_none, some_same}
-use Rattle.shared_chain.specs.Answers.{HasCauseOf}
-use Rattle.shared_chain.specs.Closing.{IsEnded}
-use Rattle.shared_chain.specs.Faults.{AreCounted, Counts, CountsChange, EndsCounted, fault_after}
+use Rattle.layer_session.proofs.Equal.{some_none}
+use Rattle.script_session.specs.Answers.{HasCauseOf}
+use Rattle.script_session.specs.Faults.{Counts}
+use Rattle.script_session.specs.Running.{IsEnded}
+use Rattle.shared_chain.specs.Faults.{AreCounted, CountsChange, EndsCounted, fault_after}
 use Rattle.shared_chain.proofs.Reaching.{leaf_within}
 use Rattle.shared_chain.proofs.Refusals.{has_session, not_early}
 

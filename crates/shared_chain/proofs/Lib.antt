@@ -2,6 +2,7 @@ mod Refusals
 mod Noting
 mod Reaching
 mod Causing
+mod Filling
 mod Homing
 mod Calling
 mod Ended

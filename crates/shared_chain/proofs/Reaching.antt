@@ -12,7 +12,7 @@ use Rattle.chain_core.specs.Answering.{IsCausedBy, IsCausedByRead, fault_of}
 use Rattle.chain_core.specs.Refusing.{refused}
 use Rattle.chain_core.specs.Sessions.{AreReady, IsReadyLeaf, IsSound, Session, leaf_number, number_of_leaf}
 use Rattle.layer_session.proofs.Equal.{false_true}
-use Rattle.shared_chain.specs.Answers.{HasCauseOf}
+use Rattle.script_session.specs.Answers.{HasCauseOf}
 use Rattle.shared_chain.proofs.Noting.{IsChange}
 use Rattle.shared_chain.proofs.Refusals.{has_session, not_early}
 

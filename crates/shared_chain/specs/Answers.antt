@@ -2,7 +2,6 @@
 use Rattle.std.specs.Prelude.{◌≡◌, ◌^◌, ◌-◌, ◌≤◌, ℕ, [], ◌∷◌, ◌++◌, length, is_some, Option, Some, None, Result, Ok, Err, IfSome}
 use Rattle.store_model.specs.Disk.{Disk, WhereTold}
 use Rattle.guest_model.specs.declared.call.Call.{Call}
-use Rattle.guest_model.specs.declared.call.Call.TheVariants as calls
 use Rattle.guest_model.specs.declared.call.Caller.{Caller}
 use Rattle.guest_model.specs.declared.call.Entry.{Entry}
 use Rattle.guest_model.specs.declared.call.Reply.{Reply}
@@ -12,11 +11,13 @@ use Rattle.guest_model.specs.declared.refusal.ChainRefusal.TheVariants as refusa
 use Rattle.guest_model.specs.Calls.{reply}
 use Rattle.guest_model.specs.History.{History, replay}
 use Rattle.chain_core.specs.declared.chain.Chain.{Chain}
-use Rattle.chain_core.specs.Answering.{AnswersTold, HasCause, HasReadCause, HasRoom, Notes}
+use Rattle.chain_core.specs.Answering.{AnswersTold, HasRoom, Notes}
 use Rattle.chain_core.specs.Copying.{MergeFollows}
 use Rattle.chain_core.specs.Refusing.{IfRefused, counted, misplaced}
 use Rattle.chain_core.specs.Sessions.{IsSound, Session, leaf_number}
 use Rattle.chain_core.specs.States.{IsServing, State, entry, sector_of}
+use Rattle.script_session.specs.Answers.{HasCauseOf}
+use Rattle.script_session.specs.Histories.{Stops}
 use Rattle.shared_chain.specs.declared.basis.Basis.{Basis}
 use Rattle.shared_chain.specs.declared.basis.Note.TheVariants as notes
 use Rattle.shared_chain.specs.declared.basis.Breach.{Breach}
@@ -26,13 +27,6 @@ use Rattle.shared_chain.specs.Homes.{session_of}
 use Rattle.shared_chain.specs.Notes.{HasNote, NotesBy}
 use Rattle.shared_chain.specs.Shared.{Shared}
 use Rattle.shared_chain.specs.Steps.{breach_of, broke_after}
-
--- what the answer of a call says of the store's counts
-abbrev pub HasCauseOf : Call → Session → Session → Result ℕ ChainRefusal → Type 0
-HasCauseOf (calls.Read first count) old new answer = HasReadCause (calls.Read first count) old new answer
-HasCauseOf (calls.Write first bytes) old new answer = HasCause (calls.Write first bytes) old new answer
-HasCauseOf (calls.Trim first count) old new answer = HasCause (calls.Trim first count) old new answer
-HasCauseOf calls.Flush old new answer = HasCause calls.Flush old new answer
 
 -- A session answered a call, as the chain's core says of each of its calls.
 pub record Answered (who : Caller) (call : Call) (old new : Session) (answer : Result ℕ ChainRefusal) : Type 0 where
@@ -63,21 +57,26 @@ module _ {S T : Type 0} where
   abbrev pub misplaced_in : Basis S T → Call → Option ChainRefusal → Type 0
   misplaced_in basis call cause = IfSome basis.first (λ chain. misplaced call chain.layers ≡ cause)
 
+  -- Where content is told this stops a call, over the disk on which a session began.
+  abbrev pub StopsOver : (S → Disk) → Chain S KeepAll T → Call → ChainRefusal → Type 0
+  StopsOver disk first call x = WhereTold (disk first.store).told (λ trace. (from : State) → IsServing first.layers from trace → from.history ≡ [] → Stops call x)
+
   -- The cause of an answer, read off the basis before the call and the one behind it.
-  abbrev pub IsCausedIn : Call → Basis S T → Basis S T → Result ℕ ChainRefusal → Type 0
-  IsCausedIn call old new (Ok place) = misplaced_in new call None
-  IsCausedIn call old new (Err refusals.EmptyRange) = misplaced_in new call (Some refusals.EmptyRange)
-  IsCausedIn call old new (Err (refusals.OutOfRange first count sectors)) = misplaced_in new call (Some (refusals.OutOfRange first count sectors))
-  IsCausedIn call old new (Err (refusals.TooLong count limit)) = misplaced_in new call (Some (refusals.TooLong count limit))
-  IsCausedIn call old new (Err refusals.ReadOnly) = misplaced_in new call (Some refusals.ReadOnly)
-  IsCausedIn call old new (Err (refusals.Broken file count)) = HasNote new.notes (notes.ChangeFailed file count)
-  IsCausedIn call old new (Err (refusals.Spent t)) = (2 ^ 63 ≤ t) × HasNote new.notes (notes.Spent t)
-  IsCausedIn call old new (Err (refusals.FileFull next)) = misplaced_in new call None × HasNote new.notes (notes.Full next)
+  abbrev pub IsCausedIn : (S → Disk) → Call → Basis S T → Basis S T → Result ℕ ChainRefusal → Type 0
+  IsCausedIn disk call old new (Ok place) = misplaced_in new call None
+  IsCausedIn disk call old new (Err refusals.EmptyRange) = misplaced_in new call (Some refusals.EmptyRange)
+  IsCausedIn disk call old new (Err (refusals.OutOfRange first count sectors)) = misplaced_in new call (Some (refusals.OutOfRange first count sectors))
+  IsCausedIn disk call old new (Err (refusals.TooLong count limit)) = misplaced_in new call (Some (refusals.TooLong count limit))
+  IsCausedIn disk call old new (Err refusals.ReadOnly) = misplaced_in new call (Some refusals.ReadOnly)
+  IsCausedIn disk call old new (Err (refusals.Broken file count)) = HasNote new.notes (notes.ChangeFailed file count)
+  IsCausedIn disk call old new (Err (refusals.Spent t)) = (2 ^ 63 ≤ t) × HasNote new.notes (notes.Spent t)
+  IsCausedIn disk call old new (Err (refusals.FileFull next)) =
+      misplaced_in new call None × HasNote new.notes (notes.Full next) × IfSome new.first (λ first. StopsOver disk first call (refusals.FileFull next))
   -- it is noted anew, or the count is at its end
-  IsCausedIn call old new (Err (refusals.ReadFault file count)) =
+  IsCausedIn disk call old new (Err (refusals.ReadFault file count)) =
       misplaced_in new call None × HasNote new.notes (notes.ReadFailed file count) × (HasNote old.notes (notes.ReadFailed file count) → 2 ^ 64 - 1 ≤ count)
-  IsCausedIn call old new (Err refusals.NoRoom) = misplaced_in new call None
-  IsCausedIn call old new (Err other) = ⊥
+  IsCausedIn disk call old new (Err refusals.NoRoom) = misplaced_in new call None
+  IsCausedIn disk call old new (Err other) = ⊥
 
   -- The reply is that of the disk on which a session began, with the calls of a history made on it, for each state that it served then.
   abbrev pub RepliesBehind : (S → Disk) → Chain S KeepAll T → History → Call → Reply → Type 0
@@ -94,5 +93,5 @@ module _ {S T : Type 0} where
     pub broke : IsBroke (breach_of who call) old.broke new.broke answer
     pub fault : new.fault ≡ fault_after old.fault answer
     pub noted : NotesBy answer (notes_of disk old) (notes_of disk new)
-    pub cause : IsCausedIn call (basis_of disk old) (basis_of disk new) answer
+    pub cause : IsCausedIn disk call (basis_of disk old) (basis_of disk new) answer
     pub answered : Answered who call (session_of disk old.chain) (session_of disk new.chain) answer

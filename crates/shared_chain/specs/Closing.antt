@@ -1,5 +1,5 @@
 -- What the end of a shared chain's session leaves.
-use Rattle.std.specs.Prelude.{◌≡◌, Bool, false, true, is_some, [], Option, None, Result, Ok, Err, IfErr, IfSome, OnOk}
+use Rattle.std.specs.Prelude.{◌≡◌, ℕ, Bool, false, true, is_some, [], Option, Result, IfSome, OnOk}
 use Rattle.std.specs.List.{AllByRecursion}
 use Rattle.store_model.specs.Disk.{Disk, WhereBothTold}
 use Rattle.store_model.specs.File.{is_synced, seen}
@@ -10,21 +10,13 @@ use Rattle.chain_model.specs.Images.{members_of}
 use Rattle.chain_model.specs.Members.{names_of}
 use Rattle.chain_model.specs.Moments.{EachOpens, EachOpensToPrefix}
 use Rattle.layer_session.specs.Unnamed.{NamesNoLog}
-use Rattle.chain_core.specs.Answering.{ClosesTold, EachLinks}
-use Rattle.chain_core.specs.Ending.{IsOfSession, SomeChangeFailed}
+use Rattle.chain_core.specs.Answering.{EachLinks}
 use Rattle.chain_core.specs.Sessions.{Session}
 use Rattle.chain_core.specs.States.{IsServing, LeavesOthers, State, disk_now, files_of, sector_of}
+use Rattle.script_session.specs.Histories.{IsSoLong}
 use Rattle.shared_chain.specs.declared.basis.Breach.{Breach}
 use Rattle.shared_chain.specs.Homes.{ComesTo, OpensLast}
 use Rattle.shared_chain.specs.Steps.{open_by}
-
--- A session ended: one that a fault broke answers it and leaves the store, and so does the end of one in which the files are only read.
-pub record IsEnded (s : Session) (after : Disk) (closed : Result (Unit {0}) StoreFault) : Type 0 where
-  pub broken : IfSome s.broken (λ fault. (closed ≡ Err fault) × (after ≡ s.disk))
-  pub only_read : s.broken ≡ None → s.layers.leaf ≡ None → (closed ≡ Ok tt) × (after ≡ s.disk)
-  pub counts : s.broken ≡ None → OnOk closed (after ≡ record (s.disk) { told = after.told })
-  pub fails : s.broken ≡ None → IfErr closed (SomeChangeFailed (IsOfSession s.layers) s.disk after)
-  pub told : s.broken ≡ None → ClosesTold s after closed
 
 -- Each image opens to the disk of the history, on all sectors, by the files of the chain and no others; if there was a session nothing of
 -- these files is unsynced, and none that it could change names a log.
@@ -36,16 +28,18 @@ pub record IsWhole (session : Bool) (v : State) (now : Trace) : Type 0 where
 
 -- What is left of a session that came from this state, by this history: no file was changed but those that it may change; each moment since
 -- it began opens to a prefix of the history, outside the sectors that the call names which broke it, if one did, and the last one to all of
--- it; and where its end was answered no fault, none did, and it is whole.
-pub record HasLeft (session : Bool) (from : State) (h : History) (broke : Option Breach) (closed : Result (Unit {0}) StoreFault) (now : Trace) : Type 0 where
+-- it; if calls were refused for want of room, a file that it may change is as long as the greatest unit that they were refused at; and where
+-- its end was answered no fault, none did, and it is whole.
+pub record HasLeft (session : Bool) (from : State) (h : History) (full : Option ℕ) (broke : Option Breach) (closed : Result (Unit {0}) StoreFault) (now : Trace) : Type 0 where
   pub to : State
   pub comes : ComesTo from h to
   pub still : LeavesOthers to now
   pub past : EachOpensToPrefix (sector_of to) to.opening to.history (open_by broke) to.leaf to.began now
   pub last : OpensLast to broke now
+  pub long : IfSome full (IsSoLong from.writes now)
   pub whole : OnOk closed (IsWhole session to now)
 
 -- so it is for each state that the session served when it had begun
-abbrev pub LeavesHistory : Session → History → Option Breach → Result (Unit {0}) StoreFault → Disk → Type 0
-LeavesHistory first h broke closed after =
-    WhereBothTold (λ trace now. (from : State) → IsServing first.layers from trace → from.history ≡ [] → HasLeft (is_some first.layers.leaf) from h broke closed now) first.disk.told after.told
+abbrev pub LeavesHistory : Session → History → Option ℕ → Option Breach → Result (Unit {0}) StoreFault → Disk → Type 0
+LeavesHistory first h full broke closed after =
+    WhereBothTold (λ trace now. (from : State) → IsServing first.layers from trace → from.history ≡ [] → HasLeft (is_some first.layers.leaf) from h full broke closed now) first.disk.told after.told

@@ -1,21 +1,16 @@
 -- What a shared chain says of its store's counts of faults.
-use Rattle.std.specs.Prelude.{◌≡◌, ◌⊎◌, ◌<◌, ◌≤◌, ℕ, Option, None, Some, Result, Ok, Err, IfErr, IfSome, OnOk}
+use Rattle.std.specs.Prelude.{◌≡◌, ◌<◌, ◌≤◌, ℕ, Option, None, Some, Result, Err, IfErr, IfSome, OnOk}
 use Rattle.store_model.specs.Disk.{Disk}
 use Rattle.store_model.specs.declared.fault.StoreFault.{StoreFault}
 use Rattle.guest_model.specs.declared.refusal.ChainRefusal.{ChainRefusal}
 use Rattle.guest_model.specs.declared.refusal.ChainRefusal.TheVariants as refusals
+use Rattle.script_session.specs.Faults.{Counts}
 
 -- the last fault that refused a call, behind an answer
 abbrev pub fault_after : Option StoreFault → Result ℕ ChainRefusal → Option StoreFault
 fault_after fault (Err (refusals.Broken file count)) = Some (record { file = file; count = count })
 fault_after fault (Err (refusals.ReadFault file count)) = Some (record { file = file; count = count })
 fault_after fault other = fault
-
--- The store counts this fault: one of its files has had so many reads fail, or so many changes.
-pub record Counts (disk : Disk) (fault : StoreFault) : Type 0 where
-  pub within : fault.file < disk.files
-  pub some : 0 < fault.count
-  pub counted : (fault.count ≡ disk.failed_reads fault.file) ⊎ (fault.count ≡ disk.failed_changes fault.file)
 
 -- a change of a file failed, as often in all as is counted of it
 abbrev pub CountsChange : Disk → StoreFault → Type 0

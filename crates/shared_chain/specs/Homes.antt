@@ -1,5 +1,5 @@
 -- What holds of a chain that threads share whenever none of them has it.
-use Rattle.std.specs.Prelude.{◌≡◌, ℕ, Bool, false, length, is_some, [], Option, Some, None, IfSome}
+use Rattle.std.specs.Prelude.{◌≡◌, ℕ, length, is_some, [], Option, Some, None, IfSome}
 use Rattle.store_model.specs.Disk.{Disk, WhereBothTold}
 use Rattle.store_model.specs.Trace.{Trace}
 use Rattle.store_model.specs.declared.fault.StoreFault.{StoreFault}
@@ -11,6 +11,7 @@ use Rattle.chain_model.specs.Moments.{EachOpens, EachOpensToPrefix}
 use Rattle.chain_core.specs.declared.chain.Chain.{Chain}
 use Rattle.chain_core.specs.Sessions.{IsSound, Session, leaf_number, seen}
 use Rattle.chain_core.specs.States.{IsServing, LeavesOthers, State, dirty_now, disk_now, files_of, sector_of}
+use Rattle.script_session.specs.Histories.{IsSoLong}
 use Rattle.shared_chain.specs.declared.basis.Breach.{Breach}
 use Rattle.shared_chain.specs.Faults.{AreCounted}
 use Rattle.shared_chain.specs.Steps.{open_by}
@@ -43,21 +44,23 @@ pub record HasStopped (v : State) (broke : Option Breach) (now : Trace) : Type 0
   pub past : EachOpensToPrefix (sector_of v) v.opening v.history (open_by broke) v.leaf v.began now
   pub last : OpensLast v broke now
 
--- A session that came from this state, by this history: it serves the state that it has come to, or a fault has broken it.
-pub record Follows (from : State) (h : History) (broke : Option Breach) (s : Session) (now : Trace) : Type 0 where
+-- A session that came from this state, by this history: it serves the state that it has come to, or a fault has broken it. If calls
+-- were refused for want of room, a file that may be changed is as long as the greatest unit that they were refused at.
+pub record Follows (from : State) (h : History) (full : Option ℕ) (broke : Option Breach) (s : Session) (now : Trace) : Type 0 where
   pub to : State
   pub comes : ComesTo from h to
   pub serves : s.broken ≡ None → IsServing s.layers to now
   pub stopped : IfSome s.broken (λ fault. HasStopped to broke now)
+  pub long : IfSome full (IsSoLong from.writes now)
 
 -- A session as it is, which has this history, and as it was when it had begun: it is sound, the disk is of the same size, and changed by
 -- guests or only read, as then; what broke it is the call that was told so first; the store's counts are what was told. Where the store
 -- tells its content, it follows on each state that it served then with no call yet.
-pub record IsHome (first now : Session) (h : History) (broke : Option Breach) (fault : Option StoreFault) : Type 0 where
+pub record IsHome (first now : Session) (h : History) (full : Option ℕ) (broke : Option Breach) (fault : Option StoreFault) : Type 0 where
   pub sound : IsSound now
   pub geometry : now.layers.geometry ≡ first.layers.geometry
   pub session : is_some now.layers.leaf ≡ is_some first.layers.leaf
   pub leaf : leaf_number now.layers ≡ leaf_number first.layers
   pub breaks : is_some broke ≡ is_some now.broken
   pub counted : AreCounted first.disk now.disk now.broken fault
-  pub follows : WhereBothTold (λ trace after. (from : State) → IsServing first.layers from trace → from.history ≡ [] → Follows from h broke now after) first.disk.told now.disk.told
+  pub follows : WhereBothTold (λ trace after. (from : State) → IsServing first.layers from trace → from.history ≡ [] → Follows from h full broke now after) first.disk.told now.disk.told

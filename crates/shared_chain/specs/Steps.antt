@@ -1,5 +1,5 @@
 -- The steps of a chain's history, as its lock tells it.
-use Rattle.std.specs.Prelude.{◌≡◌, ◌+◌, ◌&&◌, ℕ, Bool, false, nat_le, nat_lt, List, [], ◌∷◌, ◌++◌, ◌/◌, length, map, Option, Some, None, Result, Ok, Err}
+use Rattle.std.specs.Prelude.{◌+◌, ◌&&◌, ℕ, Bool, false, nat_le, nat_lt, List, [], ◌∷◌, ◌++◌, ◌/◌, length, map, Option, Some, None, Result, Err}
 use Rattle.guest_model.specs.declared.call.Call.{Call}
 use Rattle.guest_model.specs.declared.call.Call.TheVariants.{Flush, Read, Trim, Write}
 use Rattle.guest_model.specs.declared.call.Caller.{Caller}

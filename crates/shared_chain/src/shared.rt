@@ -9,7 +9,8 @@ ghost use Rattle.shared_chain.specs.Notes.{full_after, spent_after};
 ghost use Rattle.shared_chain.specs.Faults.{EndsCounted, fault_after};
 ghost use Rattle.shared_chain.specs.Homes.{session_of};
 ghost use Rattle.shared_chain.specs.Answers.{IsCalled, RepliesFrom};
-ghost use Rattle.shared_chain.specs.Closing.{IsEnded, LeavesHistory};
+ghost use Rattle.script_session.specs.Running.{IsEnded};
+ghost use Rattle.shared_chain.specs.Closing.{LeavesHistory};
 ghost use Rattle.shared_chain.specs.Steps.{broke_after, steps_of};
 
 use crate::basis::Breach;
@@ -49,7 +50,7 @@ impl<S: Store> Model for SharedChain<S> {
 
     ghost view = { λ s. record { chain = s.chain; first = s.first.value; full = s.full; spent = s.spent; broke = s.broke; fault = s.fault } };
 
-    ghost invariant = { λ s. IsHome (session_of S.disk s.first.value) (session_of S.disk s.chain) s.chain.recorder s.broke s.fault };
+    ghost invariant = { λ s. IsHome (session_of S.disk s.first.value) (session_of S.disk s.chain) s.chain.recorder s.full s.broke s.fault };
 }
 
 // The greatest unit that a call was refused at for want of room, behind this answer.
@@ -204,7 +205,7 @@ impl<S: Store> SharedChain<S> {
         ensures fault { result.2 ≡ self.fault }
         ensures ended { IsEnded (session_of S.disk self.chain) (S.disk result.0) result.3 }
         ensures counted { EndsCounted (S.disk self.first.store) (S.disk result.0) self.fault result.3 }
-        ensures leaves { LeavesHistory (session_of S.disk self.first) self.chain.recorder self.broke result.3 (S.disk result.0) }
+        ensures leaves { LeavesHistory (session_of S.disk self.first) self.chain.recorder self.full self.broke result.3 (S.disk result.0) }
     {
         let SharedChain {
             chain,

@@ -27,13 +27,16 @@ use Rattle.script_session.specs.declared.session.ScriptRun.{ScriptRun}
 use Rattle.serve_session.specs.Running.{HasRunServe, HasServedFiles, HaveServed}
 use Rattle.serve_session.specs.Served.{AreServed, Outcome, all_told}
 use Rattle.vhdx_app.specs.Commands.{Lends}
+use Rattle.vhdx_app.specs.Crashes.{NoneNamesLog}
 use Rattle.vhdx_app.specs.Guests.{ServedIn, ServedOver}
 use Rattle.vhdx_app.specs.Sessions.{HasNotRun, IsChainIn, IsLinkedChain, NotRunOver, Rests}
+use Rattle.vhdx_app.specs.Starts.{changed_names}
 use Rattle.vhdx_app.specs.Steps.{drive_over}
 use Rattle.vhdx_app.specs.declared.refusal.StepsRefusal.{StepsRefusal}
 use Rattle.vhdx_app.proofs.Over.{back_for, changed_none_run, drawn_over, drive_is, first_may, first_only, if_err, if_some, lent_faults, lent_told, not_first, not_run_over, on_ok, trace_of, written_in}
-use Rattle.vhdx_app.proofs.Ran.{Changed, both_told, last_returned, now_told, rests, stands}
+use Rattle.vhdx_app.proofs.Ran.{Changed, both_told, full_ends, last_returned, now_told, rests, stands, unlogged}
 use Rattle.vhdx_app.proofs.Sparing.{attached_since}
+use Rattle.vhdx_app.proofs.Unlogged.{unlogged_one}
 
 -- what serving guests changes
 changed_served : (leaf : LinkedFile) (others : List LinkedFile) (lines : List Line) (guests : List (List Outcome)) (h : History) (broken : Option Break) (closed : Result (Unit {0}) StoreFault) (a b : Option Trace)
@@ -76,6 +79,11 @@ module _ (retired : List (List ℕ)) (leaf : LinkedFile) (others : List LinkedFi
         rests retired leaf others old mid lent idle once chain lends disk Guests None (written_in Guests) (first_may Guests leaf others) changed now back_is past_is count f told h.history (λ n e. subst (λ x. is_synced (file_of end.0 x) ≡ true) (sym (first_only Guests n e)) a.synced) a.opens
     rests_by (Err fault) a = tt
 
+    no_log_by : (closed : Result (Unit {0}) StoreFault) → OnOk closed (IsAtRest (way_to leaf (leaf ∷ others) None) (drive_of Guests leaf others start) h.history end.0) → OnOk closed (WhereTold now.folder (NoneNamesLog (changed_names false None (leaf ∷ others))))
+    no_log_by (Ok done) a =
+        unlogged retired leaf others old mid lent idle once chain lends disk Guests None (written_in Guests) (first_may Guests leaf others) changed now back_is past_is count f told (leaf.name ∷ []) (unlogged_one leaf others end.0 (a.no_log refl))
+    no_log_by (Err fault) a = tt
+
     served_in : ServedIn L lines h.guests h.history h.broken run.closed f old now
     served_in = record {
       told_so = λ d opens.
@@ -85,7 +93,10 @@ module _ (retired : List (List ℕ)) (leaf : LinkedFile) (others : List LinkedFi
       faults = last_returned retired leaf others old mid lent idle once chain lends disk Guests None (written_in Guests) (first_may Guests leaf others) changed now back_is past_is count f told
           (λ store. FaultsAreTold (all_told h.guests) (failed_by run.closed) (length (leaf ∷ others)) (λ file. 0) store.failed_reads store.failed_changes)
           (λ trace rest. lent_faults Guests retired leaf others old mid now lent disk idle served once chain lends back_is past_is count before after None (written_in Guests) (first_may Guests leaf others) (all_told h.guests) (failed_by run.closed) h.faults);
+      full = full_ends retired leaf others old mid lent idle once chain lends disk Guests None (written_in Guests) (first_may Guests leaf others) changed now back_is past_is count f told (λ n. n == 0) (changed_names false None (leaf ∷ others)) (first_may Guests leaf others)
+          (all_told h.guests) files.full;
       rests = rests_by run.closed files.at_rest;
+      no_log = no_log_by run.closed files.at_rest;
     }
 
   served_over : ServedOver L lines run old now before after

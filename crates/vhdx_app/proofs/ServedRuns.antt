@@ -1,6 +1,7 @@
 -- What `serve` does once the chain is opened, from what the session leaves.
 use Rattle.std.proofs.Common.{◌≡◌, ◌≢◌, ℕ, Bool, true, false, List, [], length, Option, Some, None, Result, Ok, Err, refl, sym, ap, subst, ◌∙◌, inl, inr, arith}
 use Rattle.std.specs.Prelude.{IfErr, IfOk, IfSome, OnOk, String, codes, string_bytes}
+use Rattle.std.specs.List.{AllByRecursion}
 use Rattle.std.proofs.lemmas.Option.{same_Some}
 use Rattle.file_open.specs.Causes.{IfCause, Meaning, refuses, host_failed, store_failed, no_memory, cause_in}
 use Rattle.store_model.specs.Cause.{Rose}
@@ -29,7 +30,7 @@ use Rattle.script.specs.Sources.{IsTaken}
 use Rattle.script.specs.declared.form.Line.{Line}
 use Rattle.script.specs.declared.form.ScriptKind.TheVariants as kinds
 use Rattle.script_session.specs.Faults.{FaultsAreTold}
-use Rattle.script_session.specs.Histories.{Break}
+use Rattle.script_session.specs.Histories.{Break, IsEndTold}
 use Rattle.script_session.specs.Running.{open_by, open_last}
 use Rattle.script_session.specs.Told.{failed_by}
 use Rattle.script_session.specs.declared.session.ScriptRun.{ScriptRun}
@@ -40,7 +41,7 @@ use Rattle.printing.specs.declared.status.Status.{Status}
 use Rattle.printing.specs.declared.status.Status.TheVariants.{Done, Fault, NoMemory, Refused}
 use Rattle.vhdx_app.specs.Causes.{meaning_of_chain, of_chain}
 use Rattle.vhdx_app.specs.Commands.{LeavesFollowedBy, Reports}
-use Rattle.vhdx_app.specs.Crashes.{AreSpared, EachImageOpens, OpensToFirst}
+use Rattle.vhdx_app.specs.Crashes.{AreSpared, EachImageOpens, HasLong, NoneNamesLog, OpensToFirst}
 use Rattle.vhdx_app.specs.Folders.{AllHome, LastReturned, OnlyFollows, files_of}
 use Rattle.vhdx_app.specs.Guests.{LeafIsServed, ServedIn, ServedOver}
 use Rattle.vhdx_app.specs.Guests as code_guests
@@ -162,6 +163,10 @@ module _ (leaf : List ℕ) (before now : World) (status : Status) (idle : WhereT
     abbrev IsSent : Status → List ℕ → Type 0
     IsSent meant text = Sent before.written now.written before.sink_faults now.sink_faults meant text status
 
+    -- the leaf names no log
+    abbrev LogsEnded : Type 0
+    LogsEnded = WhereTold now.host.folder (NoneNamesLog (changed_names false None linked.files))
+
     -- what was said, and what it says of the session's end
     record HasSaid (service : Service) : Type 0 where
       meant : Status
@@ -169,16 +174,20 @@ module _ (leaf : List ℕ) (before now : World) (status : Status) (idle : WhereT
       said : IsServeText begun now service meant text
       sent : IsSent meant text
       rests : HasServedOut service meant → WhereTold mid.folder (λ g. Rests linked service.history g mid now.host)
+      no_log : HasServedOut service meant → service.has_begun ≡ true → WhereTold mid.folder (λ g. LogsEnded)
       unchanged : meant ≡ Refused → code.StaysAsItWas mid.folder now.host.folder
       rose : meant ≡ Fault → Rose before.host.faults now.host.faults
       quiet : meant ≢ Fault → (now.host.faults ≡ before.host.faults) × (met service ≡ None)
+
+    abbrev EndsOf : Service → Type 0
+    EndsOf service = AllByRecursion (IsEndTold (λ next. WhereTold now.host.folder (HasLong (changed_names false None linked.files) next))) (all_told service.guests)
 
     abbrev FaultsOf : Service → Type 0
     FaultsOf service = LastReturned (λ store. FaultsAreTold (all_told service.guests) service.ended (length linked.files) (λ file. 0) store.failed_reads store.failed_changes) mid now.host
 
     over_by : (service : Service) → (service.has_begun ≡ false → service ≡ no_service) → HasSaid service → WhereTold mid.folder (λ g. OpensIn linked g (λ disk. AreServed (drive_over false disk) lines service.guests service.history service.ended service.broken))
-        → WhereTold mid.folder (λ g. Stands Guests None linked service.history service.broken g mid now.host) → WhereTold mid.folder (λ g. service.has_begun ≡ true → FaultsOf service) → RunsServe leaf before now status
-    over_by service none s told_so stands faults = serves.served (record {
+        → WhereTold mid.folder (λ g. Stands Guests None linked service.history service.broken g mid now.host) → WhereTold mid.folder (λ g. EndsOf service × (service.has_begun ≡ true → FaultsOf service)) → RunsServe leaf before now status
+    over_by service none s told_so stands outside = serves.served (record {
       begun = begun;
       taken = taken;
       opened = mid;
@@ -205,10 +214,12 @@ module _ (leaf : List ℕ) (before now : World) (status : Status) (idle : WhereT
               told_so = told_so g.0 g.1 begun.disk opens;
               moments = subst (λ n. Throughout (OpensToFirst (way_by n linked None) begun.disk service.history (open_by service.broken)) mid now.host) name ((stands g.0 g.1).moments begun.disk opens);
               last = subst (λ n. WhereTold now.host.folder (EachImageOpens (way_by n linked None) (open_last service.history service.broken) (replay sector_size begun.disk service.history))) name ((stands g.0 g.1).last begun.disk opens);
-              faults = faults g.0 g.1;
+              full = (outside g.0 g.1).0;
+              faults = (outside g.0 g.1).1;
               spared = λ x is. (stands x is).spared;
               idle = λ rested after is. (s.rests rested g.0 g.1).idle g.0 g.1 after is;
               at_rest = λ rested after is. subst (λ n. OpensTo (files_of after) n (replay sector_size begun.disk service.history)) name ((s.rests rested g.0 g.1).opens begun.disk opens after is);
+              no_log = λ rested some. s.no_log rested some g.0 g.1;
             }
 
     shown_known : (known : List (List ℕ)) → WhereTold mid.folder (λ g. ShowIds (contents g) linked.files known) → WhereTold before.host.folder (λ f. ShowIds (contents f) linked.files known)
@@ -251,6 +262,7 @@ module _ (leaf : List ℕ) (before now : World) (status : Status) (idle : WhereT
           said = said;
           sent = sent;
           rests = λ rested. rests (rested.1 refl);
+          no_log = λ rested some. let never : false ≡ true = some in cc;
           unchanged = unchanged;
           rose = rose;
           quiet = λ other. (quiet other, refl);
@@ -288,7 +300,7 @@ module _ (leaf : List ℕ) (before now : World) (status : Status) (idle : WhereT
         none_told g disk opens = record { told = tt; order = tt; all = λ p low high. absurd (omega (arith, low, high)); breaker = tt }
 
         not_run_runs : RunsServe leaf before now status
-        not_run_runs = over_by no_service (λ e. refl) not_run_said (λ g is. none_told g) n.stands (λ g is some. let never : false ≡ true = some in cc)
+        not_run_runs = over_by no_service (λ e. refl) not_run_said (λ g is. none_told g) n.stands (λ g is. (tt, λ some. let never : false ≡ true = some in cc))
 
     -- ---- a session ran
 
@@ -345,13 +357,14 @@ module _ (leaf : List ℕ) (before now : World) (status : Status) (idle : WhereT
               said = shown.so;
               sent = sent;
               rests = λ rested g is. ended_well run.closed (o.served g is).rests rested.0;
+              no_log = λ rested some g is. ended_well run.closed (o.served g is).no_log rested.0;
               unchanged = λ e. absurd (shown.none e);
               rose = shown.rose;
               quiet = shown.quiet;
             }
 
         run_runs : RunsServe leaf before now status
-        run_runs = over_by service (λ e. let never : true ≡ false = e in cc) said_all (λ g is. (o.served g is).told_so) (λ g is. (o.served g is).stands) (λ g is some. (o.served g is).faults)
+        run_runs = over_by service (λ e. let never : true ≡ false = e in cc) said_all (λ g is. (o.served g is).told_so) (λ g is. (o.served g is).stands) (λ g is. ((o.served g is).full, λ some. (o.served g is).faults))
 
         run_ends : Ends NoMerge before now status
         run_ends =

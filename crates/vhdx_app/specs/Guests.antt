@@ -1,5 +1,6 @@
 -- What the functions of `serve` say of themselves; what a run promises doesn't rest on these.
 use Rattle.std.specs.Prelude.{◌≡◌, ℕ, false, List, length, String, string_bytes, Option, None, Some, Result, Ok, Err, IfErr, IfOk, IfSome, OnOk}
+use Rattle.std.specs.List.{AllByRecursion}
 use Rattle.store_model.specs.Disk.{WhereTold}
 use Rattle.store_model.specs.Folder.{Held, Hosted}
 use Rattle.store_model.specs.declared.fault.StoreFault.{StoreFault}
@@ -10,13 +11,14 @@ use Rattle.link_rules.specs.declared.refusal.LinkRefusal.{LinkRefusal}
 use Rattle.chain_core.specs.declared.starting.Mode.TheVariants.{Guests}
 use Rattle.script.specs.declared.form.Line.{Line}
 use Rattle.script_session.specs.Faults.{FaultsAreTold}
-use Rattle.script_session.specs.Histories.{Break}
+use Rattle.script_session.specs.Histories.{Break, IsEndTold}
 use Rattle.script_session.specs.Told.{failed_by}
 use Rattle.script_session.specs.declared.session.ScriptRun.{ScriptRun}
 use Rattle.serve_session.specs.Served.{AreServed, IsTranscript, Outcome, all_told, guest_count}
+use Rattle.vhdx_app.specs.Crashes.{HasLong, NoneNamesLog}
 use Rattle.vhdx_app.specs.Folders.{LastReturned}
 use Rattle.vhdx_app.specs.Sessions.{IsCounted, IsFollowedTo, IsNotFollowed, NotRunOver, OpensIn, Rests, Stands}
-use Rattle.vhdx_app.specs.Starts.{DrawsFor}
+use Rattle.vhdx_app.specs.Starts.{DrawsFor, changed_names}
 use Rattle.vhdx_app.specs.Steps.{drive_over}
 use Rattle.vhdx_app.specs.declared.refusal.ChainRefusal.TheVariants as chain
 use Rattle.vhdx_app.specs.declared.refusal.StepsRefusal.{StepsRefusal}
@@ -26,8 +28,10 @@ use Rattle.vhdx_app.specs.declared.refusal.StepsRefusal.TheVariants as steps
 pub record ServedIn (linked : Linked) (lines : List Line) (guests : List (List Outcome)) (history : History) (broken : Option Break) (closed : Result (Unit {0}) StoreFault) (folder : List Held) (old new : Hosted) : Type 0 where
   pub told_so : OpensIn linked folder (λ disk. AreServed (drive_over false disk) lines guests history (failed_by closed) broken)
   pub stands : Stands Guests None linked history broken folder old new
+  pub full : AllByRecursion (IsEndTold (λ next. WhereTold new.folder (HasLong (changed_names false None linked.files) next))) (all_told guests)
   pub faults : LastReturned (λ store. FaultsAreTold (all_told guests) (failed_by closed) (length linked.files) (λ file. 0) store.failed_reads store.failed_changes) old new
   pub rests : OnOk closed (Rests linked history folder old new)
+  pub no_log : OnOk closed (WhereTold new.folder (NoneNamesLog (changed_names false None linked.files)))
 
 -- The guests of a script were served over the chain.
 pub record ServedOver (linked : Linked) (lines : List Line) (run : ScriptRun) (old new : Hosted) (before now : Option (List (List ℕ))) : Type 0 where

@@ -1,5 +1,6 @@
 -- What `serve` does: the calls of a script's guests on the disk to which a leaf's name is opened, and what is printed of them (profile).
 use Rattle.std.specs.Prelude.{◌≡◌, ◌≢◌, ◌⊎◌, ℕ, Bool, true, false, List, [], length, codes, Option, None, Some}
+use Rattle.std.specs.List.{AllByRecursion}
 use Rattle.store_model.specs.Cause.{Rose}
 use Rattle.store_model.specs.Disk.{WhereTold}
 use Rattle.store_model.specs.Folder.{Hosted}
@@ -17,12 +18,12 @@ use Rattle.script.specs.Sources.{IsTaken}
 use Rattle.script.specs.declared.form.Line.{Line}
 use Rattle.script.specs.declared.form.ScriptKind.TheVariants as script
 use Rattle.script_session.specs.Faults.{FaultsAreTold}
-use Rattle.script_session.specs.Histories.{Break}
+use Rattle.script_session.specs.Histories.{Break, IsEndTold}
 use Rattle.script_session.specs.Running.{open_by, open_last}
 use Rattle.script_session.specs.Told.{later_of}
 use Rattle.serve_session.specs.Served.{AreServed, IsTranscript, Outcome, all_told, guest_count}
 use Rattle.printing.specs.Sent.{Sent}
-use Rattle.vhdx_app.specs.Crashes.{AreSpared, EachImageOpens, OpensToFirst}
+use Rattle.vhdx_app.specs.Crashes.{AreSpared, EachImageOpens, HasLong, NoneNamesLog, OpensToFirst}
 use Rattle.vhdx_app.specs.Folders.{LastReturned, OnlyFollows, files_of}
 use Rattle.vhdx_app.specs.Printed.{ShowsRefusal}
 use Rattle.vhdx_app.specs.Starts.{DrawsFor, RefusesSession, changed_names}
@@ -74,16 +75,19 @@ abbrev pub HasServedOut : Service → Status → Type 0
 HasServedOut service meant = (service.ended ≡ None) × (service.has_begun ≡ false → meant ≢ Fault)
 
 -- What stands of the files since the chain was opened to this disk. The guests were told so over it. Each image of each moment opens to the disk
--- of the first calls of the history, of the last moment to that of all, and no file is changed but the leaf. What is told of faults is what
--- the session's store counts. Where the run came to its end nothing is unsynced, and the name is opened to the disk of all calls.
+-- of the first calls of the history, of the last moment to that of all, and no file is changed but the leaf. Where a call is told that the leaf
+-- is full, it is so long; what is told of faults is what the session's store counts. Where the run came to its end nothing is unsynced, and the
+-- name is opened to the disk of all calls. Of a session that began the leaf names no log then.
 pub record KeepsServed (leaf : List ℕ) (linked : Linked) (disk : Disk) (lines : List Line) (service : Service) (meant : Status) (opened now : Hosted) : Type 0 where
   pub told_so : AreServed (drive_over false disk) lines service.guests service.history service.ended service.broken
   pub moments : Throughout (OpensToFirst (way_by leaf linked None) disk service.history (open_by service.broken)) opened now
   pub last : WhereTold now.folder (EachImageOpens (way_by leaf linked None) (open_last service.history service.broken) (replay sector_size disk service.history))
   pub spared : WhereTold opened.folder (λ folder. Throughout (AreSpared (changed_names false None linked.files) folder) opened now)
+  pub full : AllByRecursion (IsEndTold (λ next. WhereTold now.folder (HasLong (changed_names false None linked.files) next))) (all_told service.guests)
   pub faults : service.has_begun ≡ true → LastReturned (λ store. FaultsAreTold (all_told service.guests) service.ended (length linked.files) (λ file. 0) store.failed_reads store.failed_changes) opened now
   pub idle : HasServedOut service meant → WhereTold now.folder AllIdle
   pub at_rest : HasServedOut service meant → WhereTold now.folder (λ folder. OpensTo (files_of folder) leaf (replay sector_size disk service.history))
+  pub no_log : HasServedOut service meant → service.has_begun ≡ true → WhereTold now.folder (NoneNamesLog (changed_names false None linked.files))
 
 -- The chain is opened, as by a dump, and its guests are served, or no session begins. A fault is met where the host's count rose, and only
 -- there.

@@ -1,4 +1,3 @@
-use Rattle.std.proofs.Common.{refl}
 use Rattle.serve_session.proofs.Final.{none_served}
 use Rattle.serve_session.proofs.serving.ended.Goals as goal
 

@@ -1,4 +1,4 @@
-use Rattle.std.proofs.Common.{rules, ◌≡◌, ◌++◌, ◌∷◌, [], true, ap, drop, length, map, sym, ◌∙◌}
+use Rattle.std.proofs.Common.{rules, ◌++◌, ◌∷◌, [], true, ap, drop, length, map, sym, ◌∙◌}
 use Rattle.layer_session.proofs.Equal.{true_false}
 use Rattle.serve_session.specs.Asking.{outcome_of, shown_in}
 use Rattle.serve_session.specs.Served.{told_call}

@@ -26,5 +26,5 @@ returns-clause-leaves g c =
     let first = c.self.inside.first.value in
     let e = c.close-store.ensures in
     let end = ended disk chain c.close-store.result.0 c.close-store.result.2 e.broken e.read e.counts e.err e.told in
-    subst (λ (s : Shared (Chain g.row.S.Denot KeepAll g.row.S-R.Denot)). LeavesHistory (session_of disk s.first) s.chain.recorder s.broke c.close-store.result.2 (disk c.close-store.result.0)) c.self.view_is
-    (leaves (session_of disk first) (session_of disk chain) chain.recorder (disk c.close-store.result.0) c.close-store.result.2 c.self.inside.broke c.self.inside.fault c.self.invariant end.broken end.told)
+    subst (λ (s : Shared (Chain g.row.S.Denot KeepAll g.row.S-R.Denot)). LeavesHistory (session_of disk s.first) s.chain.recorder s.full s.broke c.close-store.result.2 (disk c.close-store.result.0)) c.self.view_is
+    (leaves (session_of disk first) (session_of disk chain) chain.recorder (disk c.close-store.result.0) c.close-store.result.2 c.self.inside.full c.self.inside.broke c.self.inside.fault c.self.invariant end.broken end.told)

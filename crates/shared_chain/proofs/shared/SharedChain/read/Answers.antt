@@ -17,7 +17,7 @@ returns-clause-called g c =
     let n = length c.args.out.now in
     let a = subst (λ z. Answered c.args.who (calls.Read c.args.first (n / z)) (session_of disk old) (session_of disk new) c.read-answer.result) c.self.invariant.sound.sector
     (answered disk old new c.args.who (calls.Read c.args.first (n / old.layers.geometry.sector)) c.read-answer.result e.sound e.events e.geometry e.session e.leaf e.early e.notes e.cause tt e.merge e.told) in
-    called_as disk old new c.args.who (calls.Read c.args.first (n / 512)) c.read-answer.result a c.self.inside.first.value c.self.inside.broke c.self.inside.fault c.self.invariant c.self.inside.full c.self.inside.spent c.full_behind-self-inside.result c.spent_behind-self-inside.result
+    called_as disk old new c.args.who (calls.Read c.args.first (n / 512)) c.read-answer.result a c.self.inside.first.value c.self.inside.full c.self.inside.broke c.self.inside.fault c.self.invariant c.self.inside.spent c.full_behind-self-inside.result c.spent_behind-self-inside.result
     c.full_behind-self-inside.ensures c.spent_behind-self-inside.ensures c.broke_behind-self-inside.result c.fault_behind-self-inside.result c.broke_behind-self-inside.ensures c.fault_behind-self-inside.ensures c.args.self.now c.self.view_is
 
 pub returns-clause-replies : goal.returns-clause-replies
@@ -29,7 +29,7 @@ returns-clause-replies g c =
     let n = length c.args.out.now in
     let a = subst (λ z. Answered c.args.who (calls.Read c.args.first (n / z)) (session_of disk old) (session_of disk new) c.read-answer.result) c.self.invariant.sound.sector
     (answered disk old new c.args.who (calls.Read c.args.first (n / old.layers.geometry.sector)) c.read-answer.result e.sound e.events e.geometry e.session e.leaf e.early e.notes e.cause tt e.merge e.told) in
-    found_as disk old new c.args.who (calls.Read c.args.first (n / 512)) c.read-answer.result a c.self.inside.first.value c.self.inside.broke c.self.inside.fault c.self.invariant (replies.Bytes c.read-answer.new.out) c.args.self.now
+    found_as disk old new c.args.who (calls.Read c.args.first (n / 512)) c.read-answer.result a c.self.inside.first.value c.self.inside.full c.self.inside.broke c.self.inside.fault c.self.invariant (replies.Bytes c.read-answer.new.out) c.args.self.now
     (ap (λ s. s.chain) c.self.view_is) (ap (λ s. s.first) c.self.view_is)
     (subst (λ z. OnOk c.read-answer.result (Finds c.args.first (n / z) c.read-answer.new.out old.layers (disk old.store))) c.self.invariant.sound.sector e.finds)
 
@@ -42,8 +42,8 @@ invariant_of-self g c =
     let n = length c.args.out.now in
     let a = subst (λ z. Answered c.args.who (calls.Read c.args.first (n / z)) (session_of disk old) (session_of disk new) c.read-answer.result) c.self.invariant.sound.sector
     (answered disk old new c.args.who (calls.Read c.args.first (n / old.layers.geometry.sector)) c.read-answer.result e.sound e.events e.geometry e.session e.leaf e.early e.notes e.cause tt e.merge e.told) in
-    home_as disk old new c.args.who (calls.Read c.args.first (n / 512)) c.read-answer.result a c.self.inside.first.value c.self.inside.broke c.self.inside.fault c.self.invariant c.broke_behind-self-inside.result c.fault_behind-self-inside.result
-    c.broke_behind-self-inside.ensures c.fault_behind-self-inside.ensures
+    home_as disk old new c.args.who (calls.Read c.args.first (n / 512)) c.read-answer.result a c.self.inside.first.value c.self.inside.full c.self.inside.broke c.self.inside.fault c.self.invariant c.full_behind-self-inside.result c.broke_behind-self-inside.result c.fault_behind-self-inside.result
+    c.full_behind-self-inside.ensures c.broke_behind-self-inside.ensures c.fault_behind-self-inside.ensures
 
 pub read-answer-requires-clause-whole : goal.read-answer-requires-clause-whole
 read-answer-requires-clause-whole g c = subst (λ z. length c.args.out.now % z ≡ 0) (sym c.self.invariant.sound.sector) c.requires
