@@ -25,7 +25,7 @@ use std::convert::AsStr;
 use std::snapshot::Snapshot;
 use std::sync::Wait;
 use std::thread::{Threads, for_each_mut};
-use store_model::{Gate, Store};
+use store_model::{Gate, Store, StoreFault};
 use turn_lock::{Seat, TurnLock};
 use vx_base::NoRoom;
 
@@ -281,4 +281,17 @@ fn ended<S: Store>(chain: SharedChain<S>) -> (S, ScriptRun)
         closed,
     };
     (store, run)
+}
+
+/// What is told where memory ran out before the chain could be shared, and its session ended so.
+pub(crate) fn unserved(closed: Result<(), StoreFault>) -> ScriptRun
+    ensures transcript { IfOk result.transcript (λ text. ⊥) }
+    ensures fault { result.fault ≡ None }
+    ensures closed { result.closed ≡ closed }
+{
+    ScriptRun {
+        transcript: Err(NoRoom),
+        fault: None,
+        closed,
+    }
 }

@@ -7,7 +7,7 @@ ghost use Rattle.merge_plan.specs.Attached.{CanStart};
 ghost use Rattle.serve_session.specs.Running.{HasRunServe};
 ghost use Rattle.serve_session.specs.Served.{guest_count};
 
-use crate::serving::serve;
+use crate::serving::{serve, unserved};
 use chain_core::{Chain, Mode, StartRefusal};
 use guest_model::KeepAll;
 use link_rules::LinkedFile;
@@ -53,19 +53,13 @@ where
     ensures kept { OnErr result.1 (EachOpensAlike files.now (S.disk store).told (S.disk result.0).told) }
     ensures still { OnErr result.1 (LeavesOthersFrom (S.disk store).told (S.disk result.0).told) }
 {
-    match Chain::start(alloc, store, files, Mode::Guests, KeepAll::new(alloc), ids) {
-        Ok(chain) => {
-            let (store, run) = serve(
-                rt,
-                alloc,
-                SharedChain::new(chain),
-                names,
-                lines,
-                rooms,
-                gate,
-            );
-            (store, Ok(run))
-        }
-        Err((store, refusal)) => (store, Err(refusal)),
-    }
+    let chain = match Chain::start(alloc, store, files, Mode::Guests, KeepAll::new(alloc), ids) {
+        Ok(chain) => chain,
+        Err((store, refusal)) => return (store, Err(refusal)),
+    };
+    let (store, run) = match SharedChain::new(alloc, chain) {
+        Ok(chain) => serve(rt, alloc, chain, names, lines, rooms, gate),
+        Err((store, closed)) => (store, unserved(closed)),
+    };
+    (store, Ok(run))
 }

@@ -1,6 +1,6 @@
 //! The chain that threads share.
 
-ghost use Rattle.std.specs.Prelude.{◌≡◌, ◌%◌, ◌/◌, [], None, OnOk, length};
+ghost use Rattle.std.specs.Prelude.{◌≡◌, ◌%◌, ◌/◌, [], None, IfErr, IfOk, OnOk, length};
 ghost use Rattle.guest_model.specs.declared.call.Call.TheVariants as calls;
 ghost use Rattle.guest_model.specs.declared.call.Reply.TheVariants as replies;
 ghost use Rattle.chain_core.specs.Answering.{IsDurable};
@@ -16,6 +16,7 @@ ghost use Rattle.shared_chain.specs.Steps.{broke_after, steps_of};
 use crate::basis::Breach;
 use chain_core::Chain;
 use guest_model::{Caller, ChainRefusal, KeepAll};
+use std::alloc::{AllocFailed, Global};
 use std::marker::Model;
 use std::snapshot::Snapshot;
 use store_model::{Store, StoreFault};
@@ -26,7 +27,8 @@ const SECTOR: u64 = 512;
 /// A chain in a session whose history is kept whole. It is sound whenever nobody has it, and where its store tells its content it serves
 /// that history.
 pub struct SharedChain<S: Store> {
-    chain: Chain<S, KeepAll>,
+    // on the heap, so that a turn hands on a pointer
+    chain: Box<Chain<S, KeepAll>>,
     // how it was when its session had begun
     first: Snapshot<Chain<S, KeepAll>>,
     // the greatest unit that a call was refused at for want of room
@@ -48,9 +50,9 @@ impl<S: Store> Model for SharedChain<S> {
 
     ghost use Rattle.shared_chain.specs.Homes.{IsHome, session_of};
 
-    ghost view = { λ s. record { chain = s.chain; first = s.first.value; full = s.full; spent = s.spent; broke = s.broke; fault = s.fault } };
+    ghost view = { λ s. record { chain = s.chain.value; first = s.first.value; full = s.full; spent = s.spent; broke = s.broke; fault = s.fault } };
 
-    ghost invariant = { λ s. IsHome (session_of S.disk s.first.value) (session_of S.disk s.chain) s.chain.recorder s.full s.broke s.fault };
+    ghost invariant = { λ s. IsHome (session_of S.disk s.first.value) (session_of S.disk s.chain.value) s.chain.value.recorder s.full s.broke s.fault };
 }
 
 // The greatest unit that a call was refused at for want of room, behind this answer.
@@ -113,21 +115,35 @@ fn fault_behind(fault: Option<StoreFault>, answer: Result<u64, ChainRefusal>) ->
 }
 
 impl<S: Store> SharedChain<S> {
-    /// A chain whose session has just begun.
-    pub fn new(chain: Chain<S, KeepAll>) -> SharedChain<S>
+    /// A chain whose session has just begun. Where there is no memory for it the session is ended, as by `close`: the store comes back, and
+    /// how the session ended.
+    pub fn new(
+        alloc: Global,
+        chain: Chain<S, KeepAll>,
+    ) -> Result<SharedChain<S>, (S, Result<(), StoreFault>)>
         requires sound { IsSound (session_of S.disk chain) }
         requires fresh { (chain.events ≡ 0) × (chain.broken ≡ None) × (chain.recorder ≡ []) }
-        ensures { result ≡ record { chain = chain; first = chain; full = None; spent = None; broke = None; fault = None } }
+        ensures ok { IfOk result (λ s. s ≡ record { chain = chain; first = chain; full = None; spent = None; broke = None; fault = None }) }
+        ensures ended { IfErr result (λ left. IsEnded (session_of S.disk chain) (S.disk left.0) left.1) }
+        ensures counted { IfErr result (λ left. EndsCounted (S.disk chain.store) (S.disk left.0) None left.1) }
+        ensures leaves { IfErr result (λ left. LeavesHistory (session_of S.disk chain) [] None None left.1 (S.disk left.0)) }
     {
         let first = Snapshot::of(&chain);
-        SharedChain {
+        let chain = match Box::new(alloc, chain) {
+            Ok(chain) => chain,
+            Err(AllocFailed { value }) => {
+                let (store, _, closed) = value.close();
+                return Err((store, closed));
+            }
+        };
+        Ok(SharedChain {
             chain,
             first,
             full: None,
             spent: None,
             broke: None,
             fault: None,
-        }
+        })
     }
 
     /// The length of the history.
@@ -215,7 +231,7 @@ impl<S: Store> SharedChain<S> {
             broke: _,
             fault,
         } = self;
-        let (store, history, closed) = chain.close();
+        let (store, history, closed) = Box::into_inner(chain).close();
         (store, history, fault, closed)
     }
 }

@@ -1,6 +1,7 @@
 use Rattle.std.proofs.Common.{subst}
 use Rattle.guest_model.specs.declared.recorder.KeepAll.{KeepAll}
 use Rattle.chain_core.specs.declared.chain.Chain.{Chain}
+use Rattle.script_session.specs.Running.{IsEnded}
 use Rattle.shared_chain.specs.Closing.{LeavesHistory}
 use Rattle.shared_chain.specs.Faults.{EndsCounted}
 use Rattle.shared_chain.specs.Homes.{session_of}
@@ -12,19 +13,23 @@ use Rattle.shared_chain.proofs.shared.SharedChain.close.Goals as goal
 pub returns-clause-counted : goal.returns-clause-counted
 returns-clause-counted g c =
     let disk = g.S.Store.disk in
-    let chain = c.self.inside.chain in
+    let chain = c.self.inside.chain.value in
     let first = c.self.inside.first.value in
     let e = c.close-store.ensures in
-    let end = ended disk chain c.close-store.result.0 c.close-store.result.2 e.broken e.read e.counts e.err e.told in
+    let inner = c.into_inner.result in
+    let end = subst (λ o. IsEnded (session_of disk o) (disk c.close-store.result.0) c.close-store.result.2) c.into_inner.ensures
+    (ended disk inner c.close-store.result.0 c.close-store.result.2 e.broken e.read e.counts e.err e.told) in
     subst (λ (s : Shared (Chain g.row.S.Denot KeepAll g.row.S-R.Denot)). EndsCounted (disk s.first.store) (disk c.close-store.result.0) s.fault c.close-store.result.2) c.self.view_is
     (ends_counted (disk first.store) (session_of disk chain) (disk c.close-store.result.0) c.self.inside.fault c.close-store.result.2 c.self.invariant.counted end)
 
 pub returns-clause-leaves : goal.returns-clause-leaves
 returns-clause-leaves g c =
     let disk = g.S.Store.disk in
-    let chain = c.self.inside.chain in
+    let chain = c.self.inside.chain.value in
     let first = c.self.inside.first.value in
     let e = c.close-store.ensures in
-    let end = ended disk chain c.close-store.result.0 c.close-store.result.2 e.broken e.read e.counts e.err e.told in
+    let inner = c.into_inner.result in
+    let end = subst (λ o. IsEnded (session_of disk o) (disk c.close-store.result.0) c.close-store.result.2) c.into_inner.ensures
+    (ended disk inner c.close-store.result.0 c.close-store.result.2 e.broken e.read e.counts e.err e.told) in
     subst (λ (s : Shared (Chain g.row.S.Denot KeepAll g.row.S-R.Denot)). LeavesHistory (session_of disk s.first) s.chain.recorder s.full s.broke c.close-store.result.2 (disk c.close-store.result.0)) c.self.view_is
     (leaves (session_of disk first) (session_of disk chain) chain.recorder (disk c.close-store.result.0) c.close-store.result.2 c.self.inside.full c.self.inside.broke c.self.inside.fault c.self.invariant end.broken end.told)

@@ -1,5 +1,7 @@
-use Rattle.std.proofs.Common.{◌≡◌, ◌%◌, length, subst, sym}
+use Rattle.std.proofs.Common.{◌≡◌, ◌%◌, ◌∙◌, ap, length, subst, sym}
 use Rattle.guest_model.specs.declared.call.Call.TheVariants as calls
+use Rattle.shared_chain.specs.Answers.{Answered}
+use Rattle.shared_chain.specs.Homes.{session_of}
 use Rattle.shared_chain.proofs.Calling.{answered, called_as, home_as}
 use Rattle.shared_chain.proofs.shared.SharedChain.write.Goals as goal
 
@@ -7,9 +9,11 @@ pub returns : goal.returns
 returns g c =
     let e = c.write-answer.ensures in
     let disk = g.S.Store.disk in
-    let old = c.self.inside.chain in
+    let old = c.self.inside.chain.value in
+    let lent = c.deref_mut.result.now in
     let new = c.write-answer.new.self in
-    let a = answered disk old new c.args.who (calls.Write c.args.first c.args.bytes.now) c.write-answer.result e.sound e.events e.geometry e.session e.leaf e.early e.notes e.cause e.room e.merge e.told in
+    let a = subst (λ o. Answered c.args.who (calls.Write c.args.first c.args.bytes.now) (session_of disk o) (session_of disk new) c.write-answer.result) c.deref_mut.ensures.value
+    (answered disk lent new c.args.who (calls.Write c.args.first c.args.bytes.now) c.write-answer.result e.sound e.events e.geometry e.session e.leaf e.early e.notes e.cause e.room e.merge e.told) in
     called_as disk old new c.args.who (calls.Write c.args.first c.args.bytes.now) c.write-answer.result a c.self.inside.first.value c.self.inside.full c.self.inside.broke c.self.inside.fault c.self.invariant c.self.inside.spent c.full_behind-self-inside.result c.spent_behind-self-inside.result
     c.full_behind-self-inside.ensures c.spent_behind-self-inside.ensures c.broke_behind-self-inside.result c.fault_behind-self-inside.result c.broke_behind-self-inside.ensures c.fault_behind-self-inside.ensures c.args.self.now c.self.view_is
 
@@ -17,11 +21,13 @@ pub invariant_of-self : goal.invariant_of-self
 invariant_of-self g c =
     let e = c.write-answer.ensures in
     let disk = g.S.Store.disk in
-    let old = c.self.inside.chain in
+    let old = c.self.inside.chain.value in
+    let lent = c.deref_mut.result.now in
     let new = c.write-answer.new.self in
-    let a = answered disk old new c.args.who (calls.Write c.args.first c.args.bytes.now) c.write-answer.result e.sound e.events e.geometry e.session e.leaf e.early e.notes e.cause e.room e.merge e.told in
+    let a = subst (λ o. Answered c.args.who (calls.Write c.args.first c.args.bytes.now) (session_of disk o) (session_of disk new) c.write-answer.result) c.deref_mut.ensures.value
+    (answered disk lent new c.args.who (calls.Write c.args.first c.args.bytes.now) c.write-answer.result e.sound e.events e.geometry e.session e.leaf e.early e.notes e.cause e.room e.merge e.told) in
     home_as disk old new c.args.who (calls.Write c.args.first c.args.bytes.now) c.write-answer.result a c.self.inside.first.value c.self.inside.full c.self.inside.broke c.self.inside.fault c.self.invariant c.full_behind-self-inside.result c.broke_behind-self-inside.result c.fault_behind-self-inside.result
     c.full_behind-self-inside.ensures c.broke_behind-self-inside.ensures c.fault_behind-self-inside.ensures
 
 pub write-answer-requires-clause-whole : goal.write-answer-requires-clause-whole
-write-answer-requires-clause-whole g c = subst (λ z. length c.args.bytes.now % z ≡ 0) (sym c.self.invariant.sound.sector) c.requires
+write-answer-requires-clause-whole g c = subst (λ z. length c.args.bytes.now % z ≡ 0) (sym (ap (λ o. o.layers.geometry.sector) c.deref_mut.ensures.value ∙ c.self.invariant.sound.sector)) c.requires

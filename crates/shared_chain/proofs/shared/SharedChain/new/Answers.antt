@@ -1,0 +1,15 @@
+use Rattle.std.proofs.Common.{[], None, subst}
+use Rattle.script_session.specs.Running.{IsEnded}
+use Rattle.shared_chain.specs.Homes.{session_of}
+use Rattle.shared_chain.proofs.Ended.{ended, leaves}
+use Rattle.shared_chain.proofs.Homing.{begins}
+use Rattle.shared_chain.proofs.shared.SharedChain.new.Goals as goal
+
+pub returns-in-Err-clause-leaves : goal.returns-in-Err-clause-leaves
+returns-in-Err-clause-leaves g c =
+    let disk = g.S.Store.disk in
+    let e = c.close-store.ensures in
+    let end = subst (λ o. IsEnded (session_of disk o) (disk c.close-store.result.0) c.close-store.result.2) c.in-Err.ensures.value_returned
+    (ended disk c.in-Err.field-0.value c.close-store.result.0 c.close-store.result.2 e.broken e.read e.counts e.err e.told) in
+    let s = session_of disk c.args.chain in
+    leaves s s [] (disk c.close-store.result.0) c.close-store.result.2 None None None (begins s c.requires.sound c.requires.fresh.1) end.broken end.told
