@@ -47,6 +47,22 @@ module _ (word lo hi : ℕ) where
       by_place (inl a) = let z : bit_at (2 ^ hi - 2 ^ lo) i ≡ 0 = bit_at_mask_below lo hi i a in omega (arith, z, either)
       by_place (inr a) = let z : bit_at (2 ^ hi - 2 ^ lo) i ≡ 0 = bit_at_mask_above lo hi i a in omega (arith, z, either)
 
+-- two words without a bit, and together
+pub none_of : (a b : ℕ) → bit_or a b ≡ 0 → (a ≡ 0) × (b ≡ 0)
+none_of a b e = (same_from_bits a 0 left, same_from_bits b 0 right)
+  where
+    both : (i : ℕ) → max (bit_at a i) (bit_at b i) ≡ 0
+    both i = sym (bit_at_or a b i) ∙ ap (λ (n : ℕ). bit_at n i) e ∙ bit_at-zero i
+
+    left : (i : ℕ) → bit_at a i ≡ bit_at 0 i
+    left i = let z : bit_at a i ≡ 0 = omega (arith, both i) in z ∙ sym (bit_at-zero i)
+
+    right : (i : ℕ) → bit_at b i ≡ bit_at 0 i
+    right i = let z : bit_at b i ≡ 0 = omega (arith, both i) in z ∙ sym (bit_at-zero i)
+
+pub none_in : (a b : ℕ) → a ≡ 0 → b ≡ 0 → bit_or a b ≡ 0
+none_in a b x y = ap (λ (n : ℕ). bit_or n b) x ∙ ap (bit_or 0) y
+
 -- a run, as it is computed
 pub run_is : (first count : ℕ) → 0 < count → first + count ≤ 64 → (2 ^ 64 - 1) / 2 ^ (64 - count) * 2 ^ first % 2 ^ 64 ≡ 2 ^ (first + count) - 2 ^ first
 run_is first count some fits = ap (λ (n : ℕ). n * 2 ^ first % 2 ^ 64) shifted ∙ ap (λ (n : ℕ). n % 2 ^ 64) times ∙ mod-eq_of_lt small
@@ -138,3 +154,23 @@ module _ (words : List ℕ) (at count mask : ℕ) (fits : at % 64 + count ≤ 64
         by_place (inr a) (inl b) c = rw (is_between from (at + count) t a (omega (arith, b))) (set_elsewhere t (inl b) ∙ (rw (is_between from at t a b) at (h t)))
         by_place (inr a) (inr b) (inl c) = rw (is_between from (at + count) t a c) (set_here t b c)
         by_place (inr a) (inr b) (inr c) = rw (is_behind from (at + count) t c) (set_elsewhere t (inr c) ∙ (rw (is_behind from at t b) at (h t)))
+
+    -- whether one of them was set
+    module _ (old : List ℕ) (from met : ℕ) (h : (t : ℕ) → bit_of words t ≡ (if nat_le from t && nat_lt t at then 1 else bit_of old t)) where
+      as_before : (t : ℕ) → at ≤ t → bit_of words t ≡ bit_of old t
+      as_before t le = rw (is_behind from at t le) at (h t)
+
+      pub still_none : (met ≡ 0 → (t : ℕ) → from ≤ t → t < at → bit_of old t ≡ 0) → bit_or met (bit_and (slice_index words (at / 64)) mask) ≡ 0
+          → (t : ℕ) → from ≤ t → t < at + count → bit_of old t ≡ 0
+      still_none none e t a b = by_place (cases_lt t at)
+        where
+          parts : (met ≡ 0) × (bit_and (slice_index words (at / 64)) mask ≡ 0)
+          parts = none_of met (bit_and (slice_index words (at / 64)) mask) e
+
+          by_place : (t < at) ⊎ (at ≤ t) → bit_of old t ≡ 0
+          by_place (inl l) = none parts.0 t a l
+          by_place (inr r) = sym (as_before t r) ∙ step_clear parts.1 t r b
+
+      pub none_still : from ≤ at → (((t : ℕ) → from ≤ t → t < at → bit_of old t ≡ 0) → met ≡ 0) → ((t : ℕ) → from ≤ t → t < at + count → bit_of old t ≡ 0)
+          → bit_or met (bit_and (slice_index words (at / 64)) mask) ≡ 0
+      none_still le some all = none_in met (bit_and (slice_index words (at / 64)) mask) (some (λ t a b. all t a (omega (arith, b)))) (clear_step (λ t a b. as_before t a ∙ all t (omega (arith, a, le)) b))

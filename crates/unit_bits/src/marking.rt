@@ -1,10 +1,10 @@
 //! Marks of a file's units.
 
-ghost use Rattle.std.specs.Prelude.{◌≡◌, ℕ, ◌*◌, ◌≤◌, true, false, Decides, IfOk, length};
+ghost use Rattle.std.specs.Prelude.{◌≡◌, ℕ, ◌+◌, ◌<◌, ◌≤◌, false, Decides, IfOk};
 ghost use Rattle.unit_bits.specs.Marked.{IsFree, count_of, marks_of, with_block};
 
 use crate::bits::UnitBits;
-use crate::words::{are_clear, set_bits};
+use crate::words::set_bits;
 use std::alloc::{AllocError, Global};
 
 impl UnitBits {
@@ -17,22 +17,17 @@ impl UnitBits {
         Ok(UnitBits { words, count })
     }
 
-    /// Marks the units of a block, and answers true, where all of them are there and none was marked before. Else nothing is
-    /// marked.
+    /// Marks the units of a block, where all of them are there, and answers whether they are and none was marked before.
     pub fn mark(&mut self, unit: u64, units: u64) -> bool
         ensures answer { Decides result (IsFree (count_of self.old) (marks_of self.old) unit units) }
-        ensures marked { result ≡ true → (t : ℕ) → marks_of self.new t ≡ with_block unit units (marks_of self.old) t }
-        ensures same { result ≡ false → (t : ℕ) → marks_of self.new t ≡ marks_of self.old t }
+        ensures marked { unit + units ≤ count_of self.old → (t : ℕ) → marks_of self.new t ≡ with_block unit units (marks_of self.old) t }
+        ensures outside { count_of self.old < unit + units → (t : ℕ) → marks_of self.new t ≡ marks_of self.old t }
         ensures count { count_of self.new ≡ count_of self.old }
     {
         if units > self.count || unit > self.count - units {
             return false;
         }
         let end = (unit + units) as usize;
-        if !are_clear(self.words.as_slice(), unit as usize, end) {
-            return false;
-        }
-        set_bits(self.words.as_mut_slice(), unit as usize, end);
-        true
+        set_bits(self.words.as_mut_slice(), unit as usize, end)
     }
 }

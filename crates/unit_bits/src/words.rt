@@ -22,33 +22,21 @@ fn ones(first: usize, count: usize) -> u64
     (u64::MAX >> (64 - count)) << first
 }
 
-/// Whether none of the bits from `from` up to `to` is set.
-pub fn are_clear(words: &[u64], from: usize, to: usize) -> bool
-    requires order { from ≤ to }
-    requires within { to ≤ 64 * length words.now }
-    ensures { Decides result ((t : ℕ) → from ≤ t → t < to → bit_of words.now t ≡ 0) }
-{
-    let mut at = from;
-    while at < to {
-        let count = count_in_word(at, to);
-        if words[at / 64] & ones(at % 64, count) != 0 {
-            return false;
-        }
-        at += count;
-    }
-    true
-}
-
-/// Sets the bits from `from` up to `to`.
-pub fn set_bits(words: &mut [u64], from: usize, to: usize)
+/// Sets the bits from `from` up to `to`, and answers whether none of them was set.
+pub fn set_bits(words: &mut [u64], from: usize, to: usize) -> bool
     requires order { from ≤ to }
     requires within { to ≤ 64 * length words.old }
-    ensures { (t : ℕ) → bit_of words.new t ≡ (if nat_le from t && nat_lt t to then 1 else bit_of words.old t) }
+    ensures answer { Decides result ((t : ℕ) → from ≤ t → t < to → bit_of words.old t ≡ 0) }
+    ensures set { (t : ℕ) → bit_of words.new t ≡ (if nat_le from t && nat_lt t to then 1 else bit_of words.old t) }
 {
     let mut at = from;
+    let mut met = 0;
     while at < to {
         let count = count_in_word(at, to);
-        words[at / 64] |= ones(at % 64, count);
+        let run = ones(at % 64, count);
+        met |= words[at / 64] & run;
+        words[at / 64] |= run;
         at += count;
     }
+    met == 0
 }
