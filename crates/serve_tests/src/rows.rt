@@ -143,6 +143,30 @@ fn which_words_and_guests_are_refused(rt: HostRuntime) {
     }
 }
 
+// Behind a session the file names no log, and nothing else is found wrong with it.
+#[test]
+fn leaves_a_clean_file(rt: HostRuntime) {
+    let alloc = rt.alloc();
+    let mut host = empty_host(alloc);
+    let mut ids = ids_of(&rt, alloc, &[]);
+    script_done(&rt, alloc, BASE, "", &mut host, &mut ids);
+    let script = "1 write 0 1 aa\n2 trim 0 4096\n3 write 65535 2 cc\n1 flush\n";
+    script_done(
+        &rt,
+        alloc,
+        "serve b.vhdx --workers 0",
+        script,
+        &mut host,
+        &mut ids,
+    );
+    let text = script_done(&rt, alloc, "check b.vhdx", "", &mut host, &mut ids);
+    ask(
+        &rt,
+        is_one_of(text.bytes.as_slice(), &["clean\n"]),
+        "a finding",
+    );
+}
+
 // A line of a transcript whose call has this guest, and no other.
 fn is_of_guest(line: &str, guest: u64) -> bool {
     let mut words = line.split(' ');
