@@ -3,7 +3,7 @@
 ghost use Rattle.std.specs.Prelude.{◌≡◌, ◌∷◌, ◌++◌, [], true, List, IfOk, OnOk};
 ghost use Rattle.block_table.specs.declared.overlaps.Block.{Block};
 ghost use Rattle.block_table.specs.Overlaps.{HasEnd};
-ghost use Rattle.unit_bits.specs.Marked.{marks_of};
+ghost use Rattle.unit_bits.specs.Marked.{count_of, marks_of};
 ghost use Rattle.table_faults.specs.Keeping.{AreMarkedApart};
 
 use block_table::Block;
@@ -57,7 +57,9 @@ pub struct Apart {
 impl Apart {
     /// No block yet, of a file of so many units.
     pub fn new(alloc: Global, units: u64) -> Result<Apart, AllocError>
-        ensures { IfOk result (λ kept. AreMarkedApart (marks_of kept.bits) []) }
+        ensures none { IfOk result (λ kept. AreMarkedApart (marks_of kept.bits) []) }
+        ensures units { IfOk result (λ kept. count_of kept.bits ≡ units) }
+        ensures apart { IfOk result (λ kept. kept.apart ≡ true) }
     {
         Ok(Apart {
             bits: UnitBits::new(alloc, units)?,
