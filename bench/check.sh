@@ -29,20 +29,6 @@ with open(sys.argv[1], "r+b") as file:
 PYTHON
 }
 
-# Milliseconds of the best of five runs of a command, and its peak memory.
-measure() {
-  local best=999999999 start took
-  for _ in 1 2 3 4 5; do
-    start=$(date +%s%N)
-    "$@" > /dev/null
-    took=$(($(date +%s%N) - start))
-    [ "$took" -lt "$best" ] && best=$took
-  done
-  local peak
-  peak=$( { /usr/bin/time -f %M "$@" > /dev/null; } 2>&1 | tail -n 1)
-  awk -v ns="$best" -v kb="$peak" 'BEGIN { printf "%7.1f ms %7d KB\n", ns / 1e6, kb }'
-}
-
 make_full order.vhdx order
 make_full none.vhdx none
 "$program" make dynamic empty.vhdx --sectors 2147483648 --block 1 > /dev/null

@@ -1,4 +1,4 @@
-# What the measurements of the program share: a folder of their own, the program, and scripts in qemu-io's words.
+# What the measurements of the program share: a folder of their own, the program, scripts in qemu-io's words, and the time of a command.
 set -e
 top=$(cd "$(dirname "$0")/.." && pwd)
 work=$(mktemp -d)
@@ -19,3 +19,17 @@ as_qemu() {
 # 256 MB by 1 MB: written, and read.
 awk 'BEGIN { for (i = 0; i < 256; i++) printf "write %d 2048 %02x\n", 2048 * i, i; print "flush" }' > fill
 awk 'BEGIN { for (i = 0; i < 256; i++) printf "read %d 2048\n", 2048 * i }' > read
+
+# Milliseconds of the best of five runs of a command, and its peak memory.
+measure() {
+  local best=999999999 start took
+  for _ in 1 2 3 4 5; do
+    start=$(date +%s%N)
+    "$@" > /dev/null
+    took=$(($(date +%s%N) - start))
+    [ "$took" -lt "$best" ] && best=$took
+  done
+  local peak
+  peak=$( { /usr/bin/time -f %M "$@" > /dev/null; } 2>&1 | tail -n 1)
+  awk -v ns="$best" -v kb="$peak" 'BEGIN { printf "%7.1f ms %7d KB\n", ns / 1e6, kb }'
+}

@@ -14,14 +14,14 @@ done
 "$program" steps disk.vhdx < full > /dev/null
 
 # Seconds of the best of five runs of a command over a script, and its processor seconds and memory.
-measure() {
+best() {
   for _ in 1 2 3 4 5; do
     /usr/bin/time -f '%e s, processor %U + %S s, %M KB' "$program" "${@:2}" < "$1" 2>&1 > /dev/null | tail -n 1
   done | sort -n | head -n 1
 }
 
 for calls in writes reads; do
-  echo "$calls, steps:             $(measure $calls steps disk.vhdx)"
-  echo "$calls, serve, one guest:  $(measure $calls.1 serve disk.vhdx --workers 0)"
-  echo "$calls, serve, four:       $(measure $calls.4 serve disk.vhdx --workers 0)"
+  echo "$calls, steps:             $(best $calls steps disk.vhdx)"
+  echo "$calls, serve, one guest:  $(best $calls.1 serve disk.vhdx --workers 0)"
+  echo "$calls, serve, four:       $(best $calls.4 serve disk.vhdx --workers 0)"
 done

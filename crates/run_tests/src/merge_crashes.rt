@@ -9,7 +9,7 @@ use crate::common::{
     says, script_done, stands,
 };
 use mem_file::Pick;
-use mem_store::{MemHost, MemIds, MemStore, Returned};
+use mem_store::{Crash, MemHost, MemIds, MemStore, Returned};
 use std::alloc::Global;
 use std::process::Abort;
 use std::sync::Wait;
@@ -403,6 +403,102 @@ pub fn each_pick<R: Abort + Threads + Wait + Sync>(
         let ended = shown.merged && shown.written == of.all() && logged;
         ask(rt, ended, "another end");
     }
+}
+
+// What a crash of an opening of these files leaves, where it has such a moment.
+fn crashed_opening<R: Abort + Threads + Wait + Sync>(
+    rt: &R,
+    alloc: Global,
+    files: &ChainBytes,
+    crash: Crash,
+) -> Option<ChainBytes> {
+    let mut host = host_of(rt, alloc, files);
+    host.crash = Some(crash);
+    let mut ids = ids_of(rt, alloc, &[]);
+    script_done(rt, alloc, "info c.vhdx", "", &mut host, &mut ids);
+    let left = host.take_crashed()?;
+    Some(held_bytes(rt, alloc, &left))
+}
+
+// What these files show.
+fn shown_in<R: Abort + Threads + Wait + Sync>(
+    rt: &R,
+    alloc: Global,
+    of: &Merging,
+    files: &ChainBytes,
+) -> Shown {
+    let mut host = host_of(rt, alloc, files);
+    let mut ids = ids_of(rt, alloc, &DRAWN_LATER);
+    look_at(rt, alloc, of, &mut host, &mut ids)
+}
+
+// Asks that a crash at each moment of this store of an opening leaves what shows the same. Gives how many left other bytes than the files
+// had.
+fn each_second_crash<R: Abort + Threads + Wait + Sync>(
+    rt: &R,
+    alloc: Global,
+    of: &Merging,
+    files: &ChainBytes,
+    shown: Shown,
+    store: u64,
+    pick: Pick,
+) -> u64 {
+    let mut others = 0u64;
+    for moment in 0..500u64 {
+        let crash = Crash {
+            store,
+            moment,
+            pick,
+        };
+        let Some(left) = crashed_opening(rt, alloc, files, crash) else {
+            return others;
+        };
+        if !are_same(&left, files) {
+            let now = shown_in(rt, alloc, of, &left);
+            ask(rt, now == shown, "another disk behind a second crash");
+            others = others.saturating_add(1);
+        }
+    }
+    panic!(rt; "too many moments")
+}
+
+// Asks it of each store of the opening.
+fn opens_again<R: Abort + Threads + Wait + Sync>(
+    rt: &R,
+    alloc: Global,
+    of: &Merging,
+    files: &ChainBytes,
+    pick: Pick,
+) -> u64 {
+    let shown = shown_in(rt, alloc, of, files);
+    let mut others = 0u64;
+    for store in 0..of.opened {
+        let more = each_second_crash(rt, alloc, of, files, shown, store as u64, pick);
+        others = others.saturating_add(more);
+    }
+    others
+}
+
+/// Asks it of what a crash at each moment of the session leaves.
+pub fn each_opens_again<R: Abort + Threads + Wait + Sync>(
+    rt: &R,
+    alloc: Global,
+    of: &Merging,
+    pick: Pick,
+) {
+    let files = new_files(rt, alloc, of);
+    let store = session(rt, alloc, of, &files);
+    let mut image = crashed(rt, alloc, &store, 0, pick);
+    let mut others = 0u64;
+    for before in 0..store.order.len() {
+        let moment = (before as u64).saturating_add(1);
+        let left = crashed(rt, alloc, &store, moment, pick);
+        if !are_same(&left, &image) {
+            others = others.saturating_add(opens_again(rt, alloc, of, &left, pick));
+        }
+        image = left;
+    }
+    ask(rt, others > 0, "no opening changed a file");
 }
 
 // Whether the session is done though this call of a store is to fail. If it isn't, the fault leaves what can be merged to the end.

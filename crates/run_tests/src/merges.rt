@@ -4,7 +4,7 @@
 use crate::common::{Case, PLAIN};
 use crate::merge_crashes::{
     DRAWN, DRAWN_LATER, ENDED, Merging, TO_THE_END, UNFIT_FIRST, UNFIT_ZERO, each_failing_call,
-    each_is_told, each_pick, each_unfit_is_refused,
+    each_is_told, each_opens_again, each_pick, each_unfit_is_refused,
 };
 use crate::stories::{Step, play};
 use mem_file::Pick;
@@ -196,6 +196,16 @@ fn crashes_of_a_merge(rt: HostRuntime) {
 #[test]
 fn torn_writes_of_a_merge(rt: HostRuntime) {
     each_pick(&rt, rt.alloc(), &MIDDLE, &[Pick::Front(256)])
+}
+
+#[test]
+fn second_crashes_of_a_merge(rt: HostRuntime) {
+    each_opens_again(&rt, rt.alloc(), &MIDDLE, Pick::Everything)
+}
+
+#[test]
+fn second_crashes_of_a_merge_that_lost_all(rt: HostRuntime) {
+    each_opens_again(&rt, rt.alloc(), &MIDDLE, Pick::Nothing)
 }
 
 #[test]
