@@ -97,7 +97,8 @@ def whole(number, unit):
 
 
 def overlap(a, a_length, b, b_length):
-    return a < b + b_length and b < a + a_length
+    """Whether two ranges have a byte together; an empty one has none."""
+    return max(a, b) < min(a + a_length, b + b_length)
 
 
 def touching(one, all_):
