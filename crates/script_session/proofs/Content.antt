@@ -86,7 +86,7 @@ put_untold piece answer old new none h = go (put_refused piece old) refl
     go None is = both_untold _ old.disk.told new.disk.told none (h.told is)
     go (Some e) is = ap (λ (s : Session). s.disk.told) (subst (λ o. IfStopped {T = Unit {0}} o answer (IsUnchanged old new)) is h.early).1 ∙ none
 
-turn_untold : (stripe : ℕ) (answer : Result (Unit {0}) ChainRefusal) (old new : Session) → old.disk.told ≡ None → AnswersTurn stripe answer old new → new.disk.told ≡ None
+pub turn_untold : (stripe : ℕ) (answer : Result (Unit {0}) ChainRefusal) (old new : Session) → old.disk.told ≡ None → AnswersTurn stripe answer old new → new.disk.told ≡ None
 turn_untold stripe answer old new none (not_fetched x _ _ left fetched) = fetch_untold stripe (Err x) old new left none fetched
 turn_untold stripe answer old new none (fetched_and _ stamp _ mid _ piece fetched put) = put_untold piece answer mid new (fetch_untold stripe (Ok stamp) old mid piece none fetched) put
 
@@ -105,7 +105,7 @@ copy_untold answer old new slot left none h = go (merge_refused old) refl
     go None is = ends answer (h.turns is)
     go (Some e) is = ap (λ (s : Session). s.disk.told) (subst (λ o. IfStopped {T = Unit {0}} o answer ((new ≡ old) × (left ≡ slot))) is h.early).1.0 ∙ none
 
-finish_untold : (answer : Result (Unit {0}) ChainRefusal) (old new : Session) → old.disk.told ≡ None → AnswersFinish answer old new → new.disk.told ≡ None
+pub finish_untold : (answer : Result (Unit {0}) ChainRefusal) (old new : Session) → old.disk.told ≡ None → AnswersFinish answer old new → new.disk.told ≡ None
 finish_untold answer old new none h = go (merge_refused old) refl
   where
     go : (o : Option ChainRefusal) → merge_refused old ≡ o → new.disk.told ≡ None

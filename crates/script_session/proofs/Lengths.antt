@@ -106,7 +106,7 @@ module _ (P : ℕ → Type 0) where
   abbrev Free : ChainRefusal → Type 0
   Free x = IsEndTold P (Err x)
 
-  free_by : (e x : ChainRefusal) → Some e ≡ Some x → Free e → Free x
+  pub free_by : (e x : ChainRefusal) → Some e ≡ Some x → Free e → Free x
   free_by e x h q = subst Free (same_Some e x h) q
 
   none_free : (x : ChainRefusal) → None ≡ Some x → Free x

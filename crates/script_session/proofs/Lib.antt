@@ -4,6 +4,7 @@ pub mod Counting
 pub mod Ending
 pub mod Full
 pub mod LeafScripts
+pub mod Leaving
 pub mod LeftFiles
 pub mod Lengths
 pub mod LineAnswers
@@ -14,6 +15,7 @@ pub mod Marked
 pub mod MergeEnds
 pub mod MergeScripts
 pub mod Moving
+pub mod Resting
 pub mod Room
 pub mod Running
 pub mod Scripts

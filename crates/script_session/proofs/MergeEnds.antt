@@ -1,6 +1,6 @@
 -- What stands behind a script's session that started with a merge: of the leaf, or of a file below it.
 use Rattle.std.proofs.Common.{◌≡◌, ◌≢◌, ℕ, Bool, true, false, List, [], ◌∷◌, map, Option, Some, None, Result, Ok, Err, refl, sym, ap, ap₂, subst, ◌∙◌}
-use Rattle.std.specs.Prelude.{IfSome, OnOk, is_some}
+use Rattle.std.specs.Prelude.{◌||◌, IfSome, OnOk, is_some}
 use Rattle.std.specs.List.{AllByRecursion}
 use Rattle.store_model.specs.Disk.{Disk, WhereBothTold}
 use Rattle.store_model.specs.File.{File, is_synced, seen}
@@ -15,36 +15,22 @@ use Rattle.chain_model.specs.Members.{names_of}
 use Rattle.chain_model.specs.Moments.{EachOpens, EachOpensToPrefix}
 use Rattle.merge_core.specs.declared.piece.Piece.{Piece}
 use Rattle.chain_core.specs.Answering.{EachLinks, HasClosed, HasEnded}
-use Rattle.chain_core.specs.Sessions.{HasNoMerge, Session}
+use Rattle.chain_core.specs.Sessions.{HasNoMerge, Session, has_merge}
 use Rattle.chain_core.specs.Starting.{opening_disk}
 use Rattle.chain_core.specs.States.{IsCourse, IsRetiring, IsServing, Rest, State, disk_now, files_of, merging, others_of, plain, retiring, sector_of}
 use Rattle.link_rules.specs.declared.linked.LinkedFile.{LinkedFile}
 use Rattle.chain_core.specs.declared.layers.Layers.{Layers}
+use Rattle.chain_core.specs.declared.layers.Retiring.{Retiring}
+use Rattle.chain_core.specs.declared.layers.Underway.{Underway}
 use Rattle.script.specs.declared.form.Line.{Line}
 use Rattle.script_session.specs.Histories.{AreTold, Break, Course, Drive, Grows, IsEndTold, IsMarkedSo, IsOnCourse, IsSoLong, OpensLast, Stands, TellsHistory, all_names, below_marked, copying, disk_after, is_broken, is_under_way, leaf_marked, no_merge, names_left, numbers_left, open_in, serves, staying}
 use Rattle.script_session.specs.MergeRunning.{HasHistoryOver, IsAtRestOver, Scope, drive_over, just_started}
 use Rattle.script_session.specs.Running.{IsEnded, open_by, open_last}
 use Rattle.script_session.specs.Told.{Told, sector_size}
-use Rattle.script_session.proofs.LeftFiles.{all_numbers, all_stay, later_number, later_since, later_writes, own_synced, own_unnamed}
 use Rattle.script_session.proofs.Lengths.{ends_later, grows_none, long_later, moments_grow}
-use Rattle.script_session.proofs.Marked.{none_plain}
+use Rattle.script_session.proofs.Resting.{IsScope, all_synced, all_unnamed, links_all, links_left, may_change, others_as, under_way_is}
 use Rattle.script_session.proofs.Scripts.{ended_of, last_as, past_as}
 use Rattle.script_session.proofs.Telling.{both_told, opens_last}
-
--- What the session's first state has of its scope: `mid` is the moment when its merge was prepared.
-pub record IsScope (scope : Scope) (v : State) (trace mid : Trace) : Type 1 where
-  pub leaf : v.leaf ≡ scope.leaf
-  pub history : v.history ≡ []
-  pub opening : v.opening ≡ opening_disk trace scope.files
-  pub began : v.began ≡ trace
-  pub since : v.since ≡ mid
-  pub changes : (n : ℕ) → scope.changes n ≡ false → v.writes n ≡ false
-  pub rest : (other : ℕ) → scope.changes other ≡ false → file_of mid other ≡ file_of trace other
-  pub quiet : (n : ℕ) → scope.changes n ≡ true → v.writes n ≡ false → is_synced (file_of mid n) ≡ true
-  pub unnamed : (n : ℕ) → scope.changes n ≡ true → v.writes n ≡ false → NamesNoLog (seen (file_of mid n))
-  pub own : (P : ℕ → Type 0) → P v.top.number → AllByRecursion P (numbers_left v) → (n : ℕ) → v.writes n ≡ true → P n
-  pub names : names_left v ≡ scope.staying
-  pub all : all_names v ≡ map (λ (f : LinkedFile). f.name) scope.files
 
 module _ (scope : Scope) (v : State) (trace mid : Trace) (is : IsScope scope v trace mid) (lines : List Line) (told : List Told) (behind : Session) (after : Disk) (closed : Result (Unit {0}) StoreFault) (ended : IsEnded behind after closed) (left : Piece)
     (tells : TellsHistory (drive_over scope trace) 1 lines told v (just_started scope.of_leaf) None mid behind left) where
@@ -68,23 +54,11 @@ module _ (scope : Scope) (v : State) (trace mid : Trace) (is : IsScope scope v t
   moments_as b now past =
       past_as (sector_of later) sector_size later.opening (opening_disk trace scope.files) later.leaf scope.leaf later.began trace later.history b now tells.over.sector tells.over.opening leaf_is (tells.same.began ∙ is.began) past
 
-  may_change : (n : ℕ) → v.writes n ≡ true → scope.changes n ≡ true
-  may_change n written = by_change (scope.changes n) refl
-    where
-      by_change : (b : Bool) → scope.changes n ≡ b → scope.changes n ≡ true
-      by_change true e = e
-      by_change false e = let never : false ≡ true = sym (is.changes n e) ∙ written in cc
-
   full_as : (now : Trace) → Grows tells.now now → AllByRecursion (IsEndTold (IsSoLong scope.changes now)) told
-  full_as now grows = ends_later (IsSoLong v.writes tells.now) (IsSoLong scope.changes now) (λ next. long_later v.writes scope.changes tells.now now next may_change grows) told tells.full
+  full_as now grows = ends_later (IsSoLong v.writes tells.now) (IsSoLong scope.changes now) (λ next. long_later v.writes scope.changes tells.now now next (may_change scope v trace mid is later.history later tells.same now) grows) told tells.full
 
   last_of : (call : Option Call) (now : Trace) → OpensLast later call now → EachOpens scope.leaf (either (is_dirty sector_size later.history) (open_in sector_size call)) (disk_after drive later.history) now
   last_of call now last = last_as (sector_of later) sector_size later.opening (opening_disk trace scope.files) later.leaf scope.leaf later.history call now tells.over.sector tells.over.opening leaf_is last
-
-  others_as : (now : Trace) → ((other : ℕ) → later.writes other ≡ false → file_of now other ≡ file_of later.since other) → (other : ℕ) → scope.changes other ≡ false → file_of now other ≡ file_of trace other
-  others_as now still other none =
-      let unwritten : v.writes other ≡ false = is.changes other none in
-      still other (later_writes v later tells.same.goes other unwritten) ∙ later_since v later tells.same.goes other unwritten ∙ ap (λ t. file_of t other) is.since ∙ is.rest other none
 
   -- a fault has broken the session
   behind_break : (b : Break) → tells.broken ≡ Some b → behind.broken ≡ Some b.fault → ((other : ℕ) → later.writes other ≡ false → file_of tells.now other ≡ file_of later.since other)
@@ -100,92 +74,42 @@ module _ (scope : Scope) (v : State) (trace mid : Trace) (is : IsScope scope v t
         moments = subst (λ o. EachOpensToPrefix sector_size (opening_disk trace scope.files) later.history (open_by o) scope.leaf trace tells.now) (sym by) (moments_as (λ z. open_in z b.call) tells.now past);
         last = subst (λ o. EachOpens scope.leaf (open_last later.history o) (disk_after drive later.history) tells.now) (sym by) (last_of b.call tells.now last);
         full = full_as tells.now (grows_none tells.now);
-        still = others_as tells.now still;
+        still = others_as scope v trace mid is later.history later tells.same tells.now still;
         at_rest = subst (λ r. OnOk r (IsAtRestOver scope drive later.history tells.now)) (sym e.0) tt;
         linked = λ done. subst (λ r. OnOk r (EachLinks scope.leaf.name scope.staying tells.now)) (sym e.0) tt;
         stays = λ some. subst (λ r. OnOk r (EachLinks scope.leaf.name (map (λ (f : LinkedFile). f.name) scope.files) tells.now)) (sym e.0) tt;
       } in
       subst (λ o. WhereBothTold (HasHistoryOver scope lines told closed) (Some trace) o) (sym now_is) has
 
-  -- nothing of the files that are changed is unsynced
-  module _ (now : Trace) (still : (other : ℕ) → later.writes other ≡ false → file_of now other ≡ file_of later.since other) (synced : AllByRecursion (λ f. is_synced (file_of now f.number) ≡ true) (files_of later)) where
-    abbrev Synced : ℕ → Type 0
-    Synced n = is_synced (file_of now n) ≡ true
-
-    staying_synced : AllByRecursion Synced (numbers_left v)
-    staying_synced =
-        subst (AllByRecursion Synced) tells.same.left (all_numbers Synced (staying later.top later.rest) (all_stay (λ f. Synced f.number) later.top later.rest synced.0 synced.1))
-
-    weaker : (ns : List ℕ) → AllByRecursion Synced ns → AllByRecursion (λ n. later.writes n ≡ true → Synced n) ns
-    weaker [] h = tt
-    weaker (n ∷ ns) h = ((λ own. h.0), weaker ns h.1)
-
-    all_synced : (n : ℕ) → scope.changes n ≡ true → Synced n
-    all_synced n changed = by_write (v.writes n) refl
-      where
-        by_write : (b : Bool) → v.writes n ≡ b → Synced n
-        by_write false none = ap is_synced (still n (later_writes v later tells.same.goes n none) ∙ later_since v later tells.same.goes n none ∙ ap (λ t. file_of t n) is.since) ∙ is.quiet n changed none
-        by_write true some =
-            own_synced v later later.history now tells.same still n some
-            (is.own (λ n. later.writes n ≡ true → Synced n) (λ own. subst Synced (later_number v later tells.same.goes own) synced.0) (weaker (numbers_left v) staying_synced) n some)
-
-  -- and none of them names a log
-  module _ (now : Trace) (still : (other : ℕ) → later.writes other ≡ false → file_of now other ≡ file_of later.since other) (named : AllByRecursion (λ f. later.writes f.number ≡ true → NamesNoLog (seen (file_of now f.number))) (files_of later)) where
-    abbrev Unnamed : ℕ → Type 0
-    Unnamed n = later.writes n ≡ true → NamesNoLog (seen (file_of now n))
-
-    staying_unnamed : AllByRecursion Unnamed (numbers_left v)
-    staying_unnamed =
-        subst (AllByRecursion Unnamed) tells.same.left (all_numbers Unnamed (staying later.top later.rest) (all_stay (λ f. Unnamed f.number) later.top later.rest named.0 named.1))
-
-    all_unnamed : (n : ℕ) → scope.changes n ≡ true → NamesNoLog (seen (file_of now n))
-    all_unnamed n changed = by_write (v.writes n) refl
-      where
-        by_write : (b : Bool) → v.writes n ≡ b → NamesNoLog (seen (file_of now n))
-        by_write false none =
-            subst (λ (f : File). NamesNoLog (seen f)) (sym (still n (later_writes v later tells.same.goes n none) ∙ later_since v later tells.same.goes n none ∙ ap (λ t. file_of t n) is.since)) (is.unnamed n changed none)
-        by_write true some =
-            own_unnamed v later later.history now tells.same still n some
-            (is.own Unnamed (λ own. subst (λ k. NamesNoLog (seen (file_of now k))) (later_number v later tells.same.goes own) (named.0 (ap later.writes (later_number v later tells.same.goes own) ∙ own))) staying_unnamed n some)
-
   -- it has ended, or its end failed
   module _ (none : tells.broken ≡ None) (serving : IsServing behind.layers later tells.now) (on : IsOnCourse later behind.layers left tells.end) (now : Trace) (h : HasClosed (is_some behind.layers.leaf) later tells.now now closed) where
-    of_members : (files : List Placed) → names_of (members_of files) ≡ map (λ f. f.member.name) files
-    of_members [] = refl
-    of_members (f ∷ files) = ap (λ rest. f.member.name ∷ rest) (of_members files)
+    under : is_under_way later.rest ≡ has_merge behind.layers
+    under = under_way_is behind.layers later tells.now serving
 
     links_of : (r : Result (Unit {0}) StoreFault) → HasClosed (is_some behind.layers.leaf) later tells.now now r → HasNoMerge behind.layers → OnOk r (EachLinks scope.leaf.name scope.staying now)
     links_of (Err fault) h gone = tt
-    links_of (Ok done) h gone =
-        let plain_is : staying later.top later.rest ≡ later.top ∷ others_of later.rest =
-        none_plain (sector_of later) later.writes later.history behind.layers behind.layers.merge behind.layers.retiring later.top later.rest gone.0 gone.1 serving.course serving.leaving in
-        let names : map (λ f. f.member.name) (files_of later) ≡ scope.staying = ap (map (λ f. f.member.name)) (sym plain_is) ∙ tells.same.names ∙ is.names in
-        subst (λ l. EachLinks l.name scope.staying now) leaf_is (subst (λ ns. EachLinks later.leaf.name ns now) (of_members (files_of later) ∙ names) h.links)
+    links_of (Ok done) h gone = links_left scope v trace mid is later.history later tells.same now (under ∙ ap₂ (λ (o : Option Underway) (r : Option Retiring). is_some o || is_some r) gone.0 gone.1) h.links
 
     -- a merge that isn't finished is under way
-    marked_under : (layers : Layers) (copied : ℕ → Bool) (l : Bool) (rest : Rest) → IsMarkedSo layers copied l → IsCourse (sector_of later) later.writes layers layers.merge later.top rest → IsRetiring (sector_of later) later.writes later.history layers layers.retiring later.top rest
-        → is_under_way rest ≡ true
-    marked_under layers copied l (merging above source target below m) marked course leaving = refl
-    marked_under layers copied l (retiring target below first before) marked course leaving = refl
-    marked_under layers copied _ (plain others) (below_marked u is only marks) course leaving = absurd (subst (λ o. IsCourse (sector_of later) later.writes layers o later.top (plain others)) is course)
-    marked_under layers copied _ (plain others) (leaf_marked r is only marks) course leaving = absurd (subst (λ o. IsRetiring (sector_of later) later.writes later.history layers o later.top (plain others)) only leaving)
+    marked_merge : (layers : Layers) (copied : ℕ → Bool) (l : Bool) → IsMarkedSo layers copied l → has_merge layers ≡ true
+    marked_merge layers copied _ (below_marked u is only marks) = ap₂ (λ (o : Option Underway) (r : Option Retiring). is_some o || is_some r) is only
+    marked_merge layers copied _ (leaf_marked r is only marks) = ap₂ (λ (o : Option Underway) (r : Option Retiring). is_some o || is_some r) is only
 
     under_way : (course : Course) → course ≢ no_merge → IsOnCourse later behind.layers left course → is_under_way later.rest ≡ true
     under_way no_merge some on = absurd (some refl)
-    under_way (copying l copied waits) some on = marked_under behind.layers copied l later.rest on.0 serving.course serving.leaving
+    under_way (copying l copied waits) some on = under ∙ marked_merge behind.layers copied l on.0
 
     stays_of : (r : Result (Unit {0}) StoreFault) → HasClosed (is_some behind.layers.leaf) later tells.now now r → is_under_way later.rest ≡ true → OnOk r (EachLinks scope.leaf.name (map (λ (f : LinkedFile). f.name) scope.files) now)
-    stays_of (Err fault) h under = tt
-    stays_of (Ok done) h under =
-        subst (λ l. EachLinks l.name (map (λ (f : LinkedFile). f.name) scope.files) now) leaf_is (subst (λ ns. EachLinks later.leaf.name ns now) (of_members (files_of later) ∙ (tells.same.whole under).1 ∙ is.all) h.links)
+    stays_of (Err fault) h some = tt
+    stays_of (Ok done) h some = links_all scope v trace mid is later.history later tells.same now some h.links
 
     rest_of : (r : Result (Unit {0}) StoreFault) → HasClosed (is_some behind.layers.leaf) later tells.now now r → OnOk r (IsAtRestOver scope drive later.history now)
     rest_of (Err fault) h = tt
     rest_of (Ok done) h =
         let disk : disk_now later ≡ disk_after drive later.history = ap₂ (λ (z : ℕ) (o : GuestDisk). replay z o later.history) tells.over.sector tells.over.opening in
         record {
-          synced = all_synced now h.ended.still (h.synced tells.over.change);
-          no_log = all_unnamed now h.ended.still (h.no_log tells.over.change);
+          synced = all_synced scope v trace mid is later.history later tells.same now h.ended.still (h.synced tells.over.change);
+          no_log = all_unnamed scope v trace mid is later.history later tells.same now h.ended.still (h.no_log tells.over.change);
           opens = subst (λ d. EachOpens scope.leaf (λ s. false) d now) disk (subst (λ l. EachOpens l (λ s. false) (disk_now later) now) leaf_is h.all);
         }
 
@@ -200,7 +124,7 @@ module _ (scope : Scope) (v : State) (trace mid : Trace) (is : IsScope scope v t
           moments = subst (λ o. EachOpensToPrefix sector_size (opening_disk trace scope.files) later.history (open_by o) scope.leaf trace now) (sym none) (moments_as (λ z s. false) now end.past);
           last = subst (λ o. EachOpens scope.leaf (open_last later.history o) (disk_after drive later.history) now) (sym none) (last_of None now (opens_last later tells.now now end.moments));
           full = full_as now (moments_grow _ tells.now now end.moments);
-          still = others_as now end.still;
+          still = others_as scope v trace mid is later.history later tells.same now end.still;
           at_rest = rest_of closed h;
           linked = λ done. links_of closed h (subst (IsOnCourse later behind.layers left) done on);
           stays = λ some. stays_of closed h (under_way tells.end some on);

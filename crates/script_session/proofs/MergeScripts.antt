@@ -42,7 +42,8 @@ use Rattle.script_session.proofs.Counting.{lines_counted}
 use Rattle.script_session.proofs.Ending.{end_counted, end_untold, faults_told, last_counted, quiet_end}
 use Rattle.script_session.proofs.LeftFiles.{all_at, names_all, names_started, number_of}
 use Rattle.script_session.proofs.LinesTold.{lines_told}
-use Rattle.script_session.proofs.MergeEnds.{IsNewMerge, IsScope, has_history}
+use Rattle.script_session.proofs.MergeEnds.{IsNewMerge, has_history}
+use Rattle.script_session.proofs.Resting.{IsScope}
 
 -- ---- the history
 
@@ -56,7 +57,7 @@ source_unwritten m =
     ap₂ (λ (a b : Bool). a || b) (ap₂ (λ (a b : Bool). a || b) (ne_eqb (source_place m) 0 (λ e. absurd (omega (arith, e)))) (ne_eqb (source_place m) (child_place m) (λ e. absurd (omega (arith, e))))) (ne_eqb (source_place m) (target_place m) (λ e. absurd (omega (arith, e))))
 
 -- nothing of it was unsynced then
-source_then : (m : MergeFiles) (ids : MergeIds) (pages : List Page) (trace mid : Trace)
+pub source_then : (m : MergeFiles) (ids : MergeIds) (pages : List Page) (trace mid : Trace)
     → (let v = started_merge trace mid m ids pages in AllByRecursion (WasSynced v.writes v.since) (files_of v)) → is_synced (file_of mid (source_place m)) ≡ true
 source_then m ids pages trace mid synced =
     let v = started_merge trace mid m ids pages in
@@ -102,7 +103,7 @@ only_source m n changed unwritten = elim (or_cases (is_written m n) (n == source
   | inr e ↦ eqb-true n (source_place m) e
 ]
 
-scope_is : (m : MergeFiles) (merge : Merge) (trace mid : Trace) → ((other : ℕ) → is_changed m other ≡ false → file_of mid other ≡ file_of trace other) → is_synced (file_of mid (source_place m)) ≡ true → NamesNoLog (seen (file_of mid (source_place m)))
+pub scope_is : (m : MergeFiles) (merge : Merge) (trace mid : Trace) → ((other : ℕ) → is_changed m other ≡ false → file_of mid other ≡ file_of trace other) → is_synced (file_of mid (source_place m)) ≡ true → NamesNoLog (seen (file_of mid (source_place m)))
     → names_left (started_merge trace mid m merge.ids merge.twice) ≡ names_without m → all_names (started_merge trace mid m merge.ids merge.twice) ≡ map (λ (f : LinkedFile). f.name) (chain_files m) → IsScope (scope_of m) (started_merge trace mid m merge.ids merge.twice) trace mid
 scope_is m merge trace mid rest synced no_log names all = record {
   leaf = refl;

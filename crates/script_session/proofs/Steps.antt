@@ -63,12 +63,12 @@ module _ (s : Session) (few : s.events < 2 ^ 63) (whole : s.broken ≡ None) (no
 
 -- ---- what a finish leaves
 
-record FinishLeft (layers : Layers) (v : State) (now : Trace) : Type 0 where
-  state : State
-  serving : IsServing layers state now
-  history : state.history ≡ v.history
-  opening : state.opening ≡ v.opening
-  same : (h : History) (later : State) → IsLater state h later → IsLater v h later
+pub record FinishLeft (layers : Layers) (v : State) (now : Trace) : Type 0 where
+  pub state : State
+  pub serving : IsServing layers state now
+  pub history : state.history ≡ v.history
+  pub opening : state.opening ≡ v.opening
+  pub same : (h : History) (later : State) → IsLater state h later → IsLater v h later
 
 abbrev first_look : Look → List Look → Look
 first_look other [] = other
@@ -140,7 +140,7 @@ module _ (old new : Layers) (v : State) (now : Trace) where
   by_below (merging above source target below m) is leaving done = below_left new v now (merging above source target below m) is refl refl done
   by_below (retiring target below first before) is leaving done = absurd leaving
 
-  finish_left : (r : Option Retiring) → Leaving r v.rest → LeavesBy r v new now → FinishLeft new v now
+  pub finish_left : (r : Option Retiring) → Leaving r v.rest → LeavesBy r v new now → FinishLeft new v now
   finish_left None leaving done = by_below v.rest refl leaving done
   finish_left (Some r) leaving done = by_leaf r.third v.rest refl done
 

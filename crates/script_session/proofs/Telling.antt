@@ -188,7 +188,7 @@ done_whole (calls.Trim first count) place old new c fit = (c fit).1
 done_whole calls.Flush place old new c fit = (c fit).1
 
 -- the files are the same
-numbers_entry : (e : Entry) (v : State) → numbers_left (with_entry e v) ≡ numbers_left v
+pub numbers_entry : (e : Entry) (v : State) → numbers_left (with_entry e v) ≡ numbers_left v
 numbers_entry e v = by_rest v.rest
   where
     by_rest : (rest : Rest) → map (λ f. f.number) (staying (made (sector_of v) e.call v.top) rest) ≡ map (λ f. f.number) (staying v.top rest)
@@ -196,7 +196,7 @@ numbers_entry e v = by_rest v.rest
     by_rest (merging above source target below m) = refl
     by_rest (retiring target below first before) = refl
 
-names_entry : (e : Entry) (v : State) → names_left (with_entry e v) ≡ names_left v
+pub names_entry : (e : Entry) (v : State) → names_left (with_entry e v) ≡ names_left v
 names_entry e v = by_rest v.rest
   where
     by_rest : (rest : Rest) → map (λ f. f.member.name) (staying (made (sector_of v) e.call v.top) rest) ≡ map (λ f. f.member.name) (staying v.top rest)

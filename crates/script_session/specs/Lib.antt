@@ -1,5 +1,6 @@
 pub mod Told
 pub mod MergeSteps
+pub mod StepsLeft
 pub mod Answers
 pub mod Histories
 pub mod Faults

@@ -2,6 +2,7 @@
 
 ghost use Rattle.script_session.specs.Faults.{LinesCountFaults};
 ghost use Rattle.script_session.specs.Histories.{LinesTellHistory};
+ghost use Rattle.script_session.specs.StepsLeft.{FinishesLeave, TurnsLeave};
 
 /// Lines that were answered one after the other were told the history's disk, each at its place; and behind them the session
 /// stands with that history.
@@ -13,4 +14,14 @@ pub fn lines_tell_history()
 /// one the counts stay.
 pub fn lines_count_faults()
     ensures { LinesCountFaults }
+{}
+
+/// A turn of a copy leaves a later state of what its session serves, with the same history; or it broke the session.
+pub fn turns_leave()
+    ensures { TurnsLeave }
+{}
+
+/// So does a finish.
+pub fn finishes_leave()
+    ensures { FinishesLeave }
 {}

@@ -71,8 +71,8 @@ pub fn put<S: Store, R: Recorder>(
     answer
 }
 
-// Fetches a stripe and puts it.
-fn move_stripe<S: Store, R: Recorder>(
+/// Fetches a stripe and puts it. Whatever is answered, no piece is left.
+pub fn move_stripe<S: Store, R: Recorder>(
     chain: &mut Chain<S, R>,
     stripe: u32,
     piece: &mut Piece,
