@@ -32,7 +32,8 @@ use Rattle.vx_base.proofs.Handed.{on_ok_any}
 use Rattle.turn_lock.specs.Steps.{places_after}
 use Rattle.turn_lock.proofs.Fronts.{starts-itself, starts-through}
 use Rattle.turn_lock.proofs.Using.{may_unlock-entry, may_unlock-same, turn_ended}
-use Rattle.guest_io.specs.Guests.{AddsNothing, Answers, HasBroken, IsCall, IsShown, KeepsSeat}
+use Rattle.guest_io.specs.Guests.{AddsNothing, Answers, HasBroken, IsCall, IsShown}
+use Rattle.shared_chain.specs.Seats.{KeepsSeat}
 
 -- ---- steps
 

@@ -15,30 +15,16 @@ use Rattle.shared_chain.specs.declared.basis.Step.TheVariants.{Broke, Done}
 use Rattle.shared_chain.specs.Answers.{IsCausedIn, RepliesBehind, misplaced_in}
 use Rattle.shared_chain.specs.Bases.{Contains}
 use Rattle.shared_chain.specs.Notes.{HasNote}
+use Rattle.shared_chain.specs.Seats.{KeepsSeat}
 use Rattle.shared_chain.specs.Steps.{breach_of, done_steps}
 use Rattle.turn_lock.specs.Histories.{StartsWith}
-use Rattle.turn_lock.specs.Seats.{Known, TableId}
+use Rattle.turn_lock.specs.Seats.{Known}
 
 -- a guest's call of this number
 abbrev pub caller_of : ℕ → ℕ → Caller
 caller_of guest number = record { guest = guest; no = number }
 
 module _ {S T : Type 0} where
-  -- the seat is of this lock, and holds no turn
-  abbrev pub IsFree : TableId → Known Step (Basis S T) → Type 0
-  IsFree lock seat = (seat.lock ≡ lock) × (seat.turn ≡ None)
-
-  -- What stays of a seat, whatever its call is answered: it has its lock, and no turn; it goes on having seen what it had, and knowing what
-  -- it knew.
-  pub record KeepsSeat (old new : Known Step (Basis S T)) : Type 0 where
-    pub lock : new.lock ≡ old.lock
-    pub free : new.turn ≡ None
-    pub family : new.family ≡ old.family
-    pub first_ticket : new.first_ticket ≡ old.first_ticket
-    pub known : new.known ≡ old.known
-    pub seen : StartsWith new.seen old.seen
-    pub basis : Contains new.basis old.basis
-
   -- The call is the last entry of the one history, which begins with all that the seat had seen; it stands at the place that is answered, which
   -- the seat has for its own; and the reply is that of the disk on which the session began, with the calls before it made on it.
   pub record IsDone (disk : S → Disk) (who : Caller) (call : Call) (r : Reply) (old new : Known Step (Basis S T)) (place : ℕ) : Type 0 where

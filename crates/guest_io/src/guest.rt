@@ -4,7 +4,8 @@ ghost use Rattle.std.specs.Prelude.{◌≡◌, ◌/◌, ◌%◌, length, IfOk, I
 ghost use Rattle.guest_model.specs.Counts.{one_more};
 ghost use Rattle.guest_model.specs.declared.call.Call.TheVariants as calls;
 ghost use Rattle.guest_model.specs.declared.call.Reply.TheVariants as replies;
-ghost use Rattle.guest_io.specs.Guests.{IsCall, IsFree, caller_of};
+ghost use Rattle.guest_io.specs.Guests.{IsCall, caller_of};
+ghost use Rattle.shared_chain.specs.Seats.{IsFree};
 
 use crate::readers::ReaderSet;
 use guest_model::{Caller, ChainRefusal};

@@ -82,7 +82,7 @@ pub none_broke : (broke : Option Breach) (broken : Option StoreFault) → is_som
 none_broke None broken same none = refl
 none_broke (Some b) broken same none = absurd (false_true (sym (same ∙ ap (λ (o : Option StoreFault). is_some o) none)))
 
-one_broke : (broke : Option Breach) (b : Breach) → is_some broke ≡ true → Some (first_breach broke b) ≡ broke
+pub one_broke : (broke : Option Breach) (b : Breach) → is_some broke ≡ true → Some (first_breach broke b) ≡ broke
 one_broke None b some = absurd (false_true some)
 one_broke (Some earlier) b some = refl
 

@@ -24,20 +24,20 @@ use Rattle.shared_chain.specs.Faults.{AreCounted, CountsChange, EndsCounted, fau
 use Rattle.shared_chain.proofs.Reaching.{leaf_within}
 use Rattle.shared_chain.proofs.Refusals.{has_session, not_early}
 
-same_told : (old new : Disk) → new ≡ old → new ≡ record old { told = new.told }
+pub same_told : (old new : Disk) → new ≡ old → new ≡ record old { told = new.told }
 same_told old new e = subst (λ d. d ≡ record old { told = d.told }) (sym e) refl
 
 -- ---- what a call does that reaches the files
 
-abbrev HasCounted : Session → Session → Result ℕ ChainRefusal → Type 0
-HasCounted old new (Ok place) = (new.disk ≡ record (old.disk) { told = new.disk.told }) × (new.broken ≡ None)
-HasCounted old new (Err NoRoom) = (new.disk ≡ record (old.disk) { told = new.disk.told }) × (new.broken ≡ None)
-HasCounted old new (Err (FileFull next)) = (new.disk ≡ record (old.disk) { told = new.disk.told }) × (new.broken ≡ None)
-HasCounted old new (Err (ReadFault file count)) = (file < old.disk.files) × ((told : Option Trace) × ReadFailed file (record (old.disk) { told = told }) new.disk (fault_of file count)) × (new.broken ≡ None)
-HasCounted old new (Err (Broken file count)) = (file < old.disk.files) × FailsToChange file old.disk new.disk (fault_of file count) × (new.broken ≡ Some (fault_of file count))
-HasCounted old new (Err other) = ⊥
+abbrev pub HasCounted : Disk → Session → Result ℕ ChainRefusal → Type 0
+HasCounted d new (Ok place) = (new.disk ≡ record d { told = new.disk.told }) × (new.broken ≡ None)
+HasCounted d new (Err NoRoom) = (new.disk ≡ record d { told = new.disk.told }) × (new.broken ≡ None)
+HasCounted d new (Err (FileFull next)) = (new.disk ≡ record d { told = new.disk.told }) × (new.broken ≡ None)
+HasCounted d new (Err (ReadFault file count)) = (file < d.files) × ((told : Option Trace) × ReadFailed file (record d { told = told }) new.disk (fault_of file count)) × (new.broken ≡ None)
+HasCounted d new (Err (Broken file count)) = (file < d.files) × FailsToChange file d new.disk (fault_of file count) × (new.broken ≡ Some (fault_of file count))
+HasCounted d new (Err other) = ⊥
 
-by_read : (old new : Session) (answer : Result ℕ ChainRefusal) → IsCausedByRead old new answer → HasCounted old new answer
+by_read : (old new : Session) (answer : Result ℕ ChainRefusal) → IsCausedByRead old new answer → HasCounted old.disk new answer
 by_read old new (Ok place) h = (same_told old.disk new.disk h.0, h.1)
 by_read old new (Err EmptyRange) h = absurd h
 by_read old new (Err (OutOfRange first count sectors)) h = absurd h
@@ -55,7 +55,7 @@ by_read old new (Err (NoStripe stripe stripes)) h = absurd h
 by_read old new (Err NoPiece) h = absurd h
 by_read old new (Err NoRoom) h = (same_told old.disk new.disk h.0, h.1)
 
-by_change : (old new : Session) (answer : Result ℕ ChainRefusal) → leaf_number old.layers < old.disk.files → IsCausedBy old new answer → HasCounted old new answer
+by_change : (old new : Session) (answer : Result ℕ ChainRefusal) → leaf_number old.layers < old.disk.files → IsCausedBy old new answer → HasCounted old.disk new answer
 by_change old new (Ok place) leaf h = h
 by_change old new (Err EmptyRange) leaf h = absurd h
 by_change old new (Err (OutOfRange first count sectors)) leaf h = absurd h
@@ -81,7 +81,7 @@ by_change old new (Err (NoStripe stripe stripes)) leaf h = absurd h
 by_change old new (Err NoPiece) leaf h = absurd h
 by_change old new (Err NoRoom) leaf h = (same_told old.disk new.disk h.0, h.1)
 
-counted_by : (call : Call) (old new : Session) (answer : Result ℕ ChainRefusal) → IsSound old → refused call old ≡ None → HasCauseOf call old new answer → HasCounted old new answer
+counted_by : (call : Call) (old new : Session) (answer : Result ℕ ChainRefusal) → IsSound old → refused call old ≡ None → HasCauseOf call old new answer → HasCounted old.disk new answer
 counted_by (calls.Read first count) old new answer sound fit cause = by_read old new answer (cause fit)
 counted_by (calls.Write first bytes) old new answer sound fit cause =
     let f = not_early (calls.Write first bytes) old fit in by_change old new answer (leaf_within old (sound.ready f.0) (has_session (calls.Write first bytes) old.layers f.1 refl)) (cause fit)
@@ -184,7 +184,7 @@ module _ (first : Disk) (old new : Session) (fault : Option StoreFault) (whole :
         reads = λ n. let same : new.disk.failed_reads n ≡ old.disk.failed_reads n = ap (λ (d : Disk). d.failed_reads n) c.stays in omega (arith, same, h.reads n);
       }
 
-  counted_on : (answer : Result ℕ ChainRefusal) → HasCounted old new answer → AreCounted first new.disk new.broken (fault_after fault answer)
+  pub counted_on : (answer : Result ℕ ChainRefusal) → HasCounted old.disk new answer → AreCounted first new.disk new.broken (fault_after fault answer)
   counted_on (Ok place) k = quiet_on k.0 k.1
   counted_on (Err EmptyRange) k = absurd k
   counted_on (Err (OutOfRange a b c)) k = absurd k

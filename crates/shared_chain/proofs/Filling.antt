@@ -17,13 +17,14 @@ use Rattle.chain_core.specs.Sessions.{Session}
 use Rattle.chain_core.specs.States.{IsServing, State, sector_of}
 use Rattle.script_session.specs.Answers.{HasCauseOf}
 use Rattle.script_session.specs.Histories.{Grows, IsSoLong, Stops, asks_room}
-use Rattle.script_session.proofs.Lengths.{long_later}
+use Rattle.script_session.proofs.Lengths.{grows_none, long_later}
 use Rattle.script_session.proofs.Room.{IsFull, call_is_far}
 use Rattle.script_session.proofs.Telling.{both_told}
 use Rattle.shared_chain.specs.declared.basis.Breach.{Breach}
 use Rattle.shared_chain.specs.Answers.{Answered}
 use Rattle.shared_chain.specs.Homes.{Follows, IsHome}
 use Rattle.shared_chain.specs.Notes.{full_after, greatest}
+use Rattle.shared_chain.proofs.Later.{written_before}
 use Rattle.shared_chain.proofs.Refusals.{not_early}
 
 -- ---- the greatest unit
@@ -78,7 +79,8 @@ module _ (first old new : Session) (h : History) (full : Option ℕ) (broke : Op
   far from now told f =
       let serving : IsServing old.layers f.to now = f.serves (not_early call old fit).0 in
       let size : sector_of f.to ≡ 512 = sym (ap (λ (g : Geometry). g.sector) serving.geometry) ∙ home.sound.sector in
-      subst (λ (w : ℕ → Bool). (asks_room call ≡ true) × IsFull w now next) f.comes.writes (call_is_far call next f.to old now serving size told changes fit (subst (HasRoom call old) is a.room))
+      let k = call_is_far call next f.to old now serving size told changes fit (subst (HasRoom call old) is a.room) in
+      (k.0, (k.1.0, long_later f.to.writes from.writes now now next (written_before from h f.to f.comes.later) (grows_none now) k.1.1))
 
   pub stops_over : WhereTold first.disk.told (λ trace. (from : State) → IsServing first.layers from trace → from.history ≡ [] → Stops call (FileFull next))
   stops_over trace told from serving empty =

@@ -20,7 +20,8 @@ use Rattle.chain_core.specs.Sessions.{IsSound, Session}
 use Rattle.vx_base.specs.declared.parts.Geometry.{Geometry}
 use Rattle.chain_core.specs.States.{IsNextPlace, IsServing, NextIn, Rest, State, dirty_now, disk_now, entry, merging, plain, retiring, sector_of, with_entry}
 use Rattle.layer_session.proofs.Equal.{none_some, ok_err, some_none, some_same}
-use Rattle.script_session.specs.Histories.{Grows, IsSoLong}
+use Rattle.script_session.specs.Histories.{Grows, IsLater, IsSoLong}
+use Rattle.script_session.proofs.LeftFiles.{later_itself}
 use Rattle.script_session.proofs.Lengths.{moments_grow}
 use Rattle.shared_chain.specs.Answers.{Answered, IsEntered}
 use Rattle.shared_chain.specs.declared.basis.Breach.{Breach}
@@ -31,6 +32,7 @@ use Rattle.shared_chain.specs.Steps.{breach_of, broke_after, first_breach}
 use Rattle.shared_chain.proofs.Breaking.{early_same, last_broken, none_broke, past_broken}
 use Rattle.shared_chain.proofs.Counting.{begins_counted, counted_after}
 use Rattle.shared_chain.proofs.Filling.{far, long_after, second_told}
+use Rattle.shared_chain.proofs.Later.{later_entry, later_through}
 use Rattle.shared_chain.proofs.Reaching.{IsReached, reached}
 use Rattle.shared_chain.proofs.Refusals.{early, not_early}
 
@@ -46,13 +48,13 @@ next_place v noted same = by_rest v.rest
     by_rest (retiring target below first before) = ap (λ n. n + 1) same
 
 -- a session that isn't broken has not stopped
-whole_not_stopped : (o : Option StoreFault) (P : StoreFault → Type 0) → o ≡ None → IfSome o P
+pub whole_not_stopped : (o : Option StoreFault) (P : StoreFault → Type 0) → o ≡ None → IfSome o P
 whole_not_stopped o P e = subst (λ b. IfSome b P) (sym e) tt
 
-broken_not_whole : (o : Option StoreFault) (fault : StoreFault) (P : Type 0) → o ≡ Some fault → o ≡ None → P
+pub broken_not_whole : (o : Option StoreFault) (fault : StoreFault) (P : Type 0) → o ≡ Some fault → o ≡ None → P
 broken_not_whole o fault P e n = absurd (some_none (sym e ∙ n))
 
-stopped_by : (o : Option StoreFault) (fault : StoreFault) (P : StoreFault → Type 0) → o ≡ Some fault → P fault → IfSome o P
+pub stopped_by : (o : Option StoreFault) (fault : StoreFault) (P : StoreFault → Type 0) → o ≡ Some fault → P fault → IfSome o P
 stopped_by o fault P e h = subst (λ b. IfSome b P) (sym e) h
 
 -- a session begins at home
@@ -61,7 +63,6 @@ begins s sound whole = record {
   sound = sound;
   geometry = refl;
   session = refl;
-  leaf = refl;
   breaks = sym (ap (λ (o : Option StoreFault). is_some o) whole);
   counted = subst (λ o. AreCounted s.disk s.disk o None) (sym whole) (begins_counted s.disk);
   follows = go s.disk.told;
@@ -70,7 +71,7 @@ begins s sound whole = record {
     by_trace : (trace : Trace) (from : State) → IsServing s.layers from trace → from.history ≡ [] → Follows from [] None None s trace
     by_trace trace from serving empty = record {
       to = from;
-      comes = record { leaf = refl; opening = refl; began = refl; history = empty; sector = refl; number = refl; names = refl; retired = refl; writes = refl; since = refl };
+      comes = record { later = subst (λ k. IsLater from k from) empty (later_itself from); sector = refl };
       serves = λ is. serving;
       stopped = whole_not_stopped s.broken (λ fault. HasStopped from None trace) whole;
       long = tt;
@@ -85,16 +86,8 @@ begins s sound whole = record {
 -- one more call
 more : (from v : State) (h h' : History) (e : Entry) → ComesTo from h v → h' ≡ h ++ e ∷ [] → ComesTo from h' (with_entry e v)
 more from v h h' e c is = record {
-  leaf = c.leaf;
-  opening = c.opening;
-  began = c.began;
-  history = ap (λ k. k ++ e ∷ []) c.history ∙ sym is;
+  later = subst (λ k. IsLater from k (with_entry e v)) (ap (λ k. k ++ e ∷ []) c.later.history ∙ sym is) (later_through from v h (v.history ++ e ∷ []) (with_entry e v) c.later (later_entry e v));
   sector = c.sector;
-  number = c.number;
-  names = c.names;
-  retired = c.retired;
-  writes = c.writes;
-  since = c.since;
 }
 
 same_come : (from v : State) (h h' : History) → ComesTo from h v → h' ≡ h → ComesTo from h' v
@@ -155,12 +148,11 @@ module _ (from : State) (h h' : History) (old new : Session) (full full' : Optio
 follows_counted : (from : State) (h : History) (full : Option ℕ) (broke : Option Breach) (s : Session) (now : Trace) (n : ℕ) → Follows from h full broke s now → Follows from h full broke (record s { events = n }) now
 follows_counted from h full broke s now n f = record { to = f.to; comes = f.comes; serves = f.serves; stopped = f.stopped; long = f.long }
 
-home_counted : (first s : Session) (h : History) (full : Option ℕ) (broke : Option Breach) (fault : Option StoreFault) (n : ℕ) → IsHome first s h full broke fault → IsSound (record s { events = n }) → IsHome first (record s { events = n }) h full broke fault
+pub home_counted : (first s : Session) (h : History) (full : Option ℕ) (broke : Option Breach) (fault : Option StoreFault) (n : ℕ) → IsHome first s h full broke fault → IsSound (record s { events = n }) → IsHome first (record s { events = n }) h full broke fault
 home_counted first s h full broke fault n home sound = record {
   sound = sound;
   geometry = home.geometry;
   session = home.session;
-  leaf = home.leaf;
   breaks = home.breaks;
   counted = home.counted;
   follows = go first.disk.told s.disk.told home.follows;
@@ -203,7 +195,7 @@ broke_with old new broke b answer none = go answer
     go (Err NoPiece) is = absurd is
 
 -- the fault that broke it was told last
-told_last : (broken fault : Option StoreFault) (P : StoreFault → Type 0) → IfSome broken (λ f. (fault ≡ Some f) × P f) → (f : StoreFault) → broken ≡ Some f → fault ≡ Some f
+pub told_last : (broken fault : Option StoreFault) (P : StoreFault → Type 0) → IfSome broken (λ f. (fault ≡ Some f) × P f) → (f : StoreFault) → broken ≡ Some f → fault ≡ Some f
 told_last broken fault P h f is = (subst (λ o. IfSome o (λ f. (fault ≡ Some f) × P f)) is h).0
 
 module _ (first old new : Session) (h h' : History) (full : Option ℕ) (broke : Option Breach) (fault : Option StoreFault) (who : Caller) (call : Call) (answer : Result ℕ ChainRefusal) (home : IsHome first old h full broke fault) (a : Answered who call old new answer)
@@ -236,7 +228,6 @@ module _ (first old new : Session) (h h' : History) (full : Option ℕ) (broke :
             sound = a.sound;
             geometry = a.geometry ∙ home.geometry;
             session = a.session ∙ home.session;
-            leaf = a.leaf ∙ home.leaf;
             breaks = broke_with old new broke (breach_of who call) answer none is_reached;
             counted = counted_after call first.disk old new fault answer home.sound is a.cause home.counted;
             follows = both_join _ _ _ first.disk.told old.disk.told new.disk.told
@@ -244,7 +235,7 @@ module _ (first old new : Session) (h h' : History) (full : Option ℕ) (broke :
                 let before = f.1 from serving empty in
                 let long = long_after from.writes full answer u w before.long (λ next e. (far first old new h full broke fault home who call answer a is next e from u f.0 before).1.1) in
                 by_answer from h h' old new full (full_after full answer) broke who call u home.sound.sector none answer before w long (before.serves fit.0) is_reached
-                (ans before.to (before.serves fit.0) (next_place before.to old.noted (many ∙ ap length (sym before.comes.history)))) entered)
+                (ans before.to (before.serves fit.0) (next_place before.to old.noted (many ∙ ap length (sym before.comes.later.history)))) entered)
                 (second_told Went first.disk.told old.disk.told home.follows) a.told;
           }
 
@@ -258,7 +249,7 @@ replied first old h full broke fault call r home whole finds = go first.disk.tol
     by_state : (from : State) (now : Trace) → Follows from h full broke old now → ((v : State) → IsServing old.layers v now → reply (disk_now v) call ≡ r) → reply (replay (sector_of from) from.opening h) call ≡ r
     by_state from now f found =
         let disk : replay (sector_of from) from.opening h ≡ disk_now f.to =
-        ap (λ z. replay z from.opening h) (sym f.comes.sector) ∙ ap (λ (d : GuestDisk). replay (sector_of f.to) d h) (sym f.comes.opening) ∙ ap (λ k. replay (sector_of f.to) f.to.opening k) (sym f.comes.history) in
+        ap (λ z. replay z from.opening h) (sym f.comes.sector) ∙ ap (λ (d : GuestDisk). replay (sector_of f.to) d h) (sym f.comes.later.opening) ∙ ap (λ k. replay (sector_of f.to) f.to.opening k) (sym f.comes.later.history) in
         ap (λ d. reply d call) disk ∙ found f.to (f.serves whole)
 
     go : (a b : Option Trace) → WhereBothTold (λ trace after. (from : State) → IsServing first.layers from trace → from.history ≡ [] → Follows from h full broke old after) a b

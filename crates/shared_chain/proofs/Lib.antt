@@ -2,8 +2,12 @@ mod Refusals
 mod Noting
 mod Reaching
 mod Causing
+mod Later
 mod Filling
 mod Homing
+mod Stepping
+mod Merged
+mod Rest
 mod Calling
 mod Ended
 pub mod Breaking

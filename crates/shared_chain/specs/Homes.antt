@@ -5,13 +5,11 @@ use Rattle.store_model.specs.Trace.{Trace}
 use Rattle.store_model.specs.declared.fault.StoreFault.{StoreFault}
 use Rattle.guest_model.specs.declared.recorder.KeepAll.{KeepAll}
 use Rattle.guest_model.specs.History.{History, either}
-use Rattle.chain_model.specs.Images.{members_of}
-use Rattle.chain_model.specs.Members.{names_of}
 use Rattle.chain_model.specs.Moments.{EachOpens, EachOpensToPrefix}
 use Rattle.chain_core.specs.declared.chain.Chain.{Chain}
-use Rattle.chain_core.specs.Sessions.{IsSound, Session, leaf_number, seen}
-use Rattle.chain_core.specs.States.{IsServing, LeavesOthers, State, dirty_now, disk_now, files_of, sector_of}
-use Rattle.script_session.specs.Histories.{IsSoLong}
+use Rattle.chain_core.specs.Sessions.{IsSound, Session, seen}
+use Rattle.chain_core.specs.States.{IsServing, LeavesOthers, State, dirty_now, disk_now, sector_of}
+use Rattle.script_session.specs.Histories.{IsLater, IsSoLong}
 use Rattle.shared_chain.specs.declared.basis.Breach.{Breach}
 use Rattle.shared_chain.specs.Faults.{AreCounted}
 use Rattle.shared_chain.specs.Steps.{open_by}
@@ -20,24 +18,17 @@ use Rattle.shared_chain.specs.Steps.{open_by}
 abbrev pub session_of : {S T : Type 0} → (S → Disk) → Chain S KeepAll T → Session
 session_of disk chain = seen disk (λ h. length h) (λ h. Some h) chain
 
--- A state that a session may have come to, by these calls, from one in which it had none: of the same beginning, over the same files.
+-- A state that a session may have come to, by these calls, from one in which it had none, whatever steps of a merge were done between them: of the
+-- same beginning.
 pub record ComesTo (from : State) (h : History) (to : State) : Type 0 where
-  pub leaf : to.leaf ≡ from.leaf
-  pub opening : to.opening ≡ from.opening
-  pub began : to.began ≡ from.began
-  pub history : to.history ≡ h
+  pub later : IsLater from h to
   pub sector : sector_of to ≡ sector_of from
-  pub number : to.top.number ≡ from.top.number
-  pub names : names_of (members_of (files_of to)) ≡ names_of (members_of (files_of from))
-  pub retired : to.retired ≡ from.retired
-  pub writes : to.writes ≡ from.writes
-  pub since : to.since ≡ from.since
 
 -- each image opens to the disk of the whole history, outside the sectors that are dirty then and those of the call that broke the session
 abbrev pub OpensLast : State → Option Breach → Trace → Type 0
 OpensLast v broke now = EachOpens v.leaf (either (dirty_now v) (open_by broke)) (disk_now v) now
 
--- A fault has broken the session, in a call that is the next one for good: no file was changed but those that it may change, and each
+-- A fault has broken the session, in a call that is the next one for good, or in a step of the merge: no file was changed but those that it may change, and each
 -- moment since it began opens to a prefix of its history, the last one to all of it.
 pub record HasStopped (v : State) (broke : Option Breach) (now : Trace) : Type 0 where
   pub still : LeavesOthers v now
@@ -54,13 +45,12 @@ pub record Follows (from : State) (h : History) (full : Option ℕ) (broke : Opt
   pub long : IfSome full (IsSoLong from.writes now)
 
 -- A session as it is, which has this history, and as it was when it had begun: it is sound, the disk is of the same size, and changed by
--- guests or only read, as then; what broke it is the call that was told so first; the store's counts are what was told. Where the store
+-- guests or only read, as then; what broke it is the call, or the step of a merge, that was told so first; the store's counts are what was told. Where the store
 -- tells its content, it follows on each state that it served then with no call yet.
 pub record IsHome (first now : Session) (h : History) (full : Option ℕ) (broke : Option Breach) (fault : Option StoreFault) : Type 0 where
   pub sound : IsSound now
   pub geometry : now.layers.geometry ≡ first.layers.geometry
   pub session : is_some now.layers.leaf ≡ is_some first.layers.leaf
-  pub leaf : leaf_number now.layers ≡ leaf_number first.layers
   pub breaks : is_some broke ≡ is_some now.broken
   pub counted : AreCounted first.disk now.disk now.broken fault
   pub follows : WhereBothTold (λ trace after. (from : State) → IsServing first.layers from trace → from.history ≡ [] → Follows from h full broke now after) first.disk.told now.disk.told

@@ -7,3 +7,6 @@ pub mod Laws
 pub mod Homes
 pub mod Answers
 pub mod Closing
+pub mod Ends
+pub mod Merging
+pub mod Seats

@@ -34,6 +34,10 @@ changed_count Flush = 0
 abbrev pub breach_of : Caller → Call → Breach
 breach_of who call = record { guest = who.guest; no = who.no; first = first_sector call; count = changed_count call }
 
+-- a step of a merge that breaks the session, as what broke it: it is no guest's call, and names no sector
+abbrev pub merge_breach : Breach
+merge_breach = record { guest = 0; no = 0; first = 0; count = 0 }
+
 -- the sectors that the call names which broke a session, if one did: behind the whole history a crash may leave anything in them
 abbrev pub open_by : Option Breach → ℕ → Bool
 open_by None s = false

@@ -1,21 +1,25 @@
 //! The chain that threads share.
 
-ghost use Rattle.std.specs.Prelude.{◌≡◌, ◌%◌, ◌/◌, [], None, IfErr, IfOk, OnOk, length};
+ghost use Rattle.std.specs.Prelude.{◌≡◌, ◌%◌, ◌/◌, [], None, IfErr, IfOk, IfSome, IsErr, OnOk, false, length};
 ghost use Rattle.guest_model.specs.declared.call.Call.TheVariants as calls;
 ghost use Rattle.guest_model.specs.declared.call.Reply.TheVariants as replies;
 ghost use Rattle.chain_core.specs.Answering.{IsDurable};
-ghost use Rattle.chain_core.specs.Sessions.{IsSound};
+ghost use Rattle.chain_core.specs.Sessions.{HasNoMerge, IsSound, has_merge};
 ghost use Rattle.shared_chain.specs.Notes.{full_after, spent_after};
 ghost use Rattle.shared_chain.specs.Faults.{EndsCounted, fault_after};
 ghost use Rattle.shared_chain.specs.Homes.{session_of};
 ghost use Rattle.shared_chain.specs.Answers.{IsCalled, RepliesFrom};
 ghost use Rattle.script_session.specs.Running.{IsEnded};
 ghost use Rattle.shared_chain.specs.Closing.{LeavesHistory};
-ghost use Rattle.shared_chain.specs.Steps.{broke_after, steps_of};
+ghost use Rattle.shared_chain.specs.Merging.{IsMerged, IsStepped, as_answer};
+ghost use Rattle.shared_chain.specs.Steps.{broke_after, merge_breach, steps_of};
+ghost use Rattle.shared_chain.specs.Ends.{EndsMerge, is_no_merge};
 
 use crate::basis::Breach;
 use chain_core::Chain;
 use guest_model::{Caller, ChainRefusal, KeepAll};
+use merge_core::Piece;
+use script_session::{copy, finish, move_stripe};
 use std::alloc::{AllocFailed, Global};
 use std::marker::Model;
 use std::snapshot::Snapshot;
@@ -114,6 +118,47 @@ fn fault_behind(fault: Option<StoreFault>, answer: Result<u64, ChainRefusal>) ->
     }
 }
 
+// What a step of a merge answered, as the answers of calls are noted.
+fn as_answer(answer: Result<(), ChainRefusal>) -> Result<u64, ChainRefusal>
+    ensures { result ≡ as_answer answer }
+{
+    match answer {
+        Ok(()) => Ok(0),
+        Err(refusal) => Err(refusal),
+    }
+}
+
+// What broke the session, behind the answer of a step of the merge.
+fn broke_by_merge(broke: Option<Breach>, answer: Result<u64, ChainRefusal>) -> Option<Breach>
+    ensures { result ≡ broke_after broke merge_breach answer }
+{
+    broke_behind(broke, Caller { guest: 0, no: 0 }, 0, 0, answer)
+}
+
+// Whether no merge was found.
+fn is_no_merge(answer: Result<(), ChainRefusal>) -> bool
+    ensures { result ≡ is_no_merge answer }
+{
+    matches!(answer, Err(ChainRefusal::NoMerge))
+}
+
+// Copies what is missing of a merge, and finishes it; where none is under way nothing is left to be done.
+fn merge_rest<S: Store>(
+    chain: &mut Chain<S, KeepAll>,
+    piece: &mut Piece,
+) -> Result<(), ChainRefusal>
+    requires sound { IsSound (session_of S.disk chain.old) }
+    requires slot { piece.old.filled ≡ false }
+    ensures sound { IsSound (session_of S.disk chain.new) }
+    ensures ends { EndsMerge (session_of S.disk chain.old) piece.old (session_of S.disk chain.new) result }
+{
+    let answer = match copy(chain, piece) {
+        Ok(()) => finish(chain),
+        Err(refusal) => Err(refusal),
+    };
+    if is_no_merge(answer) { Ok(()) } else { answer }
+}
+
 impl<S: Store> SharedChain<S> {
     /// A chain whose session has just begun. Where there is no memory for it the session is ended, as by `close`: the store comes back, and
     /// how the session ended.
@@ -126,7 +171,7 @@ impl<S: Store> SharedChain<S> {
         ensures ok { IfOk result (λ s. s ≡ record { chain = chain; first = chain; full = None; spent = None; broke = None; fault = None }) }
         ensures ended { IfErr result (λ left. IsEnded (session_of S.disk chain) (S.disk left.0) left.1) }
         ensures counted { IfErr result (λ left. EndsCounted (S.disk chain.store) (S.disk left.0) None left.1) }
-        ensures leaves { IfErr result (λ left. LeavesHistory (session_of S.disk chain) [] None None left.1 (S.disk left.0)) }
+        ensures leaves { IfErr result (λ left. LeavesHistory (session_of S.disk chain) [] None None (has_merge chain.layers) left.1 (S.disk left.0)) }
     {
         let first = Snapshot::of(&chain);
         let chain = match Box::new(alloc, chain) {
@@ -214,14 +259,56 @@ impl<S: Store> SharedChain<S> {
         answer
     }
 
+    /// Fetches a stripe of the merge's source and puts it into the target. Whatever is answered, no piece is left.
+    pub fn copy_stripe(&mut self, stripe: u32, piece: &mut Piece) -> Result<(), ChainRefusal>
+        ensures { IsStepped S.disk self.old self.new result }
+    {
+        let done = move_stripe(&mut *self.chain, stripe, piece);
+        let answer = as_answer(done);
+        self.full = full_behind(self.full, answer);
+        self.spent = spent_behind(self.spent, answer);
+        self.broke = broke_by_merge(self.broke, answer);
+        self.fault = fault_behind(self.fault, answer);
+        done
+    }
+
+    /// Finishes the merge, whose stripes are all copied.
+    pub fn finish(&mut self) -> Result<(), ChainRefusal>
+        ensures stepped { IsStepped S.disk self.old self.new result }
+        ensures done { OnOk result (HasNoMerge self.new.chain.layers) }
+    {
+        let done = finish(&mut *self.chain);
+        let answer = as_answer(done);
+        self.full = full_behind(self.full, answer);
+        self.spent = spent_behind(self.spent, answer);
+        self.broke = broke_by_merge(self.broke, answer);
+        self.fault = fault_behind(self.fault, answer);
+        done
+    }
+
+    /// Copies what is missing of the merge, and finishes it; where none is under way that is done. Whatever is answered, no piece is left.
+    pub fn end_merge(&mut self, piece: &mut Piece) -> Result<(), ChainRefusal>
+        ensures { IsMerged S.disk self.old self.new result }
+    {
+        piece.clear();
+        let done = merge_rest(&mut *self.chain, piece);
+        let answer = as_answer(done);
+        self.full = full_behind(self.full, answer);
+        self.spent = spent_behind(self.spent, answer);
+        self.broke = broke_by_merge(self.broke, answer);
+        self.fault = fault_behind(self.fault, answer);
+        done
+    }
+
     /// Ends the session of every file that has one. Gives back the store and the history, and tells the last fault that a call was refused
     /// by, and how the session ended: one that a fault broke answers it, and its files are written no more.
     pub fn close(self) -> (S, KeepAll, Option<StoreFault>, Result<(), StoreFault>)
         ensures history { result.1 ≡ self.chain.recorder }
         ensures fault { result.2 ≡ self.fault }
         ensures ended { IsEnded (session_of S.disk self.chain) (S.disk result.0) result.3 }
+        ensures breaks { IfSome self.broke (λ b. IsErr result.3) }
         ensures counted { EndsCounted (S.disk self.first.store) (S.disk result.0) self.fault result.3 }
-        ensures leaves { LeavesHistory (session_of S.disk self.first) self.chain.recorder self.full self.broke result.3 (S.disk result.0) }
+        ensures leaves { LeavesHistory (session_of S.disk self.first) self.chain.recorder self.full self.broke (has_merge self.chain.layers) result.3 (S.disk result.0) }
     {
         let SharedChain {
             chain,

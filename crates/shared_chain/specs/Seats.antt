@@ -1,0 +1,38 @@
+-- What a thread's seat of a shared chain is, and what stays of it whatever the thread's turns do.
+use Rattle.std.specs.Prelude.{◌≡◌, ◌⊎◌, ◌+◌, ◌<◌, ℕ, List, [], ◌∷◌, ◌++◌, length, None}
+use Rattle.guest_model.specs.History.{History}
+use Rattle.seats.specs.Counting.{times}
+use Rattle.shared_chain.specs.declared.basis.Basis.{Basis}
+use Rattle.shared_chain.specs.declared.basis.Step.{Step}
+use Rattle.shared_chain.specs.declared.basis.Step.TheVariants.{Broke}
+use Rattle.shared_chain.specs.Bases.{Contains}
+use Rattle.shared_chain.specs.Steps.{done_steps, merge_breach}
+use Rattle.turn_lock.specs.Histories.{StartsWith}
+use Rattle.turn_lock.specs.Seats.{Known, TableId}
+
+-- at this place, behind the whole history, a step of the merge broke the session
+pub record MergeBreaksAt (seen : List Step) (p : ℕ) : Type 0 where
+  pub before : History
+  pub begins : StartsWith seen (done_steps before ++ Broke merge_breach ∷ [])
+  pub place_is : p ≡ length before + 1
+
+module _ {S T : Type 0} where
+  -- the seat is of this lock, and holds no turn
+  abbrev pub IsFree : TableId → Known Step (Basis S T) → Type 0
+  IsFree lock seat = (seat.lock ≡ lock) × (seat.turn ≡ None)
+
+  -- What stays of a seat, whatever its call is answered: it has its lock, and no turn; it goes on having seen what it had, and knowing what
+  -- it knew.
+  pub record KeepsSeat (old new : Known Step (Basis S T)) : Type 0 where
+    pub lock : new.lock ≡ old.lock
+    pub free : new.turn ≡ None
+    pub family : new.family ≡ old.family
+    pub first_ticket : new.first_ticket ≡ old.first_ticket
+    pub known : new.known ≡ old.known
+    pub seen : StartsWith new.seen old.seen
+    pub basis : Contains new.basis old.basis
+
+  -- The steps of a merge that were done in the seat's turns add nothing to its own places but, if one of them broke the session, that.
+  pub record HasWorked (old new : Known Step (Basis S T)) : Type 0 where
+    pub keeps : KeepsSeat old new
+    pub own : (p : ℕ) → 0 < times p new.mine → (0 < times p old.mine) ⊎ MergeBreaksAt new.seen p
