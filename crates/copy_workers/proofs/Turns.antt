@@ -1,0 +1,197 @@
+-- A worker's turn, from its beginning to its end.
+use Rattle.std.proofs.Common.{◌≡◌, ◌⊎◌, ◌+◌, ◌-◌, ◌<◌, ◌==◌, ◌++◌, ◌∷◌, ℕ, Bool, true, false, List, [], length, inl, inr, ap₂, Some, None, Result, Ok, Err, refl, sym, ap, subst, ◌∙◌, arith, length-append, take_at}
+use Rattle.std.specs.Prelude.{Option, if◌then◌else◌}
+use Rattle.std.proofs.lemmas.Bool.{eqb-true}
+use Rattle.std.proofs.lemmas.List.{append-nil, length-map}
+use Rattle.store_model.specs.Disk.{Disk}
+use Rattle.guest_model.specs.declared.recorder.KeepAll.{KeepAll}
+use Rattle.guest_model.specs.declared.refusal.ChainRefusal.{ChainRefusal}
+use Rattle.guest_model.specs.declared.refusal.ChainRefusal.TheVariants.{Abandoned, Broken, EmptyRange, FileFull, NoMerge, NoPiece, NoRoom, NoStripe, NotYet, OutOfRange, ReadFault, ReadOnly, Spent, Stale, TooLong}
+use Rattle.chain_core.specs.declared.chain.Chain.{Chain}
+use Rattle.seats.specs.Counting.{once_at, times}
+use Rattle.seats.proofs.Counting.{times-push}
+use Rattle.shared_chain.specs.declared.basis.Basis.{Basis}
+use Rattle.shared_chain.specs.declared.basis.Breach.{Breach}
+use Rattle.shared_chain.specs.declared.basis.Step.{Step}
+use Rattle.shared_chain.specs.declared.basis.Step.TheVariants.{Broke, Done}
+use Rattle.shared_chain.specs.Bases.{Contains, basis_of}
+use Rattle.shared_chain.specs.Laws.{contains_itself, contains_through}
+use Rattle.shared_chain.specs.Merging.{IsStepped, as_answer}
+use Rattle.shared_chain.specs.Seats.{HasWorked, KeepsSeat, MergeBreaksAt}
+use Rattle.shared_chain.specs.Shared.{Shared}
+use Rattle.shared_chain.specs.Steps.{broke_after, done_steps, first_breach, merge_breach, steps_of}
+use Rattle.turn_lock.specs.Histories.{StartsWith}
+use Rattle.turn_lock.specs.Seats.{HasTurn, Known, MayUnlock, Out, after_turn, with_refusal}
+use Rattle.turn_lock.specs.Steps.{places_after}
+use Rattle.turn_lock.proofs.Fronts.{starts-itself, starts-through}
+use Rattle.turn_lock.proofs.Using.{may_unlock-entry, may_unlock-same, turn_ended}
+
+module _ {S T : Type 0} where
+  abbrev told_of : Shared (Chain S KeepAll T) → List Step
+  told_of s = steps_of s.chain.recorder s.broke
+
+  -- the steps stay, or the merge breaks the session
+  data Gained (old new : Shared (Chain S KeepAll T)) : Type 0 where
+    is_same : told_of new ≡ told_of old → Gained old new
+    has_broken : old.broke ≡ None → told_of new ≡ done_steps old.chain.recorder ++ Broke merge_breach ∷ [] → Gained old new
+
+  gained : (disk : S → Disk) (old new : Shared (Chain S KeepAll T)) (answer : Result (Unit {0}) ChainRefusal) → IsStepped disk old new answer → Gained old new
+  gained disk old new answer k = go answer k.broke
+    where
+      still : new.broke ≡ old.broke → Gained old new
+      still e = is_same (ap₂ steps_of k.history e)
+
+      broken : (o : Option Breach) → old.broke ≡ o → new.broke ≡ Some (first_breach o merge_breach) → Gained old new
+      broken (Some earlier) is now = still (now ∙ sym is)
+      broken None is now = has_broken is (ap₂ steps_of k.history now)
+
+      go : (answer : Result (Unit {0}) ChainRefusal) → new.broke ≡ broke_after old.broke merge_breach (as_answer answer) → Gained old new
+      go (Ok done) e = still e
+      go (Err EmptyRange) e = still e
+      go (Err (OutOfRange a b c)) e = still e
+      go (Err (TooLong a b)) e = still e
+      go (Err ReadOnly) e = still e
+      go (Err (Broken file count)) e = broken old.broke refl e
+      go (Err (Spent t)) e = still e
+      go (Err (FileFull next)) e = still e
+      go (Err (ReadFault file count)) e = still e
+      go (Err NoMerge) e = still e
+      go (Err (Stale taken now)) e = still e
+      go (Err (NotYet stripe)) e = still e
+      go (Err (Abandoned file count)) e = still e
+      go (Err (NoStripe stripe stripes)) e = still e
+      go (Err NoPiece) e = still e
+      go (Err NoRoom) e = still e
+
+  module _ (disk : S → Disk) (before after locked : Known Step (Basis S T)) (old new : Shared (Chain S KeepAll T)) (answer : Result (Unit {0}) ChainRefusal)
+      (turn : HasTurn Contains before after locked (told_of old) (basis_of disk old)) (k : IsStepped disk old new answer) where
+    covers : Contains (basis_of disk new) (basis_of disk old)
+    covers = record { first = ap Some k.first; notes = λ n h. (k.noted n).1 (inr h) }
+
+    was : old.broke ≡ None → told_of old ≡ done_steps old.chain.recorder
+    was none = ap (λ b. steps_of old.chain.recorder b) none ∙ append-nil (done_steps old.chain.recorder)
+
+    one_more : (none : old.broke ≡ None) → told_of new ≡ done_steps old.chain.recorder ++ Broke merge_breach ∷ [] → told_of new ≡ told_of old ++ Broke merge_breach ∷ []
+    one_more none is = is ∙ ap (λ xs. xs ++ Broke merge_breach ∷ []) (sym (was none))
+
+    -- what `unlock` asks
+    may_end : MayUnlock Contains after locked (told_of new) (basis_of disk new)
+    may_end = go (gained disk old new answer k)
+      where
+        go : Gained old new → MayUnlock Contains after locked (told_of new) (basis_of disk new)
+        go (is_same e) = may_unlock-same Contains before after locked (told_of old) (basis_of disk old) turn (told_of new) (basis_of disk new) e covers
+        go (has_broken none e) = may_unlock-entry Contains before after locked (told_of old) (basis_of disk old) turn (told_of new) (basis_of disk new) (Broke merge_breach) (one_more none e) covers
+
+    goes_on : StartsWith (told_of new) (told_of old)
+    goes_on = go (gained disk old new answer k)
+      where
+        go : Gained old new → StartsWith (told_of new) (told_of old)
+        go (is_same e) = subst (λ h. StartsWith h (told_of old)) (sym e) (starts-itself (told_of old))
+        go (has_broken none e) = subst (λ h. StartsWith h (told_of old)) (sym (one_more none e)) (take_at (told_of old) (Broke merge_breach ∷ []) (length (told_of old)) refl)
+
+    -- the seat behind the turn
+    abbrev ended : Known Step (Basis S T)
+    ended = record {
+      lock = before.lock;
+      seen = told_of new;
+      mine = places_after before.mine (length (told_of new) - length (told_of old)) (length (told_of new));
+      known = before.known;
+      basis = basis_of disk new;
+      turn = None;
+      refused = before.refused;
+      family = before.family;
+      first_ticket = before.first_ticket;
+      drawn = before.drawn + 1;
+    }
+
+    keeps : KeepsSeat before ended
+    keeps = record {
+      lock = refl;
+      free = refl;
+      family = refl;
+      first_ticket = refl;
+      known = refl;
+      seen = starts-through (told_of new) (told_of old) before.seen goes_on turn.history;
+      basis = contains_through (basis_of disk new) (basis_of disk old) before.basis covers turn.covers;
+    }
+
+    -- the places of its own
+    own : (p : ℕ) → 0 < times p ended.mine → (0 < times p before.mine) ⊎ MergeBreaksAt ended.seen p
+    own p some = go (gained disk old new answer k)
+      where
+        stays : told_of new ≡ told_of old → ended.mine ≡ before.mine
+        stays e =
+            let same : length (told_of new) ≡ length (told_of old) = ap length e in
+            let none : length (told_of new) - length (told_of old) ≡ 0 = omega (arith, same) in
+            ap (λ n. if n == 0 then before.mine else before.mine ++ length (told_of new) ∷ []) none
+
+        by_place : (m : ℕ) → MergeBreaksAt ended.seen m → (b : Bool) → (m == p) ≡ b → 0 < times p (before.mine ++ m ∷ []) → (0 < times p before.mine) ⊎ MergeBreaksAt ended.seen p
+        by_place m breaks true same own = inr (subst (MergeBreaksAt ended.seen) (eqb-true m p same) breaks)
+        by_place m breaks false other own =
+            let none : once_at p m ≡ 0 = ap (λ b. if b then 1 else 0) other in
+            inl (omega (arith, own, times-push p before.mine m, none))
+
+        go : Gained old new → (0 < times p before.mine) ⊎ MergeBreaksAt ended.seen p
+        go (is_same e) = inl (subst (λ ms. 0 < times p ms) (stays e) some)
+        go (has_broken none e) =
+            let before_is : length (told_of old) ≡ length old.chain.recorder = ap length (was none) ∙ length-map old.chain.recorder (λ e. Done e) in
+            let size : length (told_of new) ≡ length old.chain.recorder + 1 =
+            ap length e ∙ length-append (done_steps old.chain.recorder) (Broke merge_breach ∷ []) ∙ ap (λ n. n + 1) (length-map old.chain.recorder (λ e. Done e)) in
+            let one : length (told_of new) - length (told_of old) ≡ 1 = omega (arith, size, before_is) in
+            let mine : ended.mine ≡ before.mine ++ length (told_of new) ∷ [] = ap (λ n. if n == 0 then before.mine else before.mine ++ length (told_of new) ∷ []) one in
+            let breaks : MergeBreaksAt ended.seen (length (told_of new)) = record { before = old.chain.recorder; begins = subst (λ xs. StartsWith (told_of new) xs) e (starts-itself (told_of new)); place_is = size } in
+            by_place (length (told_of new)) breaks (length (told_of new) == p) refl (subst (λ ms. 0 < times p ms) mine some)
+
+    worked : (last : Known Step (Basis S T)) → last ≡ after_turn after (told_of new) (basis_of disk new) → HasWorked before last
+    worked last is =
+        subst (HasWorked before) (sym (turn_ended Contains before after locked (told_of old) (basis_of disk old) turn last (told_of new) (basis_of disk new) is)) (record { keeps = keeps; own = own })
+
+  -- ---- as a worker's turn has them
+
+  module _ (disk : S → Disk) (before after : Known Step (Basis S T)) (held : Out (Shared (Chain S KeepAll T)) Step (Basis S T)) (old new : Shared (Chain S KeepAll T)) (answer : Result (Unit {0}) ChainRefusal)
+      (is : old ≡ held.value) (turn : HasTurn Contains before after held.seat (told_of held.value) (basis_of disk held.value)) (k : IsStepped disk old new answer) where
+    has_turn : HasTurn Contains before after held.seat (told_of old) (basis_of disk old)
+    has_turn = subst (λ (v : Shared (Chain S KeepAll T)). HasTurn Contains before after held.seat (told_of v) (basis_of disk v)) (sym is) turn
+
+    pub may_turn : MayUnlock Contains after held.seat (told_of new) (basis_of disk new)
+    may_turn = may_end disk before after held.seat old new answer has_turn k
+
+    pub has_worked : (last : Known Step (Basis S T)) → last ≡ after_turn after (told_of new) (basis_of disk new) → HasWorked before last
+    has_worked last is_last = worked disk before after held.seat old new answer has_turn k last is_last
+
+  -- ---- turns, one after the other
+
+  -- a seat that was refused a turn
+  pub refused_worked : (before : Known Step (Basis S T)) (t : ℕ) → before.turn ≡ None → HasWorked before (with_refusal before t)
+  refused_worked before t free = record {
+    keeps = record { lock = refl; free = free; family = refl; first_ticket = refl; known = refl; seen = starts-itself before.seen; basis = contains_itself before.basis };
+    own = λ p some. inl some;
+  }
+
+  pub none_worked : (before : Known Step (Basis S T)) → before.turn ≡ None → HasWorked before before
+  none_worked before free = record {
+    keeps = record { lock = refl; free = free; family = refl; first_ticket = refl; known = refl; seen = starts-itself before.seen; basis = contains_itself before.basis };
+    own = λ p some. inl some;
+  }
+
+  pub worked_twice : (a b c : Known Step (Basis S T)) → HasWorked a b → HasWorked b c → HasWorked a c
+  worked_twice a b c one more = record {
+    keeps = record {
+      lock = more.keeps.lock ∙ one.keeps.lock;
+      free = more.keeps.free;
+      family = more.keeps.family ∙ one.keeps.family;
+      first_ticket = more.keeps.first_ticket ∙ one.keeps.first_ticket;
+      known = more.keeps.known ∙ one.keeps.known;
+      seen = starts-through c.seen b.seen a.seen more.keeps.seen one.keeps.seen;
+      basis = contains_through c.basis b.basis a.basis more.keeps.basis one.keeps.basis;
+    };
+    own = λ p some. go p (more.own p some);
+  }
+    where
+      go : (p : ℕ) → (0 < times p b.mine) ⊎ MergeBreaksAt c.seen p → (0 < times p a.mine) ⊎ MergeBreaksAt c.seen p
+      go p (inr breaks) = inr breaks
+      go p (inl some) = later (one.own p some)
+        where
+          later : (0 < times p a.mine) ⊎ MergeBreaksAt b.seen p → (0 < times p a.mine) ⊎ MergeBreaksAt c.seen p
+          later (inl own) = inl own
+          later (inr k) = inr (record { before = k.before; begins = starts-through c.seen b.seen _ more.keeps.seen k.begins; place_is = k.place_is })

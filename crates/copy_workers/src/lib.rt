@@ -1,0 +1,6 @@
+//! Workers of a merge: threads that copy stripes between the guests' turns.
+#![tactic(auto)]
+
+mod worker;
+
+pub use worker::Worker;
