@@ -1,6 +1,6 @@
 -- What guests were told, once all seats are joined and the session has ended.
-use Rattle.std.proofs.Common.{◌≡◌, ◌⊎◌, ◌+◌, ◌-◌, ◌^◌, ◌<◌, ◌≤◌, ◌++◌, ◌∷◌, ℕ, zero, suc, Bool, false, [], List, length, map, take, Option, None, Some, Result, Ok, Err, inl, inr, refl, sym, ap, ap₂, subst, ◌∙◌, arith, length-append}
-use Rattle.std.specs.Prelude.{All, IfErr, IfOk, IfSome, OnOk, String, get_or, string_bytes}
+use Rattle.std.proofs.Common.{◌≡◌, ◌⊎◌, ◌+◌, ◌-◌, ◌^◌, ◌<◌, ◌≤◌, ◌++◌, ◌∷◌, ℕ, zero, suc, Bool, true, false, [], List, length, map, take, Option, None, Some, Result, Ok, Err, inl, inr, refl, sym, ap, ap₂, subst, ◌∙◌, arith, length-append}
+use Rattle.std.specs.Prelude.{All, IfErr, IfOk, IfSome, IsErr, OnOk, String, get_or, string_bytes}
 use Rattle.std.specs.List.{AllByRecursion}
 use Rattle.std.proofs.lemmas.List.{append-nil, get_or-take, length-map, map-append}
 use Rattle.std.proofs.Math.Seq.{get_or-append_seam}
@@ -21,7 +21,7 @@ use Rattle.chain_core.specs.Answering.{fault_of}
 use Rattle.chain_core.specs.Ending.{IsOfSession, SomeChangeFailed}
 use Rattle.chain_core.specs.Sessions.{Session}
 use Rattle.chain_core.specs.States.{IsServing, State, sector_of}
-use Rattle.layer_session.proofs.Equal.{some_none, some_same}
+use Rattle.layer_session.proofs.Equal.{false_true, some_none, some_same}
 use Rattle.seats.specs.Counting.{once_between, times}
 use Rattle.script.specs.declared.form.Form.{Form}
 use Rattle.script.specs.declared.form.Line.{Line}
@@ -46,10 +46,12 @@ use Rattle.shared_chain.specs.Homes.{session_of}
 use Rattle.shared_chain.specs.Laws.{of_both}
 use Rattle.shared_chain.specs.Notes.{HasNote}
 use Rattle.shared_chain.specs.Shared.{Shared}
-use Rattle.shared_chain.specs.Steps.{broke_step, done_steps, open_by as opens_by, steps_of}
-use Rattle.serve_session.specs.Actors.{AreHeard, AreJoined, HasBreach, HasBreacher, IsHeard, IsHeardOf, OwnsAt, first_notes}
-use Rattle.serve_session.specs.Served.{AreOutcomes, AreServed, EachGuest, Has, HasBreaker, HasBroken, IsOutcome, IsRefused, IsTranscript, Outcome, SomeGuest, all_told, as_told, call_of, entry_of, forms_of, is_broken, is_full, is_misplaced, is_spent, is_unread, places_in, told_guests}
+use Rattle.shared_chain.specs.Steps.{broke_step, done_steps, merge_breach, open_by as opens_by, steps_of}
+use Rattle.shared_chain.specs.Seats.{MergeBreaksAt}
+use Rattle.serve_session.specs.Actors.{AreHeard, AreJoined, HasBreach, HasBreacher, IsHeard, IsHeardOf, IsOwned, OwnsAt, first_notes}
+use Rattle.serve_session.specs.Served.{AreOutcomes, AreServed, EachGuest, Has, HasBreaker, HasBroken, IsBreakOf, IsOutcome, IsRefused, IsTranscript, Outcome, SomeGuest, all_told, as_told, call_of, entry_of, forms_of, is_broken, is_full, is_misplaced, is_spent, is_unread, places_in, told_guests}
 use Rattle.serve_session.specs.Serving.{drive_from}
+use Rattle.serve_session.proofs.Hearing.{nothing}
 use Rattle.serve_session.proofs.Guests.{all_told_are, each_map, some_and, told_count, told_guests_count}
 
 -- ---- histories and their steps
@@ -289,8 +291,8 @@ module _ {S T : Type 0} (disk : S → Disk) (first : Chain S KeepAll T) where
       let a = heard_at seen noted guest (number + 1) p forms outcomes h.1 has in
       record { no = a.no; call = a.call; before = a.before; low = omega (arith, a.low); high = omega (arith, a.high); begins = a.begins; place_is = a.place_is }
 
-  module _ (lock : TableId) (names : List (List ℕ)) (lines : List Line) (seat : Known Step (Basis S T)) (told : List (List ToldCall)) (short : Bool) (guests : List (List Outcome)) (j : AreJoined disk first lock names lines seat told short guests)
-      (v : Shared (Chain S KeepAll T)) (seen_is : steps_of v.chain.recorder v.broke ≡ seat.seen) (basis : Contains (basis_of disk v) seat.basis) (places : (p : ℕ) → times p seat.mine ≡ once_between p 1 (length seat.seen + 1)) where
+  module _ (merges : Bool) (lock : TableId) (names : List (List ℕ)) (lines : List Line) (seat : Known Step (Basis S T)) (told : List (List ToldCall)) (short : Bool) (guests : List (List Outcome)) (j : AreJoined disk first merges lock names lines seat told short guests)
+      (v : Shared (Chain S KeepAll T)) (broke : Option Breach) (seen_is : steps_of v.chain.recorder broke ≡ seat.seen) (basis : Contains (basis_of disk v) seat.basis) (places : (p : ℕ) → times p seat.mine ≡ once_between p 1 (length seat.seen + 1)) where
     abbrev h : History
     h = v.chain.recorder
 
@@ -298,7 +300,7 @@ module _ {S T : Type 0} (disk : S → Disk) (first : Chain S KeepAll T) where
     first_is = some_same (basis.first ∙ j.knows.first)
 
     -- what a seat has seen is the history, with what broke the session
-    as_history : {xs : List Step} → StartsWith seat.seen xs → StartsWith (steps_of h v.broke) xs
+    as_history : {xs : List Step} → StartsWith seat.seen xs → StartsWith (steps_of h broke) xs
     as_history {xs = xs} starts = subst (λ s. StartsWith s xs) (sym seen_is) starts
 
     own : (p : ℕ) → 1 ≤ p → p ≤ length seat.seen → 0 < times p seat.mine
@@ -313,60 +315,109 @@ module _ {S T : Type 0} (disk : S → Disk) (first : Chain S KeepAll T) where
     abbrev Heard : ℕ → List Outcome → Type 0
     Heard guest outcomes = AreHeard disk first seat.seen seat.basis.notes guest 1 (forms_of guest lines) outcomes
 
-    owner : (p : ℕ) → 1 ≤ p → p ≤ length seat.seen → SomeGuest (Owned p) 1 guests
+    owner : (p : ℕ) → 1 ≤ p → p ≤ length seat.seen → IsOwned merges seat.seen p lines guests
     owner p low high = j.owns p (own p low high)
 
     seen_length : length h ≤ length seat.seen
-    seen_length = omega (arith, steps_length h v.broke, ap length seen_is)
+    seen_length = omega (arith, steps_length h broke, ap length seen_is)
 
     -- in the history itself no break stands
     not_broken : (p guest : ℕ) (forms : List Form) (outcomes : List Outcome) → p ≤ length h → OwnsAt seat.seen p guest forms outcomes → Has p (places_in outcomes)
     not_broken p guest forms outcomes high (inl has) = has
     not_broken p guest forms outcomes high (inr b) =
-        let last = broke_last h b.before v.broke b.breach (as_history b.begins) in absurd (omega (arith, b.place_is, high, ap length last.0))
+        let last = broke_last h b.before broke b.breach (as_history b.begins) in absurd (omega (arith, b.place_is, high, ap length last.0))
+
+    no_merge_break : (p : ℕ) → p ≤ length h → MergeBreaksAt seat.seen p → ⊥
+    no_merge_break p high b = let last = broke_last h b.before broke merge_breach (as_history b.begins) in absurd (omega (arith, b.place_is, high, ap length last.0))
+
+    each_unit : (g : ℕ) (gs : List (List Outcome)) → EachGuest (λ g os. Unit {0}) g gs
+    each_unit g [] = tt
+    each_unit g (os ∷ gs) = (tt, each_unit (g + 1) gs)
+
+    guest_place : (p : ℕ) → p ≤ length h → SomeGuest (Owned p) 1 guests → SomeGuest (λ guest outcomes. Has p (places_in outcomes)) 1 guests
+    guest_place p high own = some_and (λ g os. Unit {0}) (Owned p) (λ guest outcomes. Has p (places_in outcomes)) 1 guests (λ g os u o. not_broken p g (forms_of g lines) os high o) (each_unit 1 guests) own
 
     pub all_places : (p : ℕ) → 1 ≤ p → p ≤ length h → SomeGuest (λ guest outcomes. Has p (places_in outcomes)) 1 guests
-    all_places p low high =
-        some_and (λ g os. Unit {0}) (Owned p) (λ guest outcomes. Has p (places_in outcomes)) 1 guests (λ g os u o. not_broken p g (forms_of g lines) os high o) (each_unit 1 guests) (owner p low (omega (arith, high, seen_length)))
+    all_places p low high = go merges (owner p low (omega (arith, high, seen_length)))
       where
-        each_unit : (g : ℕ) (gs : List (List Outcome)) → EachGuest (λ g os. Unit {0}) g gs
-        each_unit g [] = tt
-        each_unit g (os ∷ gs) = (tt, each_unit (g + 1) gs)
+        go : (m : Bool) → IsOwned m seat.seen p lines guests → SomeGuest (λ guest outcomes. Has p (places_in outcomes)) 1 guests
+        go false one = guest_place p high one
+        go true (inl one) = guest_place p high one
+        go true (inr breaks) = absurd (no_merge_break p high breaks)
 
-    -- behind it the one call stands that broke the session
-    pub breaker : IfSome v.broke (λ b. SomeGuest (λ guest outcomes. HasBreacher b guest 1 (forms_of guest lines) outcomes) 1 guests)
-    breaker = go v.broke refl
-      where
-        go : (o : Option Breach) → v.broke ≡ o → IfSome o (λ b. SomeGuest (λ guest outcomes. HasBreacher b guest 1 (forms_of guest lines) outcomes) 1 guests)
-        go None is = tt
-        go (Some b) is =
-            some_and Heard (Owned (length h + 1)) (λ guest outcomes. HasBreacher b guest 1 (forms_of guest lines) outcomes) 1 guests by_owner j.heard (owner (length h + 1) (omega arith) (omega (arith, size)))
-          where
-            size : length seat.seen ≡ length h + 1
-            size = sym (ap length seen_is) ∙ ap (λ o. length (steps_of h o)) is ∙ length-append (done_steps h) (Broke b ∷ []) ∙ ap (λ n. n + 1) (length-map h (λ e. Done e))
+    -- behind it what broke the session stands: a guest's call, or a step of the merge
+    abbrev IsBreacherOf : Bool → Breach → Type 0
+    IsBreacherOf false b = SomeGuest (λ guest outcomes. HasBreacher b guest 1 (forms_of guest lines) outcomes) 1 guests
+    IsBreacherOf true b = SomeGuest (λ guest outcomes. HasBreacher b guest 1 (forms_of guest lines) outcomes) 1 guests ⊎ (b ≡ merge_breach)
 
-            by_owner : (g : ℕ) (os : List Outcome) → Heard g os → Owned (length h + 1) g os → HasBreacher b g 1 (forms_of g lines) os
-            by_owner g os heard (inl has) =
-                let a = heard_at seat.seen seat.basis.notes g 1 (length h + 1) (forms_of g lines) os heard has in
-                let starts = starts-length h (a.before ++ entry_of g a.no a.call ∷ []) (starts_more h a.before v.broke (entry_of g a.no a.call) (as_history a.begins)) in
-                absurd (omega (arith, a.place_is, starts, length-append a.before (entry_of g a.no a.call ∷ [])))
-            by_owner g os heard (inr x) =
-                let last = broke_last h x.before v.broke x.breach (as_history x.begins) in
-                subst (λ c. HasBreacher c g 1 (forms_of g lines) os) (some_same (sym last.1 ∙ is)) x.breaker
+    module _ (b : Breach) (is : broke ≡ Some b) where
+      size : length seat.seen ≡ length h + 1
+      size = sym (ap length seen_is) ∙ ap (λ o. length (steps_of h o)) is ∙ length-append (done_steps h) (Broke b ∷ []) ∙ ap (λ n. n + 1) (length-map h (λ e. Done e))
+
+      by_owner : (g : ℕ) (os : List Outcome) → Heard g os → Owned (length h + 1) g os → HasBreacher b g 1 (forms_of g lines) os
+      by_owner g os heard (inl has) =
+          let a = heard_at seat.seen seat.basis.notes g 1 (length h + 1) (forms_of g lines) os heard has in
+          let starts = starts-length h (a.before ++ entry_of g a.no a.call ∷ []) (starts_more h a.before broke (entry_of g a.no a.call) (as_history a.begins)) in
+          absurd (omega (arith, a.place_is, starts, length-append a.before (entry_of g a.no a.call ∷ [])))
+      by_owner g os heard (inr x) =
+          let last = broke_last h x.before broke x.breach (as_history x.begins) in
+          subst (λ c. HasBreacher c g 1 (forms_of g lines) os) (some_same (sym last.1 ∙ is)) x.breaker
+
+      by_guest : SomeGuest (Owned (length h + 1)) 1 guests → SomeGuest (λ guest outcomes. HasBreacher b guest 1 (forms_of guest lines) outcomes) 1 guests
+      by_guest own = some_and Heard (Owned (length h + 1)) (λ guest outcomes. HasBreacher b guest 1 (forms_of guest lines) outcomes) 1 guests by_owner j.heard own
+
+      breacher_is : IsBreacherOf merges b
+      breacher_is = go merges (owner (length h + 1) (omega arith) (omega (arith, size)))
+        where
+          go : (m : Bool) → IsOwned m seat.seen (length h + 1) lines guests → IsBreacherOf m b
+          go false one = by_guest one
+          go true (inl one) = inl (by_guest one)
+          go true (inr x) = let last = broke_last h x.before broke merge_breach (as_history x.begins) in inr (some_same (sym is ∙ last.1))
 
     -- and which it was
-    pub record Which : Type 0 where
+    pub record Which (closed : Result (Unit {0}) StoreFault) : Type 0 where
       pub broken : Option Break
-      pub by : IfSome broken (λ b. SomeGuest (λ guest outcomes. HasBreaker b (forms_of guest lines) outcomes) 1 guests)
+      pub by : IfSome broken (IsBreakOf merges lines guests (failed_by closed))
       pub opens : (s : ℕ) → open_by broken s ≡ false → opens_by v.broke s ≡ false
 
-    pub which : Which
-    which = let w = go v.broke breaker in record { broken = w.0; by = w.1; opens = w.2 }
-      where
-        go : (o : Option Breach) → IfSome o (λ b. SomeGuest (λ guest outcomes. HasBreacher b guest 1 (forms_of guest lines) outcomes) 1 guests)
-            → (broken : Option Break) × IfSome broken (λ b. SomeGuest (λ guest outcomes. HasBreaker b (forms_of guest lines) outcomes) 1 guests) × ((s : ℕ) → open_by broken s ≡ false → opens_by o s ≡ false)
-        go None k = (None, tt, λ s e. refl)
-        go (Some b) k = let w = some_break b lines 1 guests k in (Some w.0, w.1, w.2)
+    -- the end of the merge may have broken the session behind all calls
+    module _ (closed : Result (Unit {0}) StoreFault) (errs : IfSome v.broke (λ b. IsErr closed)) (later : (v.broke ≡ broke) ⊎ ((merges ≡ true) × (broke ≡ None) × (v.broke ≡ Some merge_breach))) where
+      abbrev Found : Option Breach → Type 0
+      Found o = (broken : Option Break) × IfSome broken (IsBreakOf merges lines guests (failed_by closed)) × ((s : ℕ) → open_by broken s ≡ false → opens_by o s ≡ false)
+
+      by_merge : merges ≡ true → IsErr closed → Found (Some merge_breach)
+      by_merge yes_ err = go closed err refl
+        where
+          go : (r : Result (Unit {0}) StoreFault) → IsErr r → closed ≡ r → Found (Some merge_breach)
+          go (Ok done) never is = absurd (false_true never)
+          go (Err f) some is = (
+            Some (record { fault = f; call = None }),
+            subst (λ m. IsBreakOf m lines guests (failed_by closed) (record { fault = f; call = None })) (sym yes_) (inr (refl, ap failed_by is)),
+            λ s e. nothing 0 s,
+          )
+
+      by_breach : (b : Breach) → IsErr closed → (m : Bool) → merges ≡ m → IsBreacherOf m b → Found (Some b)
+      by_breach b err false is k =
+          let w = some_break b lines 1 guests k in
+          (Some w.0, subst (λ m. IsBreakOf m lines guests (failed_by closed) w.0) (sym is) w.1, w.2)
+      by_breach b err true is (inl k) =
+          let w = some_break b lines 1 guests k in
+          (Some w.0, subst (λ m. IsBreakOf m lines guests (failed_by closed) w.0) (sym is) (inl w.1), w.2)
+      by_breach b err true is (inr k) = subst (λ c. Found (Some c)) (sym k) (by_merge is err)
+
+      find : (o : Option Breach) → v.broke ≡ o → Found o
+      find None is = (None, tt, λ s e. refl)
+      find (Some b) is = by_later later
+        where
+          err : IsErr closed
+          err = subst (λ o. IfSome o (λ b. IsErr closed)) is errs
+
+          by_later : (v.broke ≡ broke) ⊎ ((merges ≡ true) × (broke ≡ None) × (v.broke ≡ Some merge_breach)) → Found (Some b)
+          by_later (inl same) = by_breach b err merges refl (breacher_is b (sym same ∙ is))
+          by_later (inr k) = subst (λ c. Found (Some c)) (some_same (sym k.2 ∙ is)) (by_merge k.0 err)
+
+      pub which : Which closed
+      which = let w = find v.broke refl in record { broken = w.0; by = w.1; opens = w.2 }
 
     -- ---- the transcript
 
@@ -375,7 +426,7 @@ module _ {S T : Type 0} (disk : S → Disk) (first : Chain S KeepAll T) where
         let k = j.kept memory in
         let o = some_told (λ g os. Has (i + 1) (places_in os) × Heard g os) names lines 1 guests (some_and Heard (λ g os. Has (i + 1) (places_in os)) (λ g os. Has (i + 1) (places_in os) × Heard g os) 1 guests (λ g os a b. (b, a)) j.heard (all_places (i + 1) (omega arith) (omega (arith, within)))) k.0 in
         let a = heard_at seat.seen seat.basis.notes o.0 1 (i + 1) (forms_of o.0 lines) o.1 o.2.1 o.2.0 in
-        let is : get_or h i d ≡ entry_of o.0 a.no a.call = ap (λ n. get_or h n d) {x = i} {y = length a.before} (omega (arith, a.place_is)) ∙ entry_at h a.before (entry_of o.0 a.no a.call) d (starts_more h a.before v.broke (entry_of o.0 a.no a.call) (as_history a.begins)) in
+        let is : get_or h i d ≡ entry_of o.0 a.no a.call = ap (λ n. get_or h n d) {x = i} {y = length a.before} (omega (arith, a.place_is)) ∙ entry_at h a.before (entry_of o.0 a.no a.call) d (starts_more h a.before broke (entry_of o.0 a.no a.call) (as_history a.begins)) in
         subst (IsTold told) (sym is) (subst (λ ts. IsTold ts (entry_of o.0 a.no a.call)) (sym k.1) (record {
           lowest_guest = o.3;
           highest_guest = omega (arith, o.4, told_guests_count names 1 lines guests);
@@ -389,7 +440,7 @@ module _ {S T : Type 0} (disk : S → Disk) (first : Chain S KeepAll T) where
 
     -- ---- what each was told
 
-    module _ (after : Disk) (closed : Result (Unit {0}) StoreFault) (ended : IsEnded (session_of disk v.chain) after closed) where
+    module _ (after : Disk) (closed : Result (Unit {0}) StoreFault) (ended : IsEnded (session_of disk v.chain) after closed) (w : Which closed) where
       broken_is : (f c : ℕ) → HasNote seat.basis.notes (notes.ChangeFailed f c) → failed_by closed ≡ Some (fault_of f c)
       broken_is f c noted =
           broken_tells (session_of disk v.chain) after closed (fault_of f c) ended (change_noted f c (disk v.chain.store) v.chain.broken v.full v.spent (basis.notes (notes.ChangeFailed f c) noted))
@@ -415,7 +466,7 @@ module _ {S T : Type 0} (disk : S → Disk) (first : Chain S KeepAll T) where
         outcome_is : (guest number : ℕ) (form : Form) (o : Outcome) → IsHeard disk first seat.seen seat.basis.notes guest number form o → IsOutcome (drive_from first from) h (failed_by closed) guest number (call_of form) o
         outcome_is guest number form (Ok done) k = record {
           before = k.before;
-          begins = starts_more h k.before v.broke (entry_of guest number (call_of form)) (as_history k.begins);
+          begins = starts_more h k.before broke (entry_of guest number (call_of form)) (as_history k.begins);
           place_is = k.place_is;
           placed = k.placed;
           reply_is = sym (k.replies trace store_told from serving empty) ∙ ap (λ z. reply (replay z from.opening k.before) (call_of form)) size;
@@ -427,15 +478,15 @@ module _ {S T : Type 0} (disk : S → Disk) (first : Chain S KeepAll T) where
         outcomes_are guest number [] (o ∷ outcomes) k = absurd k
         outcomes_are guest number (f ∷ forms) (o ∷ outcomes) k = (outcome_is guest number f o k.0, outcomes_are guest (number + 1) forms outcomes k.1)
 
-        pub served : AreServed (drive_from first from) lines guests h (failed_by closed) which.broken
+        pub served : AreServed merges (drive_from first from) lines guests h (failed_by closed) w.broken
         served = record {
           told = each_map Heard (λ guest outcomes. AreOutcomes (drive_from first from) h (failed_by closed) guest 1 (forms_of guest lines) outcomes) 1 guests (λ g os. outcomes_are g 1 (forms_of g lines) os) j.heard;
           order = j.order;
           all = all_places;
-          breaker = which.by;
+          breaker = w.by;
         }
 
-      pub served_all : first.layers.geometry.sector ≡ 512 → WhereTold (disk first.store).told (λ trace. (from : State) → IsServing first.layers from trace → from.history ≡ [] → AreServed (drive_from first from) lines guests h (failed_by closed) which.broken)
+      pub served_all : first.layers.geometry.sector ≡ 512 → WhereTold (disk first.store).told (λ trace. (from : State) → IsServing first.layers from trace → from.history ≡ [] → AreServed merges (drive_from first from) lines guests h (failed_by closed) w.broken)
       served_all sector trace store_told from serving empty = served from (sym (ap (λ (g : Geometry). g.sector) serving.geometry) ∙ sector) trace store_told serving empty
 
       -- ---- what was told of faults

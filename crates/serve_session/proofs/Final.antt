@@ -1,6 +1,7 @@
 -- What serving guests leaves, with the end of the session.
-use Rattle.std.proofs.Common.{◌≡◌, ◌+◌, ◌<◌, ℕ, zero, suc, Bool, false, [], List, length, replicate, Option, None, Some, Result, Ok, Err, refl, sym, ap, subst, ◌∙◌, arith}
-use Rattle.std.specs.Prelude.{All, IfErr, IfOk, IfSome, OnOk, String, string_bytes}
+use Rattle.std.proofs.Common.{◌≡◌, ◌⊎◌, ◌+◌, ◌<◌, ◌≤◌, ℕ, zero, suc, Bool, true, false, [], List, length, min, replicate, Option, None, Some, Result, Ok, Err, inl, inr, refl, sym, ap, ap₂, subst, ◌∙◌, arith}
+use Rattle.std.specs.Prelude.{◌||◌, All, IfErr, IfOk, IfSome, IsErr, OnOk, String, is_some, string_bytes}
+use Rattle.std.proofs.lemmas.Result.{on_ok_weaker}
 use Rattle.std.specs.List.{AllByRecursion}
 use Rattle.std.proofs.lemmas.List.{length-replicate}
 use Rattle.store_model.specs.Disk.{Disk}
@@ -8,34 +9,47 @@ use Rattle.store_model.specs.declared.fault.StoreFault.{StoreFault}
 use Rattle.vx_base.specs.declared.NoRoom.{NoRoom}
 use Rattle.guest_model.specs.declared.recorder.KeepAll.{KeepAll}
 use Rattle.chain_core.specs.declared.chain.Chain.{Chain}
-use Rattle.layer_session.proofs.Equal.{some_none}
+use Rattle.guest_model.specs.declared.refusal.ChainRefusal.{ChainRefusal}
+use Rattle.guest_model.specs.declared.refusal.ChainRefusal.TheVariants.{Abandoned, Broken, EmptyRange, FileFull, NoMerge, NoPiece, NoStripe, NotYet, OutOfRange, ReadFault, ReadOnly, Spent, Stale, TooLong}
+use Rattle.guest_model.specs.declared.refusal.ChainRefusal.TheVariants.{NoRoom as NoMemory}
+use Rattle.chain_core.specs.Sessions.{HasNoMerge, IsSound, has_merge}
+use Rattle.chain_core.specs.declared.layers.Layers.{Layers}
+use Rattle.chain_core.specs.declared.layers.Retiring.{Retiring}
+use Rattle.chain_core.specs.declared.layers.Underway.{Underway}
+use Rattle.layer_session.proofs.Equal.{false_true, some_none}
 use Rattle.script.specs.declared.form.Line.{Line}
 use Rattle.script.specs.declared.told.ToldCall.{ToldCall}
-use Rattle.script.specs.Transcript.{serve_text}
+use Rattle.script.specs.Transcript.{IsTold, serve_text}
 use Rattle.script_session.specs.Faults.{IsFailedChange}
 use Rattle.script_session.specs.Told.{Told, failed_by}
 use Rattle.script_session.specs.declared.session.ScriptRun.{ScriptRun}
-use Rattle.seats.specs.Counting.{once_between, times}
+use Rattle.seats.specs.declared.Family.{Family}
 use Rattle.turn_lock.specs.Seats.{Known, TableId, first_seat}
 use Rattle.shared_chain.specs.declared.basis.Basis.{Basis}
 use Rattle.shared_chain.specs.declared.basis.Note.TheVariants as notes
 use Rattle.shared_chain.specs.declared.basis.Step.{Step}
 use Rattle.shared_chain.specs.Bases.{Contains, basis_of, notes_in}
-use Rattle.shared_chain.specs.Laws.{contains_itself}
-use Rattle.script_session.specs.Running.{IsEnded}
+use Rattle.shared_chain.specs.Laws.{contains_itself, contains_through}
+use Rattle.script_session.specs.Running.{IsEnded, open_by}
 use Rattle.shared_chain.specs.Closing.{LeavesHistory}
 use Rattle.shared_chain.specs.Faults.{CountsChange, EndsCounted}
 use Rattle.shared_chain.specs.Homes.{session_of}
 use Rattle.shared_chain.specs.Shared.{Shared}
-use Rattle.shared_chain.specs.Steps.{steps_of}
+use Rattle.shared_chain.specs.Merging.{StopsEnd, as_answer}
+use Rattle.shared_chain.specs.declared.basis.Breach.{Breach}
+use Rattle.shared_chain.specs.Steps.{broke_after, first_breach, merge_breach, open_by as opens_by, steps_of}
+use Rattle.script_session.specs.Histories.{Break}
 use Rattle.serve_session.specs.declared.actor.Actor.{Actor}
 use Rattle.serve_session.specs.Actors.{AreJoined, HasRun, first_basis}
-use Rattle.serve_session.specs.Lists.{AreActors, AreFresh, HasJoined, IsReady, RunsEach, with_splits}
-use Rattle.serve_session.specs.Served.{EachGuest, IsTranscript, Outcome, all_told, guest_count}
-use Rattle.serve_session.specs.Serving.{HasServed}
+use Rattle.serve_session.specs.Lists.{AreActors, AreFresh, IsReady, RunsEach, with_splits}
+use Rattle.serve_session.specs.MergeServed.{StopsMerge}
+use Rattle.serve_session.specs.Served.{EachGuest, IsBreakOf, IsTranscript, Outcome, all_told, greatest_from, guest_count}
+use Rattle.serve_session.specs.Serving.{EndsAs, HasBegun, HasServed, IsNearEnd, IsShared, WasShared}
+use Rattle.serve_session.specs.declared.merging.MergeRun.{MergeRun}
+use Rattle.serve_session.proofs.Hearing.{nothing}
 use Rattle.serve_session.proofs.Filled.{ends_told, full_noted}
 use Rattle.serve_session.proofs.Joining.{all_run, fresh_ready, none_joined}
-use Rattle.serve_session.proofs.Ending.{faults_told, first_is, served_all, transcript_is, which}
+use Rattle.serve_session.proofs.Ending.{all_called, faults_told, first_is, served_all, transcript_is, which}
 
 each_empty : (P : ℕ → List Outcome → Type 0) → ((g : ℕ) → P g []) → (n g : ℕ) → EachGuest P g (replicate n [])
 each_empty P h zero g = tt
@@ -53,6 +67,9 @@ changed_none : (old after : Disk) (r : Result (Unit {0}) StoreFault) → OnOk r 
 changed_none old after (Ok done) k e = k
 changed_none old after (Err f) k e = absurd (some_none e)
 
+none_under : (layers : Layers) → HasNoMerge layers → has_merge layers ≡ false
+none_under layers none = ap₂ (λ (o : Option Underway) (r : Option Retiring). is_some o || is_some r) none.0 none.1
+
 module _ {S T : Type 0} (disk : S → Disk) where
   -- the first seat of a lock over a chain whose session has just begun
   module _ (v : Shared (Chain S KeepAll T)) (fresh : v ≡ record { chain = v.first; first = v.first; full = None; spent = None; broke = None; fault = None }) (whole : v.first.broken ≡ None) (lock : TableId) (made : Known Step (Basis S T)) (is : made ≡ first_seat lock 0 (basis_of disk v)) where
@@ -68,14 +85,248 @@ module _ {S T : Type 0} (disk : S → Disk) where
     pub made_run : v.first.layers.geometry.sector ≡ 512 → (names : List (List ℕ)) (lines : List Line) (n : ℕ) (old new : List (Actor S T)) → AreFresh made n old → RunsEach disk lock names lines old new → AreActors (HasRun disk v.first lock names lines) n new
     made_run sector names lines n old new h runs = all_run disk v.first lock names lines made n old new (ap (λ (s : Known Step (Basis S T)). s.lock) is) made_knows sector h runs
 
-    pub made_none : (names : List (List ℕ)) (lines : List Line) (n : ℕ) (seat : Known Step (Basis S T)) → seat ≡ with_splits made n → AreJoined disk v.first lock names lines seat [] false []
-    made_none names lines n seat split = subst (λ (s : Known Step (Basis S T)). AreJoined disk v.first lock names lines s [] false []) (sym split)
+    pub made_none : (names : List (List ℕ)) (lines : List Line) (n : ℕ) (seat : Known Step (Basis S T)) → seat ≡ with_splits made n → AreJoined disk v.first false lock names lines seat [] false []
+    made_none names lines n seat split = subst (λ (s : Known Step (Basis S T)). AreJoined disk v.first false lock names lines s [] false []) (sym split)
         (none_joined disk v.first lock names lines (with_splits made n) (ap (λ (s : Known Step (Basis S T)). s.lock) is, ap (λ (s : Known Step (Basis S T)). s.turn) is) (ap (λ (s : Known Step (Basis S T)). s.family.is_first) is) made_knows (ap (λ (s : Known Step (Basis S T)). s.mine) is))
 
-  -- nobody was served
-  pub none_served : (v : Shared (Chain S KeepAll T)) → v ≡ record { chain = v.first; first = v.first; full = None; spent = None; broke = None; fault = None } → v.first.recorder ≡ [] → (names : List (List ℕ)) (lines : List Line) (run : ScriptRun) (after : Disk)
-      → IfOk run.transcript (λ text. ⊥) → run.fault ≡ v.fault → EndsCounted (disk v.first.store) after v.fault run.closed → LeavesHistory (session_of disk v.first) v.chain.recorder v.full v.broke run.closed after → HasServed disk v.first names lines run after
-  none_served v fresh empty names lines run after none fault counted leaves = record {
+    -- and all that were split from it are joined
+    pub made_all : (n m n' m' : ℕ) (a b j k : Known Step (Basis S T)) → a ≡ with_splits made n → b ≡ with_splits a m → j.family ≡ record (b.family) { joins = b.family.joins + n' } → k.family ≡ record (j.family) { joins = j.family.joins + m' } → n' ≡ n → m' ≡ m
+        → k.family.joins ≡ k.family.splits
+    made_all n m n' m' a b j k a_is b_is j_is k_is ns ms =
+        let made_joins : made.family.joins ≡ 0 = ap (λ (s : Known Step (Basis S T)). s.family.joins) is in
+        let made_splits : made.family.splits ≡ 0 = ap (λ (s : Known Step (Basis S T)). s.family.splits) is in
+        let a_joins : a.family.joins ≡ made.family.joins = ap (λ (s : Known Step (Basis S T)). s.family.joins) a_is in
+        let a_splits : a.family.splits ≡ made.family.splits + n = ap (λ (s : Known Step (Basis S T)). s.family.splits) a_is in
+        let b_joins : b.family.joins ≡ a.family.joins = ap (λ (s : Known Step (Basis S T)). s.family.joins) b_is in
+        let b_splits : b.family.splits ≡ a.family.splits + m = ap (λ (s : Known Step (Basis S T)). s.family.splits) b_is in
+        let j_joins : j.family.joins ≡ b.family.joins + n' = ap (λ (f : Family). f.joins) j_is in
+        let j_splits : j.family.splits ≡ b.family.splits = ap (λ (f : Family). f.splits) j_is in
+        let k_joins : k.family.joins ≡ j.family.joins + m' = ap (λ (f : Family). f.joins) k_is in
+        let k_splits : k.family.splits ≡ j.family.splits = ap (λ (f : Family). f.splits) k_is in
+        omega (arith, made_joins, made_splits, a_joins, a_splits, b_joins, b_splits, j_joins, j_splits, k_joins, k_splits, ns, ms)
+
+  -- a chain that was just made to be shared
+  pub begun_is : (chain : Chain S KeepAll T) (s : Shared (Chain S KeepAll T)) → s ≡ record { chain = chain; first = chain; full = None; spent = None; broke = None; fault = None } → IsSound (session_of disk chain) → chain.recorder ≡ [] → chain.broken ≡ None → HasBegun disk s
+  begun_is chain s is sound empty whole = subst (HasBegun disk) (sym is) (record { sound = sound; fresh = refl; empty = empty; whole = whole })
+
+  -- ---- the end of a merge
+
+  -- what is known of a chain behind the end of its merge, if it has one
+  pub record EndedSo (merges : Bool) (mid v : Shared (Chain S KeepAll T)) (merged : Result (Unit {0}) ChainRefusal) : Type 0 where
+    first : v.first ≡ mid.first
+    history : v.chain.recorder ≡ mid.chain.recorder
+    basis : Contains (basis_of disk v) (basis_of disk mid)
+    broke : (v.broke ≡ mid.broke) ⊎ ((merges ≡ true) × (mid.broke ≡ None) × (v.broke ≡ Some merge_breach))
+    finished : merges ≡ true → OnOk merged (has_merge v.chain.layers ≡ false)
+    stopped : IfErr merged (StopsEnd disk v)
+
+  merge_broke : (mid v : Shared (Chain S KeepAll T)) (merged : Result (Unit {0}) ChainRefusal) → v.broke ≡ broke_after mid.broke merge_breach (as_answer merged) → (v.broke ≡ mid.broke) ⊎ ((true ≡ true) × (mid.broke ≡ None) × (v.broke ≡ Some merge_breach))
+  merge_broke mid v merged = go merged
+    where
+      broken : (o : Option Breach) → mid.broke ≡ o → v.broke ≡ Some (first_breach o merge_breach) → (v.broke ≡ mid.broke) ⊎ ((true ≡ true) × (mid.broke ≡ None) × (v.broke ≡ Some merge_breach))
+      broken (Some b) is now = inl (now ∙ sym is)
+      broken None is now = inr (refl, is, now)
+
+      go : (merged : Result (Unit {0}) ChainRefusal) → v.broke ≡ broke_after mid.broke merge_breach (as_answer merged) → (v.broke ≡ mid.broke) ⊎ ((true ≡ true) × (mid.broke ≡ None) × (v.broke ≡ Some merge_breach))
+      go (Ok done) e = inl e
+      go (Err EmptyRange) e = inl e
+      go (Err (OutOfRange a b c)) e = inl e
+      go (Err (TooLong a b)) e = inl e
+      go (Err ReadOnly) e = inl e
+      go (Err (Broken file count)) e = broken mid.broke refl e
+      go (Err (Spent t)) e = inl e
+      go (Err (FileFull next)) e = inl e
+      go (Err (ReadFault file count)) e = inl e
+      go (Err NoMerge) e = inl e
+      go (Err (Stale taken now)) e = inl e
+      go (Err (NotYet stripe)) e = inl e
+      go (Err (Abandoned file count)) e = inl e
+      go (Err (NoStripe stripe stripes)) e = inl e
+      go (Err NoPiece) e = inl e
+      go (Err NoMemory) e = inl e
+
+  ended_so : (merges : Bool) (mid v : Shared (Chain S KeepAll T)) (merged : Result (Unit {0}) ChainRefusal) → EndsAs disk merges mid v merged → EndedSo merges mid v merged
+  ended_so false mid v merged e = record {
+    first = ap (λ (s : Shared (Chain S KeepAll T)). s.first) e.0;
+    history = ap (λ (s : Shared (Chain S KeepAll T)). s.chain.recorder) e.0;
+    basis = subst (λ (s : Shared (Chain S KeepAll T)). Contains (basis_of disk s) (basis_of disk mid)) (sym e.0) (contains_itself (basis_of disk mid));
+    broke = inl (ap (λ (s : Shared (Chain S KeepAll T)). s.broke) e.0);
+    finished = λ never. absurd (false_true never);
+    stopped = subst (λ r. IfErr r (StopsEnd disk v)) (sym e.1) tt;
+  }
+  ended_so true mid v merged e = record {
+    first = e.stepped.first;
+    history = e.stepped.history;
+    basis = record { first = ap Some e.stepped.first; notes = λ n h. (e.stepped.noted n).1 (inr h) };
+    broke = merge_broke mid v merged e.stepped.broke;
+    finished = λ some. on_ok_weaker merged (none_under v.chain.layers) e.done;
+    stopped = e.stopped;
+  }
+
+  module _ (merges : Bool) (old mid v : Shared (Chain S KeepAll T)) (merged : Result (Unit {0}) ChainRefusal) (so : EndedSo merges mid v merged) (run : ScriptRun) (after : Disk) (ended : IsEnded (session_of disk v.chain) after run.closed) (fault : run.fault ≡ v.fault)
+      (counted : EndsCounted (disk v.first.store) after v.fault run.closed) (errs : IfSome v.broke (λ b. IsErr run.closed)) (leaves : LeavesHistory (session_of disk v.first) v.chain.recorder v.full v.broke (has_merge v.chain.layers) run.closed after) where
+    -- what was told at the end stands in what was run
+    stops_run : (x : ChainRefusal) → StopsEnd disk v x → StopsMerge run x
+    stops_run EmptyRange k = absurd k
+    stops_run (OutOfRange a b c) k = absurd k
+    stops_run (TooLong a b) k = absurd k
+    stops_run ReadOnly k = absurd k
+    stops_run (Broken file count) k = (subst (λ o. IfSome o (λ f. (run.closed ≡ Err f) × (after ≡ disk v.chain.store))) k ended.broken).0
+    stops_run (Spent t) k = k
+    stops_run (FileFull next) k = tt
+    stops_run (ReadFault file count) k = fault ∙ k
+    stops_run NoMerge k = absurd k
+    stops_run (Stale taken now) k = absurd k
+    stops_run (NotYet stripe) k = absurd k
+    stops_run (Abandoned file count) k = absurd k
+    stops_run (NoStripe stripe stripes) k = absurd k
+    stops_run NoPiece k = absurd k
+    stops_run NoMemory k = absurd k
+
+    near_run : (x : ChainRefusal) → StopsEnd disk v x → IsNearEnd disk v.first v.full x
+    near_run EmptyRange k = absurd k
+    near_run (OutOfRange a b c) k = absurd k
+    near_run (TooLong a b) k = absurd k
+    near_run ReadOnly k = absurd k
+    near_run (Broken file count) k = tt
+    near_run (Spent t) k = tt
+    near_run (FileFull next) k = (full_noted next (disk v.chain.store) v.chain.broken v.full v.spent k.0, k.1)
+    near_run (ReadFault file count) k = tt
+    near_run NoMerge k = absurd k
+    near_run (Stale taken now) k = absurd k
+    near_run (NotYet stripe) k = absurd k
+    near_run (Abandoned file count) k = absurd k
+    near_run (NoStripe stripe stripes) k = absurd k
+    near_run NoPiece k = absurd k
+    near_run NoMemory k = absurd k
+
+    each_err : (P Q : ChainRefusal → Type 0) → ((x : ChainRefusal) → P x → Q x) → (r : Result (Unit {0}) ChainRefusal) → IfErr r P → IfErr r Q
+    each_err P Q f (Ok done) k = tt
+    each_err P Q f (Err x) k = f x k
+
+    -- threads shared the chain
+    pub all_served : (names : List (List ℕ)) (lines : List Line) (told : List (List ToldCall)) (short : Bool) → WasShared disk merges old names lines mid told short → old.first.layers.geometry.sector ≡ 512
+        → IfOk run.transcript (λ text. (short ≡ false) × (string_bytes text ≡ serve_text v.chain.recorder told)) → HasServed disk merges old.first names lines (record { run = run; merged = merged }) after
+    all_served names lines told short s sector text =
+        let history : steps_of v.chain.recorder mid.broke ≡ s.seat.seen = ap (λ k. steps_of k mid.broke) so.history ∙ s.history in
+        let basis : Contains (basis_of disk v) s.seat.basis = contains_through (basis_of disk v) (basis_of disk mid) s.seat.basis so.basis s.basis in
+        let same : v.first ≡ old.first = first_is disk old.first merges s.lock names lines s.seat told short s.guests s.joined v mid.broke history basis s.places in
+        let w = which disk old.first merges s.lock names lines s.seat told short s.guests s.joined v mid.broke history basis s.places run.closed errs so.broke in
+        let counted_first : EndsCounted (disk old.first.store) after v.fault run.closed = subst (λ (c : Chain S KeepAll T). EndsCounted (disk c.store) after v.fault run.closed) same counted in
+        record {
+          guests = s.guests;
+          history = v.chain.recorder;
+          broken = w.broken;
+          breach = v.broke;
+          opens = w.opens;
+          count = s.count;
+          served = served_all disk old.first merges s.lock names lines s.seat told short s.guests s.joined v mid.broke history basis s.places after run.closed ended w sector;
+          transcript = transcript_is disk old.first merges s.lock names lines s.seat told short s.guests s.joined v mid.broke history basis s.places run.transcript text;
+          counted = subst (λ f. EndsCounted (disk old.first.store) after f run.closed) (sym fault) counted_first;
+          faults = faults_told disk old.first merges s.lock names lines s.seat told short s.guests s.joined v mid.broke history basis s.places after run.closed ended w counted_first;
+          full = v.full;
+          ends = ends_told disk old.first s.seat.seen s.seat.basis.notes v.full (λ next h. full_noted next (disk v.chain.store) v.chain.broken v.full v.spent (basis.notes (notes.Full next) h)) lines s.guests s.joined.heard;
+          under_way = has_merge v.chain.layers;
+          leaves = subst (λ (c : Chain S KeepAll T). LeavesHistory (session_of disk c) v.chain.recorder v.full v.broke (has_merge v.chain.layers) run.closed after) same leaves;
+          finished = so.finished;
+          stopped = each_err (StopsEnd disk v) (StopsMerge run) stops_run merged so.stopped;
+          near = subst (λ (c : Chain S KeepAll T). IfErr merged (IsNearEnd disk c v.full)) same (each_err (StopsEnd disk v) (IsNearEnd disk v.first v.full) near_run merged so.stopped);
+        }
+
+    -- memory ran out before a call was made
+    pub none_served : (names : List (List ℕ)) (lines : List Line) → HasBegun disk old → mid ≡ old → IfOk run.transcript (λ text. ⊥) → HasServed disk merges old.first names lines (record { run = run; merged = merged }) after
+    none_served names lines begun same_mid none =
+        let same : v.first ≡ old.first = so.first ∙ ap (λ (s : Shared (Chain S KeepAll T)). s.first) same_mid in
+        let empty : v.chain.recorder ≡ [] = so.history ∙ ap (λ (s : Shared (Chain S KeepAll T)). s.chain.recorder) same_mid ∙ ap (λ (s : Shared (Chain S KeepAll T)). s.chain.recorder) begun.fresh ∙ begun.empty in
+        let whole : mid.broke ≡ None = ap (λ (s : Shared (Chain S KeepAll T)). s.broke) same_mid ∙ ap (λ (s : Shared (Chain S KeepAll T)). s.broke) begun.fresh in
+        let w = broke_none so.broke whole in
+        let counted_first : EndsCounted (disk old.first.store) after v.fault run.closed = subst (λ (c : Chain S KeepAll T). EndsCounted (disk c.store) after v.fault run.closed) same counted in
+        record {
+          guests = replicate (guest_count lines) [];
+          history = [];
+          broken = w.0;
+          breach = v.broke;
+          opens = w.2;
+          count = length-replicate (guest_count lines) [];
+          served = λ trace told from serving began. record {
+            told = each_empty _ (λ g. tt) (guest_count lines) 1;
+            order = each_empty _ (λ g. tt) (guest_count lines) 1;
+            all = λ p low high. absurd (omega (arith, low, high));
+            breaker = w.1 lines;
+          };
+          transcript = none_of (λ text. IsTranscript names lines (replicate (guest_count lines) []) [] (string_bytes text)) run.transcript none;
+          counted = subst (λ f. EndsCounted (disk old.first.store) after f run.closed) (sym fault) counted_first;
+          faults = record {
+            each = all_empty _ (guest_count lines);
+            end = changed_end (disk old.first.store).files after run.closed counted_first.files counted_first.end;
+            none = changed_none (disk old.first.store) after run.closed counted_first.none;
+          };
+          full = v.full;
+          ends = all_empty _ (guest_count lines);
+          under_way = has_merge v.chain.layers;
+          leaves = subst (λ h. LeavesHistory (session_of disk old.first) h v.full v.broke (has_merge v.chain.layers) run.closed after) empty
+              (subst (λ (c : Chain S KeepAll T). LeavesHistory (session_of disk c) v.chain.recorder v.full v.broke (has_merge v.chain.layers) run.closed after) same leaves);
+          finished = so.finished;
+          stopped = each_err (StopsEnd disk v) (StopsMerge run) stops_run merged so.stopped;
+          near = subst (λ (c : Chain S KeepAll T). IfErr merged (IsNearEnd disk c v.full)) same (each_err (StopsEnd disk v) (IsNearEnd disk v.first v.full) near_run merged so.stopped);
+        }
+      where
+        none_of : {Z : Type 0} (P : String Z → Type 0) (r : Result (String Z) NoRoom) → IfOk r (λ text. ⊥) → IfOk r P
+        none_of P (Ok text) h = absurd h
+        none_of P (Err e) h = tt
+
+        broke_none : (v.broke ≡ mid.broke) ⊎ ((merges ≡ true) × (mid.broke ≡ None) × (v.broke ≡ Some merge_breach)) → mid.broke ≡ None
+            → (broken : Option Break) × ((lines : List Line) → IfSome broken (IsBreakOf merges lines (replicate (guest_count lines) []) (failed_by run.closed))) × ((s : ℕ) → open_by broken s ≡ false → opens_by v.broke s ≡ false)
+        broke_none (inl same) whole = (None, λ lines. tt, λ s e. ap (λ o. opens_by o s) (same ∙ whole))
+        broke_none (inr k) whole = by_closed run.closed refl (subst (λ o. IfSome o (λ b. IsErr run.closed)) k.2 errs)
+          where
+            by_closed : (r : Result (Unit {0}) StoreFault) → run.closed ≡ r → IsErr run.closed
+                → (broken : Option Break) × ((lines : List Line) → IfSome broken (IsBreakOf merges lines (replicate (guest_count lines) []) (failed_by run.closed))) × ((s : ℕ) → open_by broken s ≡ false → opens_by v.broke s ≡ false)
+            by_closed (Ok done) is err = absurd (false_true (subst (λ r. IsErr r) is err))
+            by_closed (Err f) is err = (
+              Some (record { fault = f; call = None }),
+              λ lines. subst (λ m. IsBreakOf m lines (replicate (guest_count lines) []) (failed_by run.closed) (record { fault = f; call = None })) (sym k.0) (inr (refl, ap failed_by is)),
+              λ s e. ap (λ o. opens_by o s) k.2 ∙ nothing 0 s,
+            )
+
+  -- ---- what is left, however far it came
+
+  pub shared_as : (merges : Bool) (n : ℕ) (old mid : Shared (Chain S KeepAll T)) (names : List (List ℕ)) (lines : List Line) (told : List (List ToldCall)) (short : Bool) → (merges ≡ false → n ≡ 0) → (n ≡ 0 → IsShared disk false old names lines mid told short)
+      → IsShared disk true old names lines mid told short → IsShared disk merges old names lines mid told short
+  shared_as false n old mid names lines told short alone plain beside = plain (alone refl)
+  shared_as true n old mid names lines told short alone plain beside = beside
+
+  pub few_told : (merges : Bool) (old mid : Shared (Chain S KeepAll T)) (names : List (List ℕ)) (lines : List Line) (told : List (List ToldCall)) (short : Bool) → IsShared disk merges old names lines mid told short → length told ≤ 64
+  few_told merges old mid names lines told short (IsShared.was_shared s) = few (length told) (greatest_from 0 lines) (s.joined.count ∙ s.count)
+    where
+      few : (n m : ℕ) → n ≡ min m 64 → n ≤ 64
+      few n m e = omega (arith, e)
+  few_told merges old mid names lines told short (IsShared.no_memory same short_is none) = omega (arith, ap length none)
+
+  pub called : (merges : Bool) (old mid v : Shared (Chain S KeepAll T)) (merged : Result (Unit {0}) ChainRefusal) → EndsAs disk merges mid v merged → (names : List (List ℕ)) (lines : List Line) (told : List (List ToldCall)) (short : Bool) → IsShared disk merges old names lines mid told short
+      → short ≡ false → All (IsTold told) v.chain.recorder
+  called merges old mid v merged e names lines told short (IsShared.was_shared s) =
+      let so = ended_so merges mid v merged e in
+      all_called disk old.first merges s.lock names lines s.seat told short s.guests s.joined v mid.broke (ap (λ k. steps_of k mid.broke) so.history ∙ s.history) (contains_through (basis_of disk v) (basis_of disk mid) s.seat.basis so.basis s.basis) s.places
+  called merges old mid v merged e names lines told short (IsShared.no_memory same short_is none) = λ memory. absurd (false_true (sym memory ∙ short_is))
+
+  pub served_so : (merges : Bool) (old mid v : Shared (Chain S KeepAll T)) (merged : Result (Unit {0}) ChainRefusal) → EndsAs disk merges mid v merged → (run : ScriptRun) (after : Disk) → IsEnded (session_of disk v.chain) after run.closed → run.fault ≡ v.fault
+      → EndsCounted (disk v.first.store) after v.fault run.closed → IfSome v.broke (λ b. IsErr run.closed) → LeavesHistory (session_of disk v.first) v.chain.recorder v.full v.broke (has_merge v.chain.layers) run.closed after
+      → HasBegun disk old → (names : List (List ℕ)) (lines : List Line) (told : List (List ToldCall)) (short : Bool) → IsShared disk merges old names lines mid told short
+      → IfOk run.transcript (λ text. (short ≡ false) × (string_bytes text ≡ serve_text v.chain.recorder told)) → HasServed disk merges old.first names lines (record { run = run; merged = merged }) after
+  served_so merges old mid v merged e run after ended fault counted errs leaves begun names lines told short (IsShared.was_shared s) text =
+      all_served merges old mid v merged (ended_so merges mid v merged e) run after ended fault counted errs leaves names lines told short s begun.sound.sector text
+  served_so merges old mid v merged e run after ended fault counted errs leaves begun names lines told short (IsShared.no_memory same short_is none) text =
+      none_served merges old mid v merged (ended_so merges mid v merged e) run after ended fault counted errs leaves names lines begun same (no_text _ run.transcript text)
+    where
+      no_text : {Z : Type 0} (P : String Z → Type 0) (r : Result (String Z) NoRoom) → IfOk r (λ t. (short ≡ false) × P t) → IfOk r (λ t. ⊥)
+      no_text P (Ok t) h = absurd (false_true (sym h.0 ∙ short_is))
+      no_text P (Err x) h = tt
+
+  -- memory ran out before the chain could be shared, and its session was ended
+  pub unserved_is : (merges : Bool) (first : Chain S KeepAll T) → first.recorder ≡ [] → (names : List (List ℕ)) (lines : List Line) (run : MergeRun) (after : Disk) → IfOk run.run.transcript (λ text. ⊥) → run.run.fault ≡ None → run.merged ≡ Err NoMemory
+      → EndsCounted (disk first.store) after None run.run.closed → LeavesHistory (session_of disk first) [] None None (has_merge first.layers) run.run.closed after → HasServed disk merges first names lines run after
+  unserved_is merges first empty names lines run after none fault merged counted leaves = record {
     guests = replicate (guest_count lines) [];
     history = [];
     broken = None;
@@ -88,45 +339,22 @@ module _ {S T : Type 0} (disk : S → Disk) where
       all = λ p low high. absurd (omega (arith, low, high));
       breaker = tt;
     };
-    transcript = none_of (λ text. IsTranscript names lines (replicate (guest_count lines) []) [] (string_bytes text)) run.transcript none;
-    counted = subst (λ f. EndsCounted (disk v.first.store) after f run.closed) (sym fault) counted;
+    transcript = none_of (λ text. IsTranscript names lines (replicate (guest_count lines) []) [] (string_bytes text)) run.run.transcript none;
+    counted = subst (λ f. EndsCounted (disk first.store) after f run.run.closed) (sym fault) counted;
     faults = record {
       each = all_empty _ (guest_count lines);
-      end = changed_end (disk v.first.store).files after run.closed counted.files counted.end;
-      none = changed_none (disk v.first.store) after run.closed counted.none;
+      end = changed_end (disk first.store).files after run.run.closed counted.files counted.end;
+      none = changed_none (disk first.store) after run.run.closed counted.none;
     };
     full = None;
     ends = all_empty _ (guest_count lines);
-    leaves = subst (λ b. LeavesHistory (session_of disk v.first) [] None b run.closed after) (ap (λ (s : Shared (Chain S KeepAll T)). s.broke) fresh)
-        (subst (λ n. LeavesHistory (session_of disk v.first) [] n v.broke run.closed after) (ap (λ (s : Shared (Chain S KeepAll T)). s.full) fresh)
-        (subst (λ h. LeavesHistory (session_of disk v.first) h v.full v.broke run.closed after) (ap (λ (s : Shared (Chain S KeepAll T)). s.chain.recorder) fresh ∙ empty) leaves));
+    under_way = has_merge first.layers;
+    leaves = leaves;
+    finished = λ some. subst (λ r. OnOk r (has_merge first.layers ≡ false)) (sym merged) tt;
+    stopped = subst (λ r. IfErr r (StopsMerge run.run)) (sym merged) none;
+    near = subst (λ r. IfErr r (IsNearEnd disk first None)) (sym merged) tt;
   }
     where
       none_of : {Z : Type 0} (P : String Z → Type 0) (r : Result (String Z) NoRoom) → IfOk r (λ text. ⊥) → IfOk r P
       none_of P (Ok text) h = absurd h
       none_of P (Err e) h = tt
-
-  -- all were
-  pub all_served : (first : Chain S KeepAll T) (lock : TableId) (names : List (List ℕ)) (lines : List Line) (n : ℕ) (old seat : Known Step (Basis S T)) (told : List (List ToldCall)) (short : Bool) (j : HasJoined disk first lock names lines n old seat told short)
-      → n ≡ guest_count lines → first.layers.geometry.sector ≡ 512 → (v : Shared (Chain S KeepAll T)) → steps_of v.chain.recorder v.broke ≡ seat.seen → Contains (basis_of disk v) seat.basis → ((p : ℕ) → times p seat.mine ≡ once_between p 1 (length seat.seen + 1))
-      → (run : ScriptRun) (after : Disk) → IsEnded (session_of disk v.chain) after run.closed → run.fault ≡ v.fault → EndsCounted (disk v.first.store) after v.fault run.closed → LeavesHistory (session_of disk v.first) v.chain.recorder v.full v.broke run.closed after
-      → IfOk run.transcript (λ text. (short ≡ false) × (string_bytes text ≡ serve_text v.chain.recorder told)) → HasServed disk first names lines run after
-  all_served first lock names lines n old seat told short j count sector v seen basis places run after ended fault counted leaves text =
-      let same : v.first ≡ first = first_is disk first lock names lines seat told short j.guests j.joined v seen basis places in
-      let w = which disk first lock names lines seat told short j.guests j.joined v seen basis places in
-      let counted_first : EndsCounted (disk first.store) after v.fault run.closed = subst (λ (c : Chain S KeepAll T). EndsCounted (disk c.store) after v.fault run.closed) same counted in
-      record {
-        guests = j.guests;
-        history = v.chain.recorder;
-        broken = w.broken;
-        breach = v.broke;
-        opens = w.opens;
-        count = j.count_is ∙ count;
-        served = served_all disk first lock names lines seat told short j.guests j.joined v seen basis places after run.closed ended sector;
-        transcript = transcript_is disk first lock names lines seat told short j.guests j.joined v seen basis places run.transcript text;
-        counted = subst (λ f. EndsCounted (disk first.store) after f run.closed) (sym fault) counted_first;
-        faults = faults_told disk first lock names lines seat told short j.guests j.joined v seen basis places after run.closed ended counted_first;
-        full = v.full;
-        ends = ends_told disk first seat.seen seat.basis.notes v.full (λ next h. full_noted next (disk v.chain.store) v.chain.broken v.full v.spent (basis.notes (notes.Full next) h)) lines j.guests j.joined.heard;
-        leaves = subst (λ (c : Chain S KeepAll T). LeavesHistory (session_of disk c) v.chain.recorder v.full v.broke run.closed after) same leaves;
-      }

@@ -48,7 +48,7 @@ pub next_one : (n told : ℕ) → n ≡ told + 1 → told < 2 ^ 32 → one_more 
 next_one n told is few = ap (λ b. if b then n + 1 else n) (lt-ltb (n + 1) (2 ^ 64) (omega (arith, is, few))) ∙ ap (λ k. k + 1) is
 
 -- a call that changes no sector opens none
-nothing : (from s : ℕ) → (nat_le from s && nat_lt s (from + 0)) ≡ false
+pub nothing : (from s : ℕ) → (nat_le from s && nat_lt s (from + 0)) ≡ false
 nothing from s = go (nat_le from s) (nat_lt s (from + 0)) refl refl
   where
     go : (a b : Bool) → nat_le from s ≡ a → nat_lt s (from + 0) ≡ b → (a && b) ≡ false

@@ -1,6 +1,6 @@
 -- Guests' seats are split from the first, and joined into it again.
 use Rattle.std.proofs.Common.{◌≡◌, ◌≢◌, ◌⊎◌, ◌+◌, ◌-◌, ◌<◌, ◌++◌, ◌∷◌, ℕ, zero, suc, Bool, true, false, [], List, length, inl, inr, refl, sym, ap, ap₂, subst, ◌∙◌, arith, length-append}
-use Rattle.std.specs.Prelude.{◌||◌, All}
+use Rattle.std.specs.Prelude.{◌||◌, All, slice_index_or}
 use Rattle.std.proofs.lemmas.Bool.{cases_eq, or_parts}
 use Rattle.std.proofs.lemmas.List.Elements.{All-cons}
 use Rattle.store_model.specs.Disk.{Disk}
@@ -18,10 +18,15 @@ use Rattle.shared_chain.specs.declared.basis.Basis.{Basis}
 use Rattle.shared_chain.specs.declared.basis.Step.{Step}
 use Rattle.shared_chain.specs.Bases.{Contains, together}
 use Rattle.shared_chain.specs.Laws.{contains_through}
-use Rattle.guest_io.specs.Guests.{IsFree}
+use Rattle.shared_chain.specs.Seats.{IsFree, MergeBreaksAt}
+use Rattle.shared_chain.specs.Steps.{done_steps, merge_breach}
+use Rattle.shared_chain.specs.declared.basis.Step.TheVariants.{Broke}
+use Rattle.turn_lock.proofs.Fronts.{starts-through}
+use Rattle.copy_workers.specs.declared.worker.Worker.{Worker}
 use Rattle.serve_session.specs.declared.actor.Actor.{Actor}
 use Rattle.serve_session.specs.Actors.{AreHeard, AreJoined, HasHeard, HasRun, IsActor, OwnsAt, first_basis}
-use Rattle.serve_session.specs.Lists.{AreActors, AreFresh, IsFresh, IsReady, RunsEach, with_splits}
+use Rattle.claims.specs.Seats.{Counter}
+use Rattle.serve_session.specs.Lists.{AreActors, AreFresh, HasDone, IsFresh, IsFreshWorker, IsReady, RunsEach, WorksEach, with_splits}
 use Rattle.serve_session.specs.Served.{EachGuest, IsRising, Outcome, SomeGuest, forms_of, places_in, told_calls, told_guests}
 use Rattle.serve_session.proofs.Guests.{each_map, each_snoc, some_last, some_left, some_map, told_guests_snoc}
 use Rattle.serve_session.proofs.Hearing.{all_heard_later, owns_still}
@@ -29,6 +34,9 @@ use Rattle.serve_session.proofs.Hearing.{all_heard_later, owns_still}
 -- one more was joined
 pub join_more : (f now new : Family) (n m : ℕ) → now ≡ record f { joins = f.joins + n } → new ≡ with_join now → m ≡ n + 1 → new ≡ record f { joins = f.joins + m }
 join_more f now new n m is new_is more = new_is ∙ ap with_join is ∙ ap (λ k. record f { joins = k }) {x = f.joins + n + 1} {y = f.joins + m} (omega (arith, more))
+
+nothing_own : (p : ℕ) → 0 < times p [] → ⊥
+nothing_own p less = absurd (omega (arith, less))
 
 module _ {S T : Type 0} where
   -- one more was split off
@@ -47,6 +55,18 @@ module _ {S T : Type 0} where
   fresh_ready seat lock n [] of_lock h = λ i x within. absurd (omega (arith, within))
   fresh_ready seat lock n (a ∷ actors) of_lock h =
       All-cons (IsReady lock) a actors ((ap (λ (s : Known Step (Basis S T)). s.lock) h.0.seat ∙ of_lock, ap (λ (s : Known Step (Basis S T)). s.turn) h.0.seat), h.0.room) (fresh_ready seat lock (n - 1) actors of_lock h.1)
+
+  -- workers that had made no turn have none of their own now but one that broke the session
+  pub all_done : (lock : TableId) (seat : Known Step (Basis S T)) (claims : Counter) (old new : List (Worker S T)) → seat.lock ≡ lock → All (IsFreshWorker seat claims) old → WorksEach old new → All (HasDone lock) new
+  all_done lock seat claims old new of_lock fresh works i d within =
+      let before : i < length old = omega (arith, within, works.count) in
+      let f = fresh i d before in
+      let w = works.each i d before in
+      ((w.keeps.lock ∙ ap (λ (s : Known Step (Basis S T)). s.lock) f.seat ∙ of_lock, w.keeps.free), λ p own. go p (slice_index_or old i d) (ap (λ (s : Known Step (Basis S T)). s.mine) f.seat) (w.own p own))
+    where
+      go : (p : ℕ) (a : Worker S T) {Q : Type 0} → a.seat.mine ≡ [] → (0 < times p a.seat.mine) ⊎ Q → Q
+      go p a none (inl own) = absurd (nothing_own p (subst (λ ms. 0 < times p ms) none own))
+      go p a none (inr q) = q
 
   module _ (disk : S → Disk) (first : Chain S KeepAll T) (lock : TableId) (names : List (List ℕ)) (lines : List Line) where
     fresh_actor : (seat : Known Step (Basis S T)) (n : ℕ) (a : Actor S T) → seat.lock ≡ lock → Contains seat.basis (first_basis disk first) → first.layers.geometry.sector ≡ 512 → IsFresh seat n a → IsActor disk first lock names [] a
@@ -91,7 +111,7 @@ module _ {S T : Type 0} where
     -- ---- joining
 
     -- no seat was joined yet
-    pub none_joined : (seat : Known Step (Basis S T)) → IsFree lock seat → seat.family.is_first ≡ true → Contains seat.basis (first_basis disk first) → seat.mine ≡ [] → AreJoined disk first lock names lines seat [] false []
+    pub none_joined : (seat : Known Step (Basis S T)) → IsFree lock seat → seat.family.is_first ≡ true → Contains seat.basis (first_basis disk first) → seat.mine ≡ [] → AreJoined disk first false lock names lines seat [] false []
     none_joined seat free leads knows mine = record {
       free = free;
       leads = leads;
@@ -106,7 +126,7 @@ module _ {S T : Type 0} where
         none : (p : ℕ) → 0 < times p [] → ⊥
         none p less = absurd (omega (arith, less))
 
-    module _ (seat new : Known Step (Basis S T)) (told : List (List ToldCall)) (short : Bool) (guests : List (List Outcome)) (j : AreJoined disk first lock names lines seat told short guests) (a : Actor S T) (run : HasRun disk first lock names lines a)
+    module _ (seat new : Known Step (Basis S T)) (told : List (List ToldCall)) (short : Bool) (guests : List (List Outcome)) (j : AreJoined disk first false lock names lines seat told short guests) (a : Actor S T) (run : HasRun disk first lock names lines a)
         (number : a.number ≡ length guests + 1) (both : new ≡ together_of together seat a.guest.seat) (seen : StartsWith new.seen seat.seen × StartsWith new.seen a.guest.seat.seen) (basis : Contains new.basis seat.basis × Contains new.basis a.guest.seat.basis) where
       abbrev number_is : a.number ≡ 1 + length guests
       number_is = omega (arith, number)
@@ -136,7 +156,7 @@ module _ {S T : Type 0} where
               positive zero ne = absurd (ne refl)
               positive (suc n) ne = omega arith
 
-      pub one_joined : AreJoined disk first lock names lines new (told ++ a.told.items ∷ []) (short || a.is_short) (guests ++ run.outcomes ∷ [])
+      pub one_joined : AreJoined disk first false lock names lines new (told ++ a.told.items ∷ []) (short || a.is_short) (guests ++ run.outcomes ∷ [])
       one_joined = record {
         free = (ap (λ (s : Known Step (Basis S T)). s.lock) both ∙ j.free.0, ap (λ (s : Known Step (Basis S T)). s.turn) both ∙ j.free.1);
         leads = ap (λ (s : Known Step (Basis S T)). s.family.is_first) both ∙ j.leads;
@@ -158,3 +178,50 @@ module _ {S T : Type 0} where
                 each_snoc (λ g os. length os ≡ length (forms_of g lines)) 1 guests run.outcomes k.0 (subst (λ n. length run.outcomes ≡ length (forms_of n lines)) number_is l.all),
                 ap₂ (λ ts t. ts ++ t ∷ []) k.1 (l.told ∙ ap (λ n. told_calls names (forms_of n lines) run.outcomes) number_is) ∙ sym (told_guests_snoc names 1 lines guests run.outcomes),
               )
+
+    -- ---- workers of a merge
+
+    breaks_later : (old new : List Step) (p : ℕ) → StartsWith new old → MergeBreaksAt old p → MergeBreaksAt new p
+    breaks_later old new p starts k = record { before = k.before; begins = starts-through new old (done_steps k.before ++ Broke merge_breach ∷ []) starts k.begins; place_is = k.place_is }
+
+    -- in a session with a merge a place may be the merge's
+    pub wider_joined : (seat : Known Step (Basis S T)) (told : List (List ToldCall)) (short : Bool) (guests : List (List Outcome)) → AreJoined disk first false lock names lines seat told short guests → AreJoined disk first true lock names lines seat told short guests
+    wider_joined seat told short guests j = record { free = j.free; leads = j.leads; knows = j.knows; heard = j.heard; order = j.order; owns = λ p own. inl (j.owns p own); count = j.count; kept = j.kept }
+
+    module _ (seat new : Known Step (Basis S T)) (told : List (List ToldCall)) (short : Bool) (guests : List (List Outcome)) (j : AreJoined disk first true lock names lines seat told short guests) (w : Worker S T) (done : HasDone lock w)
+        (both : new ≡ together_of together seat w.seat) (seen : StartsWith new.seen seat.seen × StartsWith new.seen w.seat.seen) (basis : Contains new.basis seat.basis × Contains new.basis w.seat.basis) where
+      abbrev Hears : Known Step (Basis S T) → ℕ → List Outcome → Type 0
+      Hears s guest outcomes = AreHeard disk first s.seen s.basis.notes guest 1 (forms_of guest lines) outcomes
+
+      abbrev OwnsBy : Known Step (Basis S T) → ℕ → ℕ → List Outcome → Type 0
+      OwnsBy s p guest outcomes = OwnsAt s.seen p guest (forms_of guest lines) outcomes
+
+      still_owns : (p : ℕ) → SomeGuest (OwnsBy seat p) 1 guests ⊎ MergeBreaksAt seat.seen p → SomeGuest (OwnsBy new p) 1 guests ⊎ MergeBreaksAt new.seen p
+      still_owns p (inl own) = inl (some_map (OwnsBy seat p) (OwnsBy new p) 1 guests (λ g os. owns_still seat.seen new.seen p g (forms_of g lines) os seen.0) own)
+      still_owns p (inr breaks) = inr (breaks_later seat.seen new.seen p seen.0 breaks)
+
+      worker_owns : (p : ℕ) → 0 < times p new.mine → SomeGuest (OwnsBy new p) 1 guests ⊎ MergeBreaksAt new.seen p
+      worker_owns p own = go (cases_eq (times p seat.mine) 0)
+        where
+          mine : times p new.mine ≡ times p seat.mine + times p w.seat.mine
+          mine = ap (λ (s : Known Step (Basis S T)). times p s.mine) both ∙ times-append p seat.mine w.seat.mine
+
+          positive : (n : ℕ) → n ≢ 0 → 0 < n
+          positive zero ne = absurd (ne refl)
+          positive (suc n) ne = omega arith
+
+          go : (times p seat.mine ≡ 0) ⊎ (times p seat.mine ≢ 0) → SomeGuest (OwnsBy new p) 1 guests ⊎ MergeBreaksAt new.seen p
+          go (inl none) = inr (breaks_later w.seat.seen new.seen p seen.1 (done.1 p (omega (arith, own, mine, none))))
+          go (inr some) = still_owns p (j.owns p (positive (times p seat.mine) some))
+
+      pub worker_joined : AreJoined disk first true lock names lines new told short guests
+      worker_joined = record {
+        free = (ap (λ (s : Known Step (Basis S T)). s.lock) both ∙ j.free.0, ap (λ (s : Known Step (Basis S T)). s.turn) both ∙ j.free.1);
+        leads = ap (λ (s : Known Step (Basis S T)). s.family.is_first) both ∙ j.leads;
+        knows = contains_through new.basis seat.basis (first_basis disk first) basis.0 j.knows;
+        heard = each_map (Hears seat) (Hears new) 1 guests (λ g os. all_heard_later disk first seat.seen new.seen seat.basis.notes new.basis.notes g 1 (forms_of g lines) os seen.0 basis.0.notes) j.heard;
+        order = j.order;
+        owns = worker_owns;
+        count = j.count;
+        kept = j.kept;
+      }

@@ -6,4 +6,5 @@ mod Ending
 mod Filled
 mod Final
 mod Sessions
+mod MergeSessions
 mod Sending

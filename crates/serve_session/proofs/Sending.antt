@@ -1,4 +1,4 @@
--- That a guest of a script may go to another thread, and that threads may share the lock.
+-- That a guest of a script and a worker of a merge may go to other threads, and that threads may share the lock.
 use denote.RattleType.{RattleType}
 use denote.Struct.Declared.{shape}
 use denote.Param.Send.{IsSend, recorded_send, sendable, struct_send}
@@ -11,6 +11,8 @@ use Rattle.chain_core.proofs.chain.Chain.TheSendSync as chain
 use Rattle.turn_lock.proofs.seat.Seat.TheSendSync.{the_send as seat_send}
 use Rattle.shared_chain.specs.contracts.shared.SharedChain as shared
 use Rattle.shared_chain.proofs.basis.Breach.TheSendSync.{the_send as breach_send}
+use Rattle.claims.proofs.counter.ClaimSeat.TheSendSync.{the_send as claim_send}
+use Rattle.copy_workers.specs.contracts.worker.Worker as worker
 use Rattle.guest_io.specs.contracts.guest.Guest as guest
 use Rattle.script.proofs.told.ToldCall.TheSendSync as told
 use Rattle.serve_session.specs.contracts.actor.Actor as actor
@@ -33,3 +35,8 @@ actor_send S R d r s =
     let f = told.the_field_send in
     recorded_send (actor.the_field S R d r).row _ _ (actor.the_type S R d r).to_one
     (struct_send (shape (actor.the_type S R d r)) (g, (search (sendable, crosses) depth 30, (search (sendable, crosses) depth 30, (search (sendable, crosses) depth 30, (search (sendable, crosses) depth 30, tt))))))
+
+pub worker_send : (S R : RattleType) (d : store.Ghosts S.Denot R.Denot) (r : reader.Ghosts R.Denot) → IsSend S → IsSend (worker.the_row S R d r)
+worker_send S R d r s =
+    let v = shared_send S R d r s in
+    search (sendable, crosses, seat_send, claim_send) depth 30 fits 20000

@@ -1,5 +1,5 @@
 -- A session with several guests, from its start to its end.
-use Rattle.std.proofs.Common.{◌≡◌, ◌==◌, ◌||◌, ℕ, Bool, true, false, List, [], ◌∷◌, Option, Some, None, Result, Ok, Err, inr, refl, sym, ap, ap₂, subst, ◌∙◌, ne_eqb}
+use Rattle.std.proofs.Common.{◌≡◌, ◌⊎◌, ◌==◌, ◌||◌, ℕ, Bool, true, false, List, [], ◌∷◌, Option, Some, None, Result, Ok, Err, inl, inr, refl, sym, ap, ap₂, subst, ◌∙◌, ne_eqb}
 use Rattle.std.specs.Prelude.{IfErr, is_some}
 use Rattle.std.proofs.lemmas.Bool.{or_from, or_parts}
 use Rattle.std.proofs.lemmas.Result.{on_ok_weaker}
@@ -23,10 +23,10 @@ use Rattle.chain_core.specs.Starting.{HasStarted, IsOfDisk, StartsWith, opening_
 use Rattle.chain_core.specs.States.{IsServing, State, sector_of}
 use Rattle.script.specs.declared.form.Line.{Line}
 use Rattle.script_session.specs.Faults.{Counts, FaultsAreTold}
-use Rattle.script_session.specs.Histories.{IsSoLong, disk_after}
+use Rattle.layer_session.proofs.Equal.{false_true}
+use Rattle.script_session.specs.Histories.{GoesOn, HasRetired, IsSoLong, disk_after, merges_leaf}
 use Rattle.script_session.specs.Running.{drive_of, open_by, open_last}
 use Rattle.script_session.specs.Told.{failed_by, sector_size}
-use Rattle.script_session.specs.declared.session.ScriptRun.{ScriptRun}
 use Rattle.script_session.proofs.Lengths.{ends_later}
 use Rattle.script_session.proofs.Scripts.{past_as}
 use Rattle.shared_chain.proofs.Breaking.{past_wider, wider}
@@ -36,24 +36,34 @@ use Rattle.shared_chain.specs.Steps.{open_by as opens_by}
 use Rattle.serve_session.specs.Running.{HasRunServe, HasServedFiles, HaveServed}
 use Rattle.serve_session.specs.Served.{AreServed, all_told}
 use Rattle.serve_session.specs.Serving.{HasServed, IsUpTo, drive_from}
+use Rattle.serve_session.specs.declared.merging.MergeRun.{MergeRun}
 use Rattle.serve_session.proofs.Filled.{long_up}
 
 -- ---- what is left of the files
 
 -- what stands of a state that the session has come to, in the words of its beginning
 module _ (z z' : ℕ) (o o' : GuestDisk) (leaf leaf' : Way) (h h' : History) (now : Trace) (ez : z ≡ z') (eo : o ≡ o') (el : leaf ≡ leaf') (eh : h ≡ h') where
-  last_as : (p : ℕ → Bool) → EachOpens leaf (λ s. is_dirty z h s || p s) (replay z o h) now → EachOpens leaf' (λ s. is_dirty z' h' s || p s) (replay z' o' h') now
+  pub last_as : (p : ℕ → Bool) → EachOpens leaf (λ s. is_dirty z h s || p s) (replay z o h) now → EachOpens leaf' (λ s. is_dirty z' h' s || p s) (replay z' o' h') now
   last_as p last =
       subst (λ n. EachOpens leaf' (λ s. is_dirty n h' s || p s) (replay n o' h') now) ez
       (subst (λ d. EachOpens leaf' (λ s. is_dirty z h' s || p s) (replay z d h') now) eo
       (subst (λ l. EachOpens l (λ s. is_dirty z h' s || p s) (replay z o h') now) el (subst (λ k. EachOpens leaf (λ s. is_dirty z k s || p s) (replay z o k) now) eh last)))
 
-  whole_as : EachOpens leaf (λ s. false) (replay z o h) now → EachOpens leaf' (λ s. false) (replay z' o' h') now
+  pub whole_as : EachOpens leaf (λ s. false) (replay z o h) now → EachOpens leaf' (λ s. false) (replay z' o' h') now
   whole_as all =
       subst (λ n. EachOpens leaf' (λ s. false) (replay n o' h') now) ez
       (subst (λ d. EachOpens leaf' (λ s. false) (replay z d h') now) eo (subst (λ l. EachOpens l (λ s. false) (replay z o h') now) el (subst (λ k. EachOpens leaf (λ s. false) (replay z o k) now) eh all)))
 
-module _ {S T : Type 0} (disk : S → Disk) (first : Chain S KeepAll T) (names : List (List ℕ)) (lines : List Line) (run : ScriptRun) (after : Disk) (h : HasServed disk first names lines run after) (sector : first.layers.geometry.sector ≡ 512)
+-- where the leaf isn't merged the session goes on over it
+goes_on : (v later : State) → merges_leaf v.rest ≡ false → GoesOn v later ⊎ HasRetired v later → GoesOn v later
+goes_on v later none (inl on) = on
+goes_on v later none (inr retired) = absurd (false_true (sym none ∙ retired.merges))
+
+pub counts_change : (after : Disk) (r : Result (Unit {0}) StoreFault) → IfErr r (shared.CountsChange after) → IfErr r (Counts after)
+counts_change after (Ok done) c = tt
+counts_change after (Err f) c = record { within = c.0; some = c.1; counted = inr c.2 }
+
+module _ {S T : Type 0} (disk : S → Disk) (first : Chain S KeepAll T) (names : List (List ℕ)) (lines : List Line) (run : MergeRun) (after : Disk) (h : HasServed disk false first names lines run after) (sector : first.layers.geometry.sector ≡ 512)
     (leaf : LinkedFile) (others : List LinkedFile) (old : Disk) (drawn now_drawn : Option (List (List ℕ))) (begun : HasStarted Guests (leaf ∷ others) first.layers old (disk first.store) drawn now_drawn) (geometry : first.layers.geometry ≡ leaf.parts.geometry) where
   module _ (trace mid : Trace) (mid_is : (disk first.store).told ≡ Some mid) (serving : IsServing first.layers (started trace leaf others (under begun.1.ids leaf.parts)) mid) where
     abbrev from : State
@@ -65,40 +75,43 @@ module _ {S T : Type 0} (disk : S → Disk) (first : Chain S KeepAll T) (names :
     drive_is : drive_from first from ≡ drive_of Guests leaf others trace
     drive_is = ap₂ (λ (g : Geometry) c. record { geometry = g; can_change = c; opening = opening_disk trace (leaf ∷ others) }) geometry begun.1.session
 
-    served : AreServed (drive_of Guests leaf others trace) lines h.guests h.history (failed_by run.closed) h.broken
-    served = subst (λ d. AreServed d lines h.guests h.history (failed_by run.closed) h.broken) drive_is (h.served mid mid_is from serving refl)
+    served : AreServed false (drive_of Guests leaf others trace) lines h.guests h.history (failed_by run.run.closed) h.broken
+    served = subst (λ d. AreServed false d lines h.guests h.history (failed_by run.run.closed) h.broken) drive_is (h.served mid mid_is from serving refl)
 
-    module _ (now : Trace) (left : HasLeft (is_some first.layers.leaf) from h.history h.full h.breach run.closed now) where
+    module _ (now : Trace) (left : HasLeft (is_some first.layers.leaf) h.under_way from h.history h.full h.breach run.run.closed now) where
+      goes : GoesOn from left.to
+      goes = goes_on from left.to refl left.comes.later.goes
+
       to_size : sector_of left.to ≡ sector_size
       to_size = left.comes.sector ∙ size
 
-      files : HasServedFiles leaf others lines h.guests h.history h.broken run.closed trace now
+      files : HasServedFiles leaf others lines h.guests h.history h.broken run.run.closed trace now
       files = record {
         served = served;
         moments = past_wider sector_size (opening_disk trace (leaf ∷ others)) h.history (opens_by h.breach) (open_by h.broken) (way_to leaf (leaf ∷ others) None) trace now h.opens
-            (subst (λ k. EachOpensToPrefix sector_size (opening_disk trace (leaf ∷ others)) k (opens_by h.breach) (way_to leaf (leaf ∷ others) None) trace now) left.comes.history
-            (past_as (sector_of left.to) sector_size left.to.opening (opening_disk trace (leaf ∷ others)) left.to.leaf (way_to leaf (leaf ∷ others) None) left.to.began trace left.to.history (λ z. opens_by h.breach) now to_size left.comes.opening left.comes.leaf left.comes.began left.past));
+            (subst (λ k. EachOpensToPrefix sector_size (opening_disk trace (leaf ∷ others)) k (opens_by h.breach) (way_to leaf (leaf ∷ others) None) trace now) left.comes.later.history
+            (past_as (sector_of left.to) sector_size left.to.opening (opening_disk trace (leaf ∷ others)) left.to.leaf (way_to leaf (leaf ∷ others) None) left.to.began trace left.to.history (λ z. opens_by h.breach) now to_size left.comes.later.opening left.comes.later.leaf left.comes.later.began left.past));
         last = wider (way_to leaf (leaf ∷ others) None) (λ s. is_dirty sector_size h.history s || opens_by h.breach s) (open_last h.history h.broken) (disk_after (drive_of Guests leaf others trace) h.history) now
             (λ s apart. let parts = or_parts (is_dirty sector_size h.history s) (open_by h.broken s) apart in or_from (is_dirty sector_size h.history s) (opens_by h.breach s) parts.0 (h.opens s parts.1))
-            (last_as (sector_of left.to) sector_size left.to.opening (opening_disk trace (leaf ∷ others)) left.to.leaf (way_to leaf (leaf ∷ others) None) left.to.history h.history now to_size left.comes.opening left.comes.leaf left.comes.history (opens_by h.breach) left.last);
+            (last_as (sector_of left.to) sector_size left.to.opening (opening_disk trace (leaf ∷ others)) left.to.leaf (way_to leaf (leaf ∷ others) None) left.to.history h.history now to_size left.comes.later.opening left.comes.later.leaf left.comes.later.history (opens_by h.breach) left.last);
         full = ends_later (IsUpTo h.full) (IsSoLong (λ n. n == 0) now) (long_up h.full (λ n. n == 0) now left.long) (all_told h.guests) h.ends;
         still = λ other apart.
-            left.still other (ap (λ (w : ℕ → Bool). w other) left.comes.writes ∙ ne_eqb other 0 apart) ∙ ap (λ t. file_of t other) left.comes.since;
-        at_rest = on_ok_weaker run.closed (λ w. record {
-          synced = subst (λ n. is_synced (file_of now n) ≡ true) left.comes.number (w.synced begun.1.session).0;
+            left.still other (ap (λ (w : ℕ → Bool). w other) goes.writes ∙ ne_eqb other 0 apart) ∙ ap (λ t. file_of t other) goes.since;
+        at_rest = on_ok_weaker run.run.closed (λ w. record {
+          synced = subst (λ n. is_synced (file_of now n) ≡ true) goes.number (w.synced begun.1.session).0;
           no_log = λ can.
-              let mine : left.to.writes left.to.top.number ≡ true = subst (λ n. left.to.writes n ≡ true) (sym left.comes.number) (ap (λ (w : ℕ → Bool). w 0) left.comes.writes) in
-              subst (λ n. NamesNoLog (seen (file_of now n))) left.comes.number ((w.no_log begun.1.session).0 mine);
-          opens = whole_as (sector_of left.to) sector_size left.to.opening (opening_disk trace (leaf ∷ others)) left.to.leaf (way_to leaf (leaf ∷ others) None) left.to.history h.history now to_size left.comes.opening left.comes.leaf left.comes.history w.opens;
+              let mine : left.to.writes left.to.top.number ≡ true = subst (λ n. left.to.writes n ≡ true) (sym goes.number) (ap (λ (w : ℕ → Bool). w 0) goes.writes) in
+              subst (λ n. NamesNoLog (seen (file_of now n))) goes.number ((w.no_log begun.1.session).0 mine);
+          opens = whole_as (sector_of left.to) sector_size left.to.opening (opening_disk trace (leaf ∷ others)) left.to.leaf (way_to leaf (leaf ∷ others) None) left.to.history h.history now to_size left.comes.later.opening left.comes.later.leaf left.comes.later.history w.opens;
         }) left.whole;
       }
 
-  have : WhereBothTold (HaveServed (leaf ∷ others) lines h.guests h.history h.broken run.closed) old.told after.told
+  have : WhereBothTold (HaveServed (leaf ∷ others) lines h.guests h.history h.broken run.run.closed) old.told after.told
   have = go old.told (disk first.store).told refl begun.1.serving after.told h.leaves
     where
       go : (a b : Option Trace) → (disk first.store).told ≡ b → StartsWith (under begun.1.ids) (leaf ∷ others) first.layers a b → (c : Option Trace)
-          → WhereBothTold (λ trace now. (from : State) → IsServing first.layers from trace → from.history ≡ [] → HasLeft (is_some first.layers.leaf) from h.history h.full h.breach run.closed now) b c
-          → WhereBothTold (HaveServed (leaf ∷ others) lines h.guests h.history h.broken run.closed) a c
+          → WhereBothTold (λ trace now. (from : State) → IsServing first.layers from trace → from.history ≡ [] → HasLeft (is_some first.layers.leaf) h.under_way from h.history h.full h.breach run.run.closed now) b c
+          → WhereBothTold (HaveServed (leaf ∷ others) lines h.guests h.history h.broken run.run.closed) a c
       go None None e s None l = tt
       go None None e s (Some c) l = absurd l
       go None (Some b) e s c l = absurd s
@@ -106,11 +119,7 @@ module _ {S T : Type 0} (disk : S → Disk) (first : Chain S KeepAll T) (names :
       go (Some a) (Some b) e s None l = absurd l
       go (Some a) (Some b) e s (Some c) l = files a b e s c (l (started a leaf others (under begun.1.ids leaf.parts)) s refl)
 
-  if_err : (r : Result (Unit {0}) StoreFault) → IfErr r (shared.CountsChange after) → IfErr r (Counts after)
-  if_err (Ok done) c = tt
-  if_err (Err f) c = record { within = c.0; some = c.1; counted = inr c.2 }
-
-  pub has_run : HasRunServe (leaf ∷ others) names lines run old after drawn now_drawn
+  pub has_run : HasRunServe (leaf ∷ others) names lines run.run old after drawn now_drawn
   has_run = record {
     guests = h.guests;
     history = h.history;
@@ -119,16 +128,16 @@ module _ {S T : Type 0} (disk : S → Disk) (first : Chain S KeepAll T) (names :
     transcript = h.transcript;
     drawn = (begun.0, begun.1.ids, begun.1.fit);
     counted = h.counted.last;
-    ended = if_err run.closed h.counted.end;
-    quiet = λ none. on_ok_weaker run.closed (λ same. counts_join old (disk first.store) after begun.1.counts same) (h.counted.quiet none);
+    ended = counts_change after run.run.closed h.counted.end;
+    quiet = λ none. on_ok_weaker run.run.closed (λ same. counts_join old (disk first.store) after begun.1.counts same) (h.counted.quiet none);
     faults =
         let k = h.faults in
-        subst (λ n. FaultsAreTold (all_told h.guests) (failed_by run.closed) n old.failed_changes after.failed_reads after.failed_changes) (ap (λ (d : Disk). d.files) begun.1.counts)
+        subst (λ n. FaultsAreTold (all_told h.guests) (failed_by run.run.closed) n old.failed_changes after.failed_reads after.failed_changes) (ap (λ (d : Disk). d.files) begun.1.counts)
         (record { each = k.each; end = k.end; none = λ none. k.none none ∙ ap (λ (d : Disk). d.failed_changes) begun.1.counts });
     served = have;
   }
 
-pub serve_ran : {S T : Type 0} (disk : S → Disk) (first : Chain S KeepAll T) (files : List LinkedFile) (names : List (List ℕ)) (lines : List Line) (run : ScriptRun) (old after : Disk) (drawn now : Option (List (List ℕ))) → HasServed disk first names lines run after
-    → HasStarted Guests files first.layers old (disk first.store) drawn now → CanStart files old → first.layers.geometry.sector ≡ 512 → IsOfDisk files first.layers.geometry → HasRunServe files names lines run old after drawn now
+pub serve_ran : {S T : Type 0} (disk : S → Disk) (first : Chain S KeepAll T) (files : List LinkedFile) (names : List (List ℕ)) (lines : List Line) (run : MergeRun) (old after : Disk) (drawn now : Option (List (List ℕ))) → HasServed disk false first names lines run after
+    → HasStarted Guests files first.layers old (disk first.store) drawn now → CanStart files old → first.layers.geometry.sector ≡ 512 → IsOfDisk files first.layers.geometry → HasRunServe files names lines run.run old after drawn now
 serve_ran disk first [] names lines run old after drawn now h begun can sector geometry = absurd can.line
 serve_ran disk first (leaf ∷ others) names lines run old after drawn now h begun can sector geometry = has_run disk first names lines run after h sector leaf others old drawn now begun geometry

@@ -18,7 +18,8 @@ use Rattle.turn_lock.proofs.Fronts.{starts-itself}
 use Rattle.shared_chain.specs.declared.basis.Basis.{Basis}
 use Rattle.shared_chain.specs.declared.basis.Step.{Step}
 use Rattle.shared_chain.specs.Laws.{contains_itself}
-use Rattle.guest_io.specs.Guests.{IsCall, IsFree, KeepsSeat, caller_of}
+use Rattle.guest_io.specs.Guests.{IsCall, caller_of}
+use Rattle.shared_chain.specs.Seats.{IsFree, KeepsSeat}
 use Rattle.serve_session.specs.declared.actor.Actor.{Actor}
 use Rattle.serve_session.specs.Actors.{HasHeard, HasKept, IsActor, called_form}
 use Rattle.serve_session.specs.Asking.{IsAsked, asks_too_many, count_of, emptied, is_want, outcome_of, reply_in, shown_in}

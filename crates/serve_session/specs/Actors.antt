@@ -28,7 +28,7 @@ use Rattle.shared_chain.specs.Answers.{RepliesBehind, StopsOver}
 use Rattle.shared_chain.specs.Bases.{Contains, notes_in}
 use Rattle.shared_chain.specs.Notes.{HasNote}
 use Rattle.shared_chain.specs.Steps.{done_steps, open_by}
-use Rattle.guest_io.specs.Guests.{IsFree}
+use Rattle.shared_chain.specs.Seats.{IsFree, MergeBreaksAt}
 use Rattle.serve_session.specs.declared.actor.Actor.{Actor}
 use Rattle.serve_session.specs.Served.{EachGuest, Has, IsRising, IsWhole, Outcome, SomeGuest, call_of, entry_of, forms_of, places_in, told_calls, told_guests}
 
@@ -97,6 +97,11 @@ pub record BreaksAt (seen : List Step) (p guest : ℕ) (forms : List Form) (outc
 abbrev pub OwnsAt : List Step → ℕ → ℕ → List Form → List Outcome → Type 0
 OwnsAt seen p guest forms outcomes = Has p (places_in outcomes) ⊎ BreaksAt seen p guest forms outcomes
 
+-- what stands at a place is what a guest was told of; or, in a session with a merge, what a step of the merge broke
+abbrev pub IsOwned : Bool → List Step → ℕ → List Line → List (List Outcome) → Type 0
+IsOwned false seen p lines guests = SomeGuest (λ guest outcomes. OwnsAt seen p guest (forms_of guest lines) outcomes) 1 guests
+IsOwned true seen p lines guests = SomeGuest (λ guest outcomes. OwnsAt seen p guest (forms_of guest lines) outcomes) 1 guests ⊎ MergeBreaksAt seen p
+
 -- ---- guests
 
 -- what a line asks for, if it is a call
@@ -133,13 +138,13 @@ module _ {S T : Type 0} (disk : S → Disk) (first : Chain S KeepAll T) where
 
   -- ---- all of them
 
-  -- What guests were told whose seats were joined into this one.
-  pub record AreJoined (lock : TableId) (names : List (List ℕ)) (lines : List Line) (seat : Known Step (Basis S T)) (told : List (List ToldCall)) (short : Bool) (guests : List (List Outcome)) : Type 0 where
+  -- What guests were told whose seats were joined into this one, as were those of a merge's workers, if there is a merge.
+  pub record AreJoined (merges : Bool) (lock : TableId) (names : List (List ℕ)) (lines : List Line) (seat : Known Step (Basis S T)) (told : List (List ToldCall)) (short : Bool) (guests : List (List Outcome)) : Type 0 where
     pub free : IsFree lock seat
     pub leads : seat.family.is_first ≡ true
     pub knows : Contains seat.basis (first_basis disk first)
     pub heard : EachGuest (λ guest outcomes. AreHeard disk first seat.seen seat.basis.notes guest 1 (forms_of guest lines) outcomes) 1 guests
     pub order : EachGuest (λ guest outcomes. IsRising (places_in outcomes)) 1 guests
-    pub owns : (p : ℕ) → 0 < times p seat.mine → SomeGuest (λ guest outcomes. OwnsAt seat.seen p guest (forms_of guest lines) outcomes) 1 guests
+    pub owns : (p : ℕ) → 0 < times p seat.mine → IsOwned merges seat.seen p lines guests
     pub count : length told ≡ length guests
     pub kept : short ≡ false → IsWhole lines guests × (told ≡ told_guests names 1 lines guests)

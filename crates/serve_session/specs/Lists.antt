@@ -1,5 +1,5 @@
 -- The guests of a script, one after the other.
-use Rattle.std.specs.Prelude.{◌≡◌, ◌+◌, ◌-◌, ◌<◌, ⊤, ℕ, Bool, false, List, [], ◌∷◌, length, slice_index_or}
+use Rattle.std.specs.Prelude.{◌≡◌, ◌+◌, ◌-◌, ◌<◌, ⊤, ℕ, Bool, false, true, List, [], ◌∷◌, length, slice_index_or}
 use Rattle.store_model.specs.Disk.{Disk}
 use Rattle.guest_model.specs.declared.recorder.KeepAll.{KeepAll}
 use Rattle.chain_core.specs.declared.chain.Chain.{Chain}
@@ -8,9 +8,13 @@ use Rattle.script.specs.declared.told.ToldCall.{ToldCall}
 use Rattle.turn_lock.specs.Seats.{Known, TableId, split_off}
 use Rattle.shared_chain.specs.declared.basis.Basis.{Basis}
 use Rattle.shared_chain.specs.declared.basis.Step.{Step}
-use Rattle.guest_io.specs.Guests.{IsFree}
+use Rattle.shared_chain.specs.Seats.{HasWorked, IsFree}
 use Rattle.serve_session.specs.Actors.{AreJoined, HasRun, IsActor}
+use Rattle.claims.specs.Seats.{Counter}
+use Rattle.copy_workers.specs.declared.worker.Worker.{Worker}
 use Rattle.serve_session.specs.declared.actor.Actor.{Actor}
+use Rattle.shared_chain.specs.Seats.{MergeBreaksAt}
+use Rattle.seats.specs.Counting.{times}
 use Rattle.serve_session.specs.Served.{Outcome}
 
 module _ {S T : Type 0} where
@@ -49,9 +53,33 @@ module _ {S T : Type 0} where
     pub count : length new ≡ length old
     pub each : (i : ℕ) (d : Actor S T) → i < length old → RunsTo disk lock names lines (slice_index_or old i d) (slice_index_or new i d)
 
+  -- a worker with a seat that was split from this one, which has made no turn
+  pub record IsFreshWorker (first : Known Step (Basis S T)) (claims : Counter) (worker : Worker S T) : Type 0 where
+    pub seat : worker.seat ≡ split_off first
+    pub counter : worker.claim.counter ≡ claims
+
+  -- it may take turns
+  abbrev pub CanWork : TableId → Counter → Worker S T → Type 0
+  CanWork lock claims worker = IsFree lock worker.seat × (worker.claim.counter ≡ claims)
+
+  -- workers have taken turns
+  pub record WorksEach (old new : List (Worker S T)) : Type 0 where
+    pub count : length new ≡ length old
+    pub each : (i : ℕ) (d : Worker S T) → i < length old → HasWorked (slice_index_or old i d).seat (slice_index_or new i d).seat
+
+  -- it has ended its turns, and nothing is its own but where a step of the merge broke the session
+  abbrev pub HasDone : TableId → Worker S T → Type 0
+  HasDone lock worker = IsFree lock worker.seat × ((p : ℕ) → 0 < times p worker.seat.mine → MergeBreaksAt worker.seat.seen p)
+
+  -- what guests were told stands of a seat into which those of a merge's workers were joined
+  abbrev pub WorkersJoin : (S → Disk) → TableId → Known Step (Basis S T) → Known Step (Basis S T) → Type 0
+  WorkersJoin disk lock old new =
+      (first : Chain S KeepAll T) (names : List (List ℕ)) (lines : List Line) (told : List (List ToldCall)) (short : Bool) (guests : List (List Outcome)) → AreJoined disk first true lock names lines old told short guests
+      → AreJoined disk first true lock names lines new told short guests
+
   -- the seats of so many guests were joined
-  pub record HasJoined (disk : S → Disk) (first : Chain S KeepAll T) (lock : TableId) (names : List (List ℕ)) (lines : List Line) (count : ℕ) (old new : Known Step (Basis S T)) (told : List (List ToldCall)) (short : Bool) : Type 0 where
+  pub record HasJoined (disk : S → Disk) (merges : Bool) (first : Chain S KeepAll T) (lock : TableId) (names : List (List ℕ)) (lines : List Line) (count : ℕ) (old new : Known Step (Basis S T)) (told : List (List ToldCall)) (short : Bool) : Type 0 where
     pub guests : List (List Outcome)
-    pub joined : AreJoined disk first lock names lines new told short guests
+    pub joined : AreJoined disk first merges lock names lines new told short guests
     pub count_is : length guests ≡ count
     pub family : new.family ≡ record (old.family) { joins = old.family.joins + count }

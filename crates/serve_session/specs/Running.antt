@@ -1,5 +1,5 @@
 -- What a session with several guests does to the files of a chain, from its start to its end.
-use Rattle.std.specs.Prelude.{◌≡◌, ◌≢◌, ◌==◌, ⊤, ℕ, List, [], ◌∷◌, length, string_bytes, Option, None, Result, IfErr, IfOk, IfSome, OnOk}
+use Rattle.std.specs.Prelude.{◌≡◌, ◌≢◌, ◌==◌, ⊤, ℕ, false, List, [], ◌∷◌, length, string_bytes, Option, None, Result, IfErr, IfOk, IfSome, OnOk}
 use Rattle.std.specs.List.{AllByRecursion}
 use Rattle.store_model.specs.Disk.{Disk, WhereBothTold}
 use Rattle.store_model.specs.Trace.{Trace, file_of}
@@ -21,7 +21,7 @@ use Rattle.serve_session.specs.Served.{AreServed, IsTranscript, Outcome, all_tol
 -- a prefix of the history, outside the sectors that are open then, and at the end to that of all. Where a call is told that the leaf is full,
 -- it is so long. No file but the leaf was changed.
 pub record HasServedFiles (leaf : LinkedFile) (others : List LinkedFile) (lines : List Line) (guests : List (List Outcome)) (history : History) (broken : Option Break) (closed : Result (Unit {0}) StoreFault) (trace now : Trace) : Type 0 where
-  pub served : AreServed (drive_of Guests leaf others trace) lines guests history (failed_by closed) broken
+  pub served : AreServed false (drive_of Guests leaf others trace) lines guests history (failed_by closed) broken
   pub moments : EachOpensToPrefix sector_size (opening_disk trace (leaf ∷ others)) history (open_by broken) (way_to leaf (leaf ∷ others) None) trace now
   pub last : EachOpens (way_to leaf (leaf ∷ others) None) (open_last history broken) (disk_after (drive_of Guests leaf others trace) history) now
   pub full : AllByRecursion (IsEndTold (IsSoLong (λ n. n == 0) now)) (all_told guests)

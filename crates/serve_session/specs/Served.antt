@@ -1,6 +1,6 @@
 -- What a script of several guests is told over one disk: there is one history of the calls that were done, and each call is told its
 -- reply at its place (profile).
-use Rattle.std.specs.Prelude.{◌≡◌, ◌⊎◌, ◌^◌, ◌+◌, ◌*◌, ◌<◌, ◌≤◌, ◌==◌, ◌&&◌, if◌then◌else◌, ⊤, ℕ, List, [], ◌∷◌, ◌++◌, length, map, max, min, replicate, Option, Some, None, Result, Ok, Err, IfSome}
+use Rattle.std.specs.Prelude.{◌≡◌, ◌⊎◌, ◌^◌, ◌+◌, ◌*◌, ◌<◌, ◌≤◌, ◌==◌, ◌&&◌, if◌then◌else◌, ⊤, ℕ, Bool, true, false, List, [], ◌∷◌, ◌++◌, length, map, max, min, replicate, Option, Some, None, Result, Ok, Err, IfSome}
 use Rattle.std.specs.List.{AllByRecursion, flat_map}
 use Rattle.store_model.specs.declared.fault.StoreFault.{StoreFault}
 use Rattle.guest_model.specs.declared.call.Call.{Call}
@@ -145,14 +145,20 @@ HasBreaker b forms [] = ⊥
 HasBreaker b [] (o ∷ outcomes) = ⊥
 HasBreaker b (form ∷ forms) (o ∷ outcomes) = HasBroken form b o ⊎ HasBreaker b forms outcomes
 
+-- What broke a session is one of the guests' calls; or, in a session with a merge, a step of the merge, by the fault that the session's end is
+-- answered.
+abbrev pub IsBreakOf : Bool → List Line → List (List Outcome) → Option StoreFault → Break → Type 0
+IsBreakOf false lines guests ended b = SomeGuest (λ guest outcomes. HasBreaker b (forms_of guest lines) outcomes) 1 guests
+IsBreakOf true lines guests ended b = SomeGuest (λ guest outcomes. HasBreaker b (forms_of guest lines) outcomes) 1 guests ⊎ ((b.call ≡ None) × (ended ≡ Some b.fault))
+
 -- What guests were told over one disk, the first list being guest 1's: each call its outcome. Of each guest the calls that were done stand in
 -- the history in the script's order, and the history has nothing else. The session's end is answered this fault, if it failed or if a fault
--- had broken the session; the call that this one broke it in is one of theirs.
-pub record AreServed (drive : Drive) (lines : List Line) (guests : List (List Outcome)) (h : History) (ended : Option StoreFault) (broken : Option Break) : Type 0 where
+-- had broken the session; the call that this one broke it in is one of theirs, if it wasn't a step of a merge.
+pub record AreServed (merges : Bool) (drive : Drive) (lines : List Line) (guests : List (List Outcome)) (h : History) (ended : Option StoreFault) (broken : Option Break) : Type 0 where
   pub told : EachGuest (λ guest outcomes. AreOutcomes drive h ended guest 1 (forms_of guest lines) outcomes) 1 guests
   pub order : EachGuest (λ guest outcomes. IsRising (places_in outcomes)) 1 guests
   pub all : (p : ℕ) → 1 ≤ p → p ≤ length h → SomeGuest (λ guest outcomes. Has p (places_in outcomes)) 1 guests
-  pub breaker : IfSome broken (λ b. SomeGuest (λ guest outcomes. HasBreaker b (forms_of guest lines) outcomes) 1 guests)
+  pub breaker : IfSome broken (IsBreakOf merges lines guests ended)
 
 -- all calls of the script were made
 abbrev pub IsWhole : List Line → List (List Outcome) → Type 0

@@ -1,8 +1,10 @@
 -- What a script's session with several guests does to the files of a chain, from its first call to its end.
-use Rattle.std.specs.Prelude.{◌≡◌, ◌≤◌, ℕ, false, List, [], length, is_some, string_bytes, Option, None, Some, IfOk}
+use Rattle.std.specs.Prelude.{◌≡◌, ◌+◌, ◌^◌, ◌<◌, ◌≤◌, ⊤, ℕ, Bool, true, false, List, [], length, is_some, string_bytes, Option, None, Some, Result, Ok, IfErr, IfOk, OnOk}
 use Rattle.std.specs.List.{AllByRecursion}
 use Rattle.store_model.specs.Disk.{Disk, WhereTold}
 use Rattle.guest_model.specs.declared.recorder.KeepAll.{KeepAll}
+use Rattle.guest_model.specs.declared.refusal.ChainRefusal.{ChainRefusal}
+use Rattle.guest_model.specs.declared.refusal.ChainRefusal.TheVariants as refusals
 use Rattle.guest_model.specs.History.{History}
 use Rattle.chain_core.specs.declared.chain.Chain.{Chain}
 use Rattle.chain_core.specs.States.{IsServing, State}
@@ -11,13 +13,24 @@ use Rattle.script_session.specs.Faults.{FaultsAreTold}
 use Rattle.script_session.specs.Histories.{Break, Drive, IsEndTold}
 use Rattle.script_session.specs.Running.{open_by}
 use Rattle.script_session.specs.Told.{failed_by}
-use Rattle.script_session.specs.declared.session.ScriptRun.{ScriptRun}
 use Rattle.shared_chain.specs.declared.basis.Breach.{Breach}
 use Rattle.shared_chain.specs.Closing.{LeavesHistory}
 use Rattle.shared_chain.specs.Faults.{EndsCounted}
 use Rattle.shared_chain.specs.Homes.{session_of}
-use Rattle.shared_chain.specs.Steps.{open_by as opens_by}
+use Rattle.shared_chain.specs.Steps.{open_by as opens_by, steps_of}
+use Rattle.serve_session.specs.MergeServed.{StopsMerge}
+use Rattle.chain_core.specs.Sessions.{IsSound}
+use Rattle.script.specs.declared.told.ToldCall.{ToldCall}
+use Rattle.seats.specs.Counting.{once_between, times}
+use Rattle.turn_lock.specs.Seats.{Known, TableId}
+use Rattle.shared_chain.specs.declared.basis.Basis.{Basis}
+use Rattle.shared_chain.specs.declared.basis.Step.{Step}
+use Rattle.shared_chain.specs.Bases.{Contains, basis_of}
+use Rattle.shared_chain.specs.Merging.{IsMerged}
+use Rattle.shared_chain.specs.Shared.{Shared}
+use Rattle.serve_session.specs.Actors.{AreJoined}
 use Rattle.serve_session.specs.Served.{AreServed, IsTranscript, Outcome, all_told, guest_count}
+use Rattle.serve_session.specs.declared.merging.MergeRun.{MergeRun}
 
 -- what a script runs over, in a session that began with this chain, over the disk of this state
 abbrev pub drive_from : {S T : Type 0} → Chain S KeepAll T → State → Drive
@@ -28,21 +41,58 @@ abbrev pub IsUpTo : Option ℕ → ℕ → Type 0
 IsUpTo None n = ⊥
 IsUpTo (Some most) n = n ≤ most
 
--- Guests were served over a chain whose session had begun with no call, and then it ended. What they were told is one history's; if there is a
--- transcript it is of all calls of the script. What was told of faults the store counts, and what was told of a full file is noted; each moment
--- since the session began leaves what the history says; the sectors that are open for the call that broke the session are among those that it
--- names.
-pub record HasServed {S T : Type 0} (disk : S → Disk) (first : Chain S KeepAll T) (names : List (List ℕ)) (lines : List Line) (run : ScriptRun) (after : Disk) : Type 0 where
+-- a shared chain whose session has just begun, with no call
+pub record HasBegun {S T : Type 0} (disk : S → Disk) (s : Shared (Chain S KeepAll T)) : Type 0 where
+  pub sound : IsSound (session_of disk s.first)
+  pub fresh : s ≡ record { chain = s.first; first = s.first; full = None; spent = None; broke = None; fault = None }
+  pub empty : s.first.recorder ≡ []
+  pub whole : s.first.broken ≡ None
+
+-- Threads shared it, and all seats were joined: what guests were told is what stands in its history, or what broke the session.
+pub record WasShared {S T : Type 0} (disk : S → Disk) (merges : Bool) (old : Shared (Chain S KeepAll T)) (names : List (List ℕ)) (lines : List Line) (new : Shared (Chain S KeepAll T)) (told : List (List ToldCall)) (short : Bool) : Type 0 where
+  pub lock : TableId
+  pub seat : Known Step (Basis S T)
+  pub guests : List (List Outcome)
+  pub joined : AreJoined disk old.first merges lock names lines seat told short guests
+  pub count : length guests ≡ guest_count lines
+  pub history : steps_of new.chain.recorder new.broke ≡ seat.seen
+  pub basis : Contains (basis_of disk new) seat.basis
+  pub places : (p : ℕ) → times p seat.mine ≡ once_between p 1 (length seat.seen + 1)
+
+-- or memory ran out before a call was made
+pub data IsShared {S T : Type 0} (disk : S → Disk) (merges : Bool) (old : Shared (Chain S KeepAll T)) (names : List (List ℕ)) (lines : List Line) (new : Shared (Chain S KeepAll T)) (told : List (List ToldCall)) (short : Bool) : Type 0 where
+  was_shared : WasShared disk merges old names lines new told short → IsShared disk merges old names lines new told short
+  no_memory : new ≡ old → short ≡ true → told ≡ [] → IsShared disk merges old names lines new told short
+
+-- a merge was finished, or that was stopped; where there is none nothing was done
+abbrev pub EndsAs : {S T : Type 0} → (S → Disk) → Bool → Shared (Chain S KeepAll T) → Shared (Chain S KeepAll T) → Result (Unit {0}) ChainRefusal → Type 0
+EndsAs disk true old new merged = IsMerged disk old new merged
+EndsAs disk false old new merged = (new ≡ old) × (merged ≡ Ok tt)
+
+-- what stops the end of a merge for want of room is near the greatest place that a block may have, and noted
+abbrev pub IsNearEnd : {S T : Type 0} → (S → Disk) → Chain S KeepAll T → Option ℕ → ChainRefusal → Type 0
+IsNearEnd disk first full (refusals.FileFull next) = IsUpTo full next × WhereTold (disk first.store).told (λ trace. (from : State) → IsServing first.layers from trace → from.history ≡ [] → 2 ^ 43 < next + 1024)
+IsNearEnd disk first full other = ⊤
+
+-- Guests were served over a chain whose session had begun with no call, beside a merge if there is one, and then it ended. What they were told is one
+-- history's; if there is a transcript it is of all calls of the script. What was told of faults the store counts, and what was told of a full file
+-- is noted; each moment since the session began leaves what the history says; the sectors that are open for the call that broke the session are
+-- among those that it names. At the end a merge is under way, or none is, and none if it was finished.
+pub record HasServed {S T : Type 0} (disk : S → Disk) (merges : Bool) (first : Chain S KeepAll T) (names : List (List ℕ)) (lines : List Line) (run : MergeRun) (after : Disk) : Type 0 where
   pub guests : List (List Outcome)
   pub history : History
   pub broken : Option Break
   pub breach : Option Breach
   pub opens : (s : ℕ) → open_by broken s ≡ false → opens_by breach s ≡ false
   pub count : length guests ≡ guest_count lines
-  pub served : WhereTold (disk first.store).told (λ trace. (from : State) → IsServing first.layers from trace → from.history ≡ [] → AreServed (drive_from first from) lines guests history (failed_by run.closed) broken)
-  pub transcript : IfOk run.transcript (λ text. IsTranscript names lines guests history (string_bytes text))
-  pub counted : EndsCounted (disk first.store) after run.fault run.closed
-  pub faults : FaultsAreTold (all_told guests) (failed_by run.closed) (disk first.store).files (disk first.store).failed_changes after.failed_reads after.failed_changes
+  pub served : WhereTold (disk first.store).told (λ trace. (from : State) → IsServing first.layers from trace → from.history ≡ [] → AreServed merges (drive_from first from) lines guests history (failed_by run.run.closed) broken)
+  pub transcript : IfOk run.run.transcript (λ text. IsTranscript names lines guests history (string_bytes text))
+  pub counted : EndsCounted (disk first.store) after run.run.fault run.run.closed
+  pub faults : FaultsAreTold (all_told guests) (failed_by run.run.closed) (disk first.store).files (disk first.store).failed_changes after.failed_reads after.failed_changes
   pub full : Option ℕ
   pub ends : AllByRecursion (IsEndTold (IsUpTo full)) (all_told guests)
-  pub leaves : LeavesHistory (session_of disk first) history full breach run.closed after
+  pub under_way : Bool
+  pub leaves : LeavesHistory (session_of disk first) history full breach under_way run.run.closed after
+  pub finished : merges ≡ true → OnOk run.merged (under_way ≡ false)
+  pub stopped : IfErr run.merged (StopsMerge run.run)
+  pub near : IfErr run.merged (IsNearEnd disk first full)

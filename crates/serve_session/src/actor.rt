@@ -2,7 +2,7 @@
 
 ghost use Rattle.std.specs.Prelude.{◌≡◌, ◌+◌, ◌*◌, ◌<◌, ◌≤◌, ◌^◌, ◌++◌, ◌∷◌, ℕ, List, false, if◌then◌else◌, length, map, nat_lt, take, [], IfOk, OnOk};
 ghost use Rattle.chain_core.specs.declared.chain.Chain.{Chain};
-ghost use Rattle.guest_io.specs.Guests.{IsFree};
+ghost use Rattle.shared_chain.specs.Seats.{IsFree};
 ghost use Rattle.guest_model.specs.declared.recorder.KeepAll.{KeepAll};
 ghost use Rattle.script.specs.Transcript.{outcome_of};
 ghost use Rattle.script.specs.declared.form.Form.{Form as FormValue};

@@ -4,8 +4,10 @@
 
 mod actor;
 mod calls;
+mod merging;
 mod serving;
 mod session;
 
+pub use merging::{MergeRun, pieces_for, run_serve_leaf_merge, run_serve_merge};
 pub use serving::rooms_for;
 pub use session::run_serve;

@@ -1,22 +1,29 @@
 //! A script's session with several guests, from the first call to its end.
 
-ghost use Rattle.std.specs.Prelude.{◌≡◌, ◌≤◌, ◌^◌, ℕ, List, All, false, true, length, map, string_bytes, vec_capacity, [], IfOk, None};
-ghost use Rattle.chain_core.specs.Sessions.{IsSound};
+ghost use Rattle.std.specs.Prelude.{◌≡◌, ◌+◌, ◌≤◌, ◌<◌, ◌^◌, ℕ, Bool, List, All, Err, Ok, false, true, length, map, is_some, string_bytes, vec_capacity, [], IfOk, IfSome, None};
+ghost use denote.Param.Send.{IsSend, IsSync};
+ghost use Rattle.std.specs.Fork.{AcceptsEach};
+ghost use Rattle.serve_session.specs.Beside.{WasCalledAt};
+ghost use Rattle.chain_core.specs.declared.chain.Chain.{Chain};
+ghost use Rattle.guest_model.specs.declared.recorder.KeepAll.{KeepAll};
 ghost use Rattle.shared_chain.specs.Bases.{Contains, together};
-ghost use Rattle.shared_chain.specs.Homes.{session_of};
-ghost use Rattle.guest_io.specs.Guests.{IsFree};
+ghost use Rattle.shared_chain.specs.Seats.{IsFree};
+ghost use Rattle.seats.specs.Families.{newborn};
 ghost use Rattle.serve_session.specs.Actors.{AreJoined, HasRun};
 ghost use Rattle.script.specs.Transcript.{IsTold, serve_text};
-ghost use Rattle.script.specs.declared.form.Line.{Line as LineValue};
-ghost use Rattle.serve_session.specs.Lists.{AreActors, AreFresh, HasJoined, IsReady, RunsEach, with_splits};
+ghost use Rattle.serve_session.specs.Lists.{AreActors, AreFresh, CanWork, HasDone, HasJoined, IsFreshWorker, IsReady, RunsEach, WorkersJoin, WorksEach, with_splits};
 ghost use Rattle.serve_session.specs.Served.{greatest_from, guest_count};
-ghost use Rattle.serve_session.specs.Serving.{HasServed};
+ghost use Rattle.serve_session.specs.Serving.{EndsAs, HasBegun, HasServed, IsShared};
 ghost use Rattle.turn_lock.specs.Histories.{StartsWith};
 ghost use Rattle.turn_lock.specs.Seats.{together_of};
 
-use crate::actor::{Actor, Left, ROOM_LEN};
+use crate::actor::{Actor, Left as GuestLeft, ROOM_LEN};
+use crate::merging::MergeRun;
+use claims::{ClaimSeat, Claims};
+use copy_workers::Worker;
 use guest_io::{Guest, ReaderSet};
-use guest_model::KeepAll;
+use guest_model::{ChainRefusal, KeepAll};
+use merge_core::Piece;
 use script::{Line, ToldCalls, serve_text};
 use script_session::ScriptRun;
 use shared_chain::SharedChain;
@@ -24,7 +31,7 @@ use std::alloc::{AllocError, Global};
 use std::convert::AsStr;
 use std::snapshot::Snapshot;
 use std::sync::Wait;
-use std::thread::{Threads, for_each_mut};
+use std::thread::{Threads, for_each_mut, join_mut};
 use store_model::{Gate, Store, StoreFault};
 use turn_lock::{Seat, TurnLock};
 use vx_base::NoRoom;
@@ -132,31 +139,29 @@ fn add_actors<S: Store>(
     }
 }
 
-// Runs the guests' calls, each guest's in a thread of its own where one can be made.
-fn run_all<S: Store + Send, R: Threads + Wait + Sync, G: Gate + Sync, N: AsStr + Sync>(
-    rt: &R,
-    alloc: Global,
-    lock: &TurnLock<SharedChain<S>>,
-    gate: &G,
-    names: &[N],
-    lines: &[Line],
-    actors: &mut [Actor<S>],
-)
-where
-    S::R: Send,
-    requires ready { All (IsReady lock.now) actors.old }
-    requires few { length lines.now ≤ 2 ^ 20 }
-    ensures { RunsEach S.disk lock.now (map N.text names.now) lines.now actors.old actors.new }
+// Calls the first for each of one slice, beside the second for each of another, each in a thread of its own where one can be made.
+fn beside<
+    R: Threads + Sync,
+    A: Send,
+    B: Send,
+    F: Fn(usize, &mut A) + Sync,
+    G: Fn(usize, &mut B) + Sync,
+>(rt: &R, first: &mut [A], f: &F, second: &mut [B], g: &G)
+    requires first { AcceptsEach F.Fn f.now first.old }
+    requires second { AcceptsEach G.Fn g.now second.old }
+    ensures first { WasCalledAt F.Fn f.now first.old first.new }
+    ensures second { WasCalledAt G.Fn g.now second.old second.new }
 {
-    let threads = actors.len();
-    if threads > 0 {
-        for_each_mut(
-            rt,
-            actors,
-            threads,
-            &|_, actor| { actor.run(rt, alloc, lock, gate, names, lines) },
-        );
-    }
+    let (firsts, seconds) = (first.len().max(1), second.len().max(1));
+    let mut one = ||
+        requires { IsSync R.row × IsSync F.row × IsSend A.row × (0 < firsts) × AcceptsEach F.Fn f.now first.now }
+        ensures { WasCalledAt F.Fn f.entry.now first.entry.now first.exit.now }
+    { for_each_mut(rt, first, firsts, f) };
+    let mut other = ||
+        requires { IsSync R.row × IsSync G.row × IsSend B.row × (0 < seconds) × AcceptsEach G.Fn g.now second.now }
+        ensures { WasCalledAt G.Fn g.entry.now second.entry.now second.exit.now }
+    { for_each_mut(rt, second, seconds, g) };
+    join_mut(rt, &mut one, &mut other);
 }
 
 // Joins the seats of all actors, and keeps what they leave, of the first guest first; there is room for it. Answers whether memory ran out.
@@ -169,17 +174,17 @@ fn end_actors<S: Store, N: AsStr>(
     names: &[N],
     lines: &[Line],
 ) -> bool
-    requires joined { AreJoined S.disk chain.now.value.first lock.now (map N.text names.now) lines.now first.old told.old.items false [] }
+    requires joined { AreJoined S.disk chain.now.value.first false lock.now (map N.text names.now) lines.now first.old told.old.items false [] }
     requires ran { AreActors (HasRun S.disk chain.now.value.first lock.now (map N.text names.now) lines.now) (length actors.old.items) actors.old.items }
     requires reserved { length actors.old.items ≤ vec_capacity told.old }
-    ensures joined { HasJoined S.disk chain.now.value.first lock.now (map N.text names.now) lines.now (length actors.old.items) first.old first.new told.new.items result }
+    ensures joined { HasJoined S.disk false chain.now.value.first lock.now (map N.text names.now) lines.now (length actors.old.items) first.old first.new told.new.items result }
     ensures none { actors.new.items ≡ [] }
 {
     let mut is_short = false;
     while let Some(actor) = actors.pop() {
         let (seat, readers, left) = actor.end();
         join(lock, first, seat, readers);
-        let Left {
+        let GuestLeft {
             told: calls,
             is_short: short,
         } = left;
@@ -207,45 +212,178 @@ fn transcript_of(
     }
 }
 
-/// Runs a script of `serve` over a chain whose session has begun, each guest's calls in the script's order, and ends the session. The
-/// store comes back, whatever is answered. The names are those of the chain's files, from the leaf on; each guest has a room.
-pub(crate) fn serve<S: Store + Send, R: Threads + Wait + Sync, G: Gate + Sync, N: AsStr + Sync>(
+// A worker for each piece, with seats of its own; there is room for them.
+fn add_workers<S: Store>(
+    lock: &TurnLock<SharedChain<S>>,
+    first: &mut Seat<SharedChain<S>>,
+    claims: &Claims,
+    claim: &mut ClaimSeat,
+    pieces: &mut Vec<Piece>,
+    workers: &mut Vec<Worker<S>>,
+)
+    requires free { IsFree lock.now first.old }
+    requires leads { first.old.family.is_first ≡ true }
+    requires splits { first.old.family.splits ≤ 64 }
+    requires counter { (claim.old.counter ≡ claims.now) × (claim.old.family ≡ newborn true) }
+    requires few { length pieces.old.items ≤ 64 }
+    requires none { workers.old.items ≡ [] }
+    requires reserved { length pieces.old.items ≤ vec_capacity workers.old }
+    ensures seat { first.new ≡ with_splits first.old (length pieces.old.items) }
+    ensures fresh { All (IsFreshWorker first.old claims.now) workers.new.items }
+    ensures count { length workers.new.items ≡ length pieces.old.items }
+{
+    while let Some(piece) = pieces.pop() {
+        let seat = lock.split(first);
+        let own = claims.split(claim);
+        workers.push_reserved(Worker::new(seat, own, piece));
+    }
+}
+
+// Runs the guests' calls, each guest's in a thread of its own where one can be made, and beside them the workers so.
+fn run_beside<S: Store + Send, R: Threads + Wait + Sync, G: Gate + Sync, N: AsStr + Sync>(
+    rt: &R,
+    alloc: Global,
+    lock: &TurnLock<SharedChain<S>>,
+    gate: &G,
+    names: &[N],
+    lines: &[Line],
+    actors: &mut [Actor<S>],
+    claims: &Claims,
+    workers: &mut [Worker<S>],
+)
+where
+    S::R: Send,
+    requires guests { All (IsReady lock.now) actors.old }
+    requires workers { All (CanWork lock.now claims.now) workers.old }
+    requires few { length lines.now ≤ 2 ^ 20 }
+    ensures guests { RunsEach S.disk lock.now (map N.text names.now) lines.now actors.old actors.new }
+    ensures workers { WorksEach workers.old workers.new }
+{
+    beside(
+        rt,
+        actors,
+        &|_, actor| { actor.run(rt, alloc, lock, gate, names, lines) },
+        workers,
+        &|_, worker| {
+            let _ = worker.sweep(rt, lock, claims, gate);
+        },
+    );
+}
+
+// Joins the seats of all workers.
+fn end_workers<S: Store>(
+    lock: &TurnLock<SharedChain<S>>,
+    first: &mut Seat<SharedChain<S>>,
+    workers: &mut Vec<Worker<S>>,
+)
+    requires own { IsFree lock.now first.old }
+    requires leads { first.old.family.is_first ≡ true }
+    requires done { All (HasDone lock.now) workers.old.items }
+    ensures joined { WorkersJoin S.disk lock.now first.old first.new }
+    ensures family { first.new.family ≡ record first.old.family { joins = first.old.family.joins + length workers.old.items } }
+    ensures free { IsFree lock.now first.new }
+    ensures same { length workers.old.items ≡ 0 → first.new ≡ first.old }
+    ensures none { workers.new.items ≡ [] }
+{
+    while let Some(worker) = workers.pop() {
+        let (seat, _) = worker.end();
+        lock.join(first, seat);
+    }
+}
+
+// What threads left of a chain that they shared: the chain, what each guest was told, and whether memory ran out.
+struct Left<S: Store> {
+    chain: SharedChain<S>,
+    told: Vec<ToldCalls>,
+    is_short: bool,
+}
+
+// A chain that wasn't shared, as memory ran out for it.
+fn unshared<S: Store>(alloc: Global, chain: SharedChain<S>) -> Left<S>
+    ensures { (result.chain ≡ chain) × (result.told.items ≡ []) × (result.is_short ≡ true) }
+{
+    Left {
+        chain,
+        told: Vec::new(alloc),
+        is_short: true,
+    }
+}
+
+// Room for so many guests, and workers, and for what the guests are told.
+fn reserved<S: Store>(
+    alloc: Global,
+    guests: usize,
+    workers: usize,
+) -> Option<(Vec<Actor<S>>, Vec<Worker<S>>, Vec<ToldCalls>)>
+    ensures actors { IfSome result (λ r. (r.0.items ≡ []) × (guests ≤ vec_capacity r.0)) }
+    ensures workers { IfSome result (λ r. (r.1.items ≡ []) × (workers ≤ vec_capacity r.1)) }
+    ensures told { IfSome result (λ r. (r.2.items ≡ []) × (guests ≤ vec_capacity r.2)) }
+{
+    let mut actors = Vec::new(alloc);
+    let mut hands = Vec::new(alloc);
+    let mut told = Vec::new(alloc);
+    if actors.reserve(guests).is_err()
+        || hands.reserve(workers).is_err()
+        || told.reserve(guests).is_err()
+    {
+        actors.destroy_empty();
+        hands.destroy_empty();
+        return None;
+    }
+    Some((actors, hands, told))
+}
+
+// Shares a chain among guests, and among a worker for each piece.
+fn share<S: Store + Send, R: Threads + Wait + Sync, G: Gate + Sync, N: AsStr + Sync>(
     rt: &R,
     alloc: Global,
     chain: SharedChain<S>,
     names: &[N],
     lines: &[Line],
     rooms: Vec<Vec<u8>>,
+    stripes: u32,
+    pieces: Vec<Piece>,
     gate: &G,
-) -> (S, ScriptRun)
+) -> Left<S>
 where
     S::R: Send,
-    requires sound { IsSound (session_of S.disk chain.first) }
-    requires fresh { chain ≡ record { chain = chain.first; first = chain.first; full = None; spent = None; broke = None; fault = None } }
-    requires empty { chain.first.recorder ≡ [] }
-    requires whole { chain.first.broken ≡ None }
+    requires begun { HasBegun S.disk chain }
     requires few { length lines.now ≤ 2 ^ 20 }
     requires count { length rooms.items ≡ guest_count lines.now }
     requires each { All (λ room. length room.items ≡ 1048576) rooms.items }
-    ensures { HasServed S.disk chain.first (map N.text names.now) lines.now result.1 (S.disk result.0) }
+    requires workers { length pieces.items ≤ 64 }
+    ensures alone { length pieces.items ≡ 0 → IsShared S.disk false chain (map N.text names.now) lines.now result.chain result.told.items result.is_short }
+    ensures beside { IsShared S.disk true chain (map N.text names.now) lines.now result.chain result.told.items result.is_short }
 {
     let mut rooms = rooms;
+    let mut pieces = pieces;
     let was = Snapshot::of(&chain);
-    let mut actors = Vec::new(alloc);
-    let mut told = Vec::new(alloc);
-    if actors.reserve(rooms.len()).is_err() || told.reserve(rooms.len()).is_err() {
-        actors.destroy_empty();
-        return ended(chain);
-    }
+    let Ok((claims, mut claim)) = Claims::new(alloc, stripes) else {
+        return unshared(alloc, chain);
+    };
+    let Some((mut actors, mut workers, mut told)) = reserved(alloc, rooms.len(), pieces.len())
+    else {
+        return unshared(alloc, chain);
+    };
     let (lock, mut first) = match TurnLock::new(alloc, chain) {
         Ok(made) => made,
         Err((chain, NoRoom)) => {
             actors.destroy_empty();
-            return ended(chain);
+            workers.destroy_empty();
+            return unshared(alloc, chain);
         }
     };
     add_actors(alloc, &lock, &mut first, &mut rooms, &mut actors);
-    run_all(rt, alloc, &lock, gate, names, lines, actors.as_mut_slice());
+    add_workers(
+        &lock,
+        &mut first,
+        &claims,
+        &mut claim,
+        &mut pieces,
+        &mut workers,
+    );
+    let (guests, hands) = (actors.as_mut_slice(), workers.as_mut_slice());
+    run_beside(rt, alloc, &lock, gate, names, lines, guests, &claims, hands);
     let is_short = end_actors(
         &lock,
         &mut first,
@@ -255,8 +393,62 @@ where
         names,
         lines,
     );
+    end_workers(&lock, &mut first, &mut workers);
     actors.destroy_empty();
+    workers.destroy_empty();
     let chain = lock.close(first);
+    Left {
+        chain,
+        told,
+        is_short,
+    }
+}
+
+// Finishes the merge, if there is one.
+fn end_merge<S: Store>(
+    chain: &mut SharedChain<S>,
+    last: Option<&mut Piece>,
+) -> Result<(), ChainRefusal>
+    ensures { EndsAs S.disk (is_some last.entry) chain.old chain.new result }
+{
+    match last {
+        Some(piece) => chain.end_merge(piece),
+        None => Ok(()),
+    }
+}
+
+/// Runs a script of `serve` over a chain whose session has begun, each guest's calls in the script's order, beside a worker of the merge for
+/// each piece; then the merge, if there is one, is finished, and the session ends. The store comes back, whatever is answered. The names are
+/// those of the chain's files, from the leaf on; each guest has a room, and the merge a piece of its own for what is left to it.
+pub(crate) fn serve<S: Store + Send, R: Threads + Wait + Sync, G: Gate + Sync, N: AsStr + Sync>(
+    rt: &R,
+    alloc: Global,
+    chain: SharedChain<S>,
+    names: &[N],
+    lines: &[Line],
+    rooms: Vec<Vec<u8>>,
+    stripes: u32,
+    pieces: Vec<Piece>,
+    last: Option<&mut Piece>,
+    gate: &G,
+) -> (S, MergeRun)
+where
+    S::R: Send,
+    requires begun { HasBegun S.disk chain }
+    requires few { length lines.now ≤ 2 ^ 20 }
+    requires count { length rooms.items ≡ guest_count lines.now }
+    requires each { All (λ room. length room.items ≡ 1048576) rooms.items }
+    requires workers { length pieces.items ≤ 64 }
+    requires alone { is_some last ≡ false → length pieces.items ≡ 0 }
+    ensures { HasServed S.disk (is_some last.entry) chain.first (map N.text names.now) lines.now result.1 (S.disk result.0) }
+{
+    let left = share(rt, alloc, chain, names, lines, rooms, stripes, pieces, gate);
+    let Left {
+        mut chain,
+        told,
+        is_short,
+    } = left;
+    let merged = end_merge(&mut chain, last);
     let (store, history, fault, closed) = chain.close();
     let transcript = transcript_of(alloc, is_short, &history, told.as_slice());
     let run = ScriptRun {
@@ -264,34 +456,23 @@ where
         fault,
         closed,
     };
-    (store, run)
-}
-
-// The end of a session in which memory ran out before its first call.
-fn ended<S: Store>(chain: SharedChain<S>) -> (S, ScriptRun)
-    requires fresh { chain ≡ record { chain = chain.first; first = chain.first; full = None; spent = None; broke = None; fault = None } }
-    requires empty { chain.first.recorder ≡ [] }
-    requires whole { chain.first.broken ≡ None }
-    ensures { (names : List (List ℕ)) (lines : List LineValue) → HasServed S.disk chain.first names lines result.1 (S.disk result.0) }
-{
-    let (store, _, fault, closed) = chain.close();
-    let run = ScriptRun {
-        transcript: Err(NoRoom),
-        fault,
-        closed,
-    };
-    (store, run)
+    (store, MergeRun { run, merged })
 }
 
 /// What is told where memory ran out before the chain could be shared, and its session ended so.
-pub(crate) fn unserved(closed: Result<(), StoreFault>) -> ScriptRun
-    ensures transcript { IfOk result.transcript (λ text. ⊥) }
-    ensures fault { result.fault ≡ None }
-    ensures closed { result.closed ≡ closed }
+pub(crate) fn unserved(closed: Result<(), StoreFault>) -> MergeRun
+    ensures transcript { IfOk result.run.transcript (λ text. ⊥) }
+    ensures fault { result.run.fault ≡ None }
+    ensures closed { result.run.closed ≡ closed }
+    ensures merged { result.merged ≡ Err ChainRefusal.NoRoom }
 {
-    ScriptRun {
+    let run = ScriptRun {
         transcript: Err(NoRoom),
         fault: None,
         closed,
+    };
+    MergeRun {
+        run,
+        merged: Err(ChainRefusal::NoRoom),
     }
 }

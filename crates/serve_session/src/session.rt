@@ -57,9 +57,10 @@ where
         Ok(chain) => chain,
         Err((store, refusal)) => return (store, Err(refusal)),
     };
-    let (store, run) = match SharedChain::new(alloc, chain) {
-        Ok(chain) => serve(rt, alloc, chain, names, lines, rooms, gate),
+    let none = Vec::new(alloc);
+    let (store, served) = match SharedChain::new(alloc, chain) {
+        Ok(chain) => serve(rt, alloc, chain, names, lines, rooms, 0, none, None, gate),
         Err((store, closed)) => (store, unserved(closed)),
     };
-    (store, Ok(run))
+    (store, Ok(served.run))
 }

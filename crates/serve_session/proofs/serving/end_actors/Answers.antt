@@ -1,4 +1,4 @@
-use Rattle.std.proofs.Common.{◌≡◌, ◌+◌, ◌++◌, ◌∷◌, [], ap, length, length-append, map, sym, subst, ◌∙◌, arith}
+use Rattle.std.proofs.Common.{◌≡◌, ◌+◌, ◌++◌, ◌∷◌, [], false, ap, length, length-append, map, sym, subst, ◌∙◌, arith}
 use Rattle.std.specs.Prelude.{◌||◌}
 use Rattle.turn_lock.specs.Histories.{StartsWith}
 use Rattle.turn_lock.specs.Seats.{together_of}
@@ -45,8 +45,8 @@ loop-actor-preserved g c =
     let joined = one_joined disk c.args.chain.now.value.first c.args.lock.now names c.args.lines.now c.loop-actor.first c.join.new.first c.loop-actor.told.items c.loop-actor.is_short i.guests i.joined a last.2 (last.1 ∙ omega (arith, i.count, popped)) met.0 met.1 met.2 in
     record {
       guests = i.guests ++ outcomes ∷ [];
-      joined = subst (λ t. AreJoined disk c.args.chain.now.value.first c.args.lock.now names c.args.lines.now c.join.new.first t c.if-is_short.is_short (i.guests ++ outcomes ∷ [])) (sym told)
-          (subst (λ b. AreJoined disk c.args.chain.now.value.first c.args.lock.now names c.args.lines.now c.join.new.first (c.loop-actor.told.items ++ a.told.items ∷ []) b (i.guests ++ outcomes ∷ [])) (sym short) joined);
+      joined = subst (λ t. AreJoined disk c.args.chain.now.value.first false c.args.lock.now names c.args.lines.now c.join.new.first t c.if-is_short.is_short (i.guests ++ outcomes ∷ [])) (sym told)
+          (subst (λ b. AreJoined disk c.args.chain.now.value.first false c.args.lock.now names c.args.lines.now c.join.new.first (c.loop-actor.told.items ++ a.told.items ∷ []) b (i.guests ++ outcomes ∷ [])) (sym short) joined);
       left = last.0;
       count = omega (arith, more, i.count, popped);
       family = join_more c.args.first.now.family c.loop-actor.first.family c.join.new.first.family (length i.guests) (length (i.guests ++ outcomes ∷ [])) i.family (ap (λ s. s.family) c.join.ensures.both) more;

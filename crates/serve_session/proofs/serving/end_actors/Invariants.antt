@@ -1,4 +1,4 @@
-use Rattle.std.proofs.Common.{◌≡◌, ◌+◌, List, length, map, vec_capacity}
+use Rattle.std.proofs.Common.{◌≡◌, ◌+◌, false, List, length, map, vec_capacity}
 use Rattle.serve_session.specs.Actors.{AreJoined, HasRun}
 use Rattle.serve_session.specs.Lists.{AreActors}
 use Rattle.serve_session.specs.Served.{Outcome}
@@ -8,7 +8,7 @@ use Rattle.serve_session.proofs.serving.end_actors.Given as goal
 abbrev pub invariant-loop-actor : goal.invariant-loop-actor
 invariant-loop-actor g l = record {
   guests : List (List Outcome);
-  joined : AreJoined g.S.Store.disk l.chain.value.first l.lock (map g.N.AsStr.text l.names) l.lines l.first l.told.items l.is_short guests;
+  joined : AreJoined g.S.Store.disk l.chain.value.first false l.lock (map g.N.AsStr.text l.names) l.lines l.first l.told.items l.is_short guests;
   left : AreActors (HasRun g.S.Store.disk l.chain.value.first l.lock (map g.N.AsStr.text l.names) l.lines) (length l.fn.actors.items) l.actors.items;
   count : length guests + length l.actors.items ≡ length l.fn.actors.items;
   family : l.first.family ≡ record (l.fn.first.family) { joins = l.fn.first.family.joins + length guests };

@@ -1,5 +1,5 @@
 use Rattle.std.proofs.Common.{◌≡◌, ◌+◌, ◌<◌, ◌^◌, ap, length, length-take-le, map, sym, subst, take, ◌∙◌, arith}
-use Rattle.guest_io.specs.Guests.{IsFree}
+use Rattle.shared_chain.specs.Seats.{IsFree}
 use Rattle.script.specs.declared.form.Form.TheVariants.{Read}
 use Rattle.script.specs.declared.form.Line.{Line}
 use Rattle.serve_session.specs.Actors.{IsActor}

@@ -1,7 +1,7 @@
 use Rattle.std.proofs.Common.{◌≡◌, [], length, map, take}
 use Rattle.guest_model.specs.declared.recorder.KeepAll.{KeepAll}
 use Rattle.chain_core.specs.declared.chain.Chain.{Chain}
-use Rattle.guest_io.specs.Guests.{IsFree}
+use Rattle.shared_chain.specs.Seats.{IsFree}
 use Rattle.serve_session.specs.Actors.{IsActor}
 use Rattle.serve_session.specs.Served.{forms_of}
 use Rattle.serve_session.proofs.actor.Actor.run.Given as goal

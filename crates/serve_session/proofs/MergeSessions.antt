@@ -1,0 +1,192 @@
+-- A session with several guests and a merge beside them, from its start to its end.
+use Rattle.std.proofs.Common.{◌≡◌, ◌||◌, ℕ, Bool, true, false, List, [], Option, Some, None, Result, Ok, Err, refl, sym, ap, ap₂, subst, ◌∙◌}
+use Rattle.std.specs.Prelude.{IfErr, is_some, not}
+use Rattle.std.proofs.lemmas.Bool.{or_from, or_parts}
+use Rattle.std.proofs.lemmas.Result.{on_ok_weaker}
+use Rattle.store_model.specs.Disk.{Disk, WhereBothTold}
+use Rattle.store_model.specs.Trace.{Trace}
+use Rattle.store_model.proofs.Told.{counts_join}
+use Rattle.vx_base.specs.declared.parts.Geometry.{Geometry}
+use Rattle.guest_model.specs.History.{is_dirty}
+use Rattle.guest_model.specs.declared.recorder.KeepAll.{KeepAll}
+use Rattle.guest_model.specs.declared.refusal.ChainRefusal.{ChainRefusal}
+use Rattle.guest_model.specs.declared.refusal.ChainRefusal.TheVariants.{Abandoned, Broken, EmptyRange, FileFull, NoMerge, NoPiece, NoRoom, NoStripe, NotYet, OutOfRange, ReadFault, ReadOnly, Spent, Stale, TooLong}
+use Rattle.chain_model.specs.Moments.{EachOpensToPrefix}
+use Rattle.layer_session.proofs.Equal.{false_true}
+use Rattle.link_rules.specs.declared.linked.LinkedFile.{LinkedFile}
+use Rattle.merge_plan.specs.Attached.{AreAsOpened, CanStart}
+use Rattle.merge_plan.specs.LeafMerging.{LeafFiles}
+use Rattle.merge_plan.specs.Merging.{MergeFiles}
+use Rattle.chain_core.specs.declared.chain.Chain.{Chain}
+use Rattle.chain_core.specs.LeafStarting.{HasStartedLeafMerge, StartsLeafMerge, is_first_two, started_leaf_merge}
+use Rattle.chain_core.specs.MergeStarting.{LeavesAllBut, HasStartedMerge, LeavesRest, StartsMerge, started_merge}
+use Rattle.chain_core.specs.Starting.{opening_disk}
+use Rattle.chain_core.specs.States.{IsServing, State, sector_of}
+use Rattle.chain_core.proofs.MergeFound.{AreFound}
+use Rattle.chain_core.proofs.MergeTold.{are_found}
+use Rattle.script.specs.declared.form.Line.{Line}
+use Rattle.script_session.specs.Faults.{FaultsAreTold}
+use Rattle.script_session.specs.Histories.{IsLater, IsSoLong, disk_after}
+use Rattle.script_session.specs.MergeRunning.{Scope, drive_over, leaf_scope_of, scope_of}
+use Rattle.script_session.specs.Running.{open_by, open_last}
+use Rattle.script_session.specs.Told.{failed_by, sector_size}
+use Rattle.script_session.proofs.LeafScripts as leaves
+use Rattle.script_session.proofs.LeftFiles.{names_all, names_started}
+use Rattle.script_session.proofs.Lengths.{ends_later, grows_none, long_later}
+use Rattle.script_session.proofs.MergeScripts.{scope_is, source_then}
+use Rattle.script_session.proofs.Resting.{IsScope, all_synced, all_unnamed, links_all, links_left, may_change, others_as}
+use Rattle.script_session.proofs.Scripts.{past_as}
+use Rattle.shared_chain.proofs.Breaking.{past_wider, wider}
+use Rattle.shared_chain.specs.Closing.{HasLeft}
+use Rattle.shared_chain.specs.Steps.{open_by as opens_by}
+use Rattle.serve_session.specs.MergeServed.{HasRunServeLeafMerge, HasRunServeMerge, HasServedOver, HasServedWith, IsStopTold}
+use Rattle.serve_session.specs.Served.{AreServed, all_told}
+use Rattle.serve_session.specs.Serving.{HasServed, IsNearEnd, IsUpTo, drive_from}
+use Rattle.serve_session.specs.declared.merging.MergeRun.{MergeRun}
+use Rattle.serve_session.proofs.Filled.{long_up}
+use Rattle.serve_session.proofs.Sessions.{counts_change, last_as, whole_as}
+
+not_true : (b : Bool) → not b ≡ true → b ≡ false
+not_true false e = refl
+not_true true e = absurd (false_true e)
+
+not_false : (b : Bool) → not b ≡ false → b ≡ true
+not_false true e = refl
+not_false false e = absurd (false_true (sym e))
+
+module _ {S T : Type 0} (disk : S → Disk) (first : Chain S KeepAll T) (names : List (List ℕ)) (lines : List Line) (run : MergeRun) (after : Disk) (h : HasServed disk true first names lines run after) (sector : first.layers.geometry.sector ≡ 512) where
+  module _ (scope : Scope) (geometry : first.layers.geometry ≡ scope.geometry) (session : is_some first.layers.leaf ≡ true) (v : State) (trace mid : Trace) (is : IsScope scope v trace mid) (mid_is : (disk first.store).told ≡ Some mid) (serving : IsServing first.layers v mid) where
+    size : sector_of v ≡ sector_size
+    size = sym (ap (λ (g : Geometry). g.sector) serving.geometry) ∙ sector
+
+    drive_is : drive_from first v ≡ drive_over scope trace
+    drive_is = ap₂ (λ (g : Geometry) c. record { geometry = g; can_change = c; opening = v.opening }) geometry session ∙ ap (λ o. record { geometry = scope.geometry; can_change = true; opening = o }) is.opening
+
+    served : AreServed true (drive_over scope trace) lines h.guests h.history (failed_by run.run.closed) h.broken
+    served = subst (λ d. AreServed true d lines h.guests h.history (failed_by run.run.closed) h.broken) drive_is (h.served mid mid_is v serving is.history)
+
+    module _ (now : Trace) (left : HasLeft (is_some first.layers.leaf) h.under_way v h.history h.full h.breach run.run.closed now) where
+      same : IsLater v h.history left.to
+      same = left.comes.later
+
+      to_size : sector_of left.to ≡ sector_size
+      to_size = left.comes.sector ∙ size
+
+      so_long : (next : ℕ) → IsUpTo h.full next → IsSoLong scope.changes now next
+      so_long next up = long_later v.writes scope.changes now now next (may_change scope v trace mid is h.history left.to same now) (grows_none now) (long_up h.full v.writes now left.long next up)
+
+      stop_told : (x : ChainRefusal) → IsNearEnd disk first h.full x → IsStopTold scope.changes now x
+      stop_told EmptyRange k = tt
+      stop_told (OutOfRange a b c) k = tt
+      stop_told (TooLong a b) k = tt
+      stop_told ReadOnly k = tt
+      stop_told (Broken file count) k = tt
+      stop_told (Spent t) k = tt
+      stop_told (FileFull next) k = (k.1 mid mid_is v serving is.history, so_long next k.0)
+      stop_told (ReadFault file count) k = tt
+      stop_told NoMerge k = tt
+      stop_told (Stale taken now) k = tt
+      stop_told (NotYet stripe) k = tt
+      stop_told (Abandoned file count) k = tt
+      stop_told (NoStripe stripe stripes) k = tt
+      stop_told NoPiece k = tt
+      stop_told NoRoom k = tt
+
+      stopped : (r : Result (Unit {0}) ChainRefusal) → IfErr r (IsNearEnd disk first h.full) → IfErr r (IsStopTold scope.changes now)
+      stopped (Ok done) k = tt
+      stopped (Err x) k = stop_told x k
+
+      pub files_left : HasServedOver scope lines h.guests h.history h.broken run.merged run.run.closed trace now
+      files_left = record {
+        served = served;
+        moments = past_wider sector_size (opening_disk trace scope.files) h.history (opens_by h.breach) (open_by h.broken) scope.leaf trace now h.opens
+            (subst (λ k. EachOpensToPrefix sector_size (opening_disk trace scope.files) k (opens_by h.breach) scope.leaf trace now) same.history
+            (past_as (sector_of left.to) sector_size left.to.opening (opening_disk trace scope.files) left.to.leaf scope.leaf left.to.began trace left.to.history (λ z. opens_by h.breach) now to_size (same.opening ∙ is.opening) (same.leaf ∙ is.leaf) (same.began ∙ is.began) left.past));
+        last = wider scope.leaf (λ s. is_dirty sector_size h.history s || opens_by h.breach s) (open_last h.history h.broken) (disk_after (drive_over scope trace) h.history) now
+            (λ s apart. let parts = or_parts (is_dirty sector_size h.history s) (open_by h.broken s) apart in or_from (is_dirty sector_size h.history s) (opens_by h.breach s) parts.0 (h.opens s parts.1))
+            (last_as (sector_of left.to) sector_size left.to.opening (opening_disk trace scope.files) left.to.leaf scope.leaf left.to.history h.history now to_size (same.opening ∙ is.opening) (same.leaf ∙ is.leaf) same.history (opens_by h.breach) left.last);
+        full = ends_later (IsUpTo h.full) (IsSoLong scope.changes now) so_long (all_told h.guests) h.ends;
+        still = others_as scope v trace mid is h.history left.to same now left.still;
+        at_rest = on_ok_weaker run.run.closed (λ w. record {
+          synced = all_synced scope v trace mid is h.history left.to same now left.still (w.synced session);
+          no_log = all_unnamed scope v trace mid is h.history left.to same now left.still (w.no_log session);
+          opens = whole_as (sector_of left.to) sector_size left.to.opening (opening_disk trace scope.files) left.to.leaf scope.leaf left.to.history h.history now to_size (same.opening ∙ is.opening) (same.leaf ∙ is.leaf) same.history w.opens;
+        }) left.whole;
+        gone = not h.under_way;
+        finished = on_ok_weaker run.merged (λ none. ap not none) (h.finished refl);
+        linked = λ none. on_ok_weaker run.run.closed (λ w. links_left scope v trace mid is h.history left.to same now (w.under_way ∙ not_true h.under_way none) w.links) left.whole;
+        stays = λ some. on_ok_weaker run.run.closed (λ w. links_all scope v trace mid is h.history left.to same now (w.under_way ∙ not_false h.under_way some) w.links) left.whole;
+        stopped = stopped run.merged h.near;
+      }
+
+  -- and the counts
+  with_counts : (scope : Scope) (old : Disk) → disk first.store ≡ record old { told = (disk first.store).told } → WhereBothTold (HasServedOver scope lines h.guests h.history h.broken run.merged run.run.closed) old.told after.told → HasServedWith scope names lines run old after
+  with_counts scope old counts have = record {
+    guests = h.guests;
+    history = h.history;
+    broken = h.broken;
+    count = h.count;
+    transcript = h.transcript;
+    counted = h.counted.last;
+    ended = counts_change after run.run.closed h.counted.end;
+    quiet = λ none. on_ok_weaker run.run.closed (λ same. counts_join old (disk first.store) after counts same) (h.counted.quiet none);
+    faults =
+        let k = h.faults in
+        subst (λ n. FaultsAreTold (all_told h.guests) (failed_by run.run.closed) n old.failed_changes after.failed_reads after.failed_changes) (ap (λ (d : Disk). d.files) counts)
+        (record { each = k.each; end = k.end; none = λ none. k.none none ∙ ap (λ (d : Disk). d.failed_changes) counts });
+    stopped = h.stopped;
+    served = have;
+  }
+
+  abbrev Left : Trace → Trace → Type 0
+  Left trace now = (from : State) → IsServing first.layers from trace → from.history ≡ [] → HasLeft (is_some first.layers.leaf) h.under_way from h.history h.full h.breach run.run.closed now
+
+  abbrev Over : Scope → Trace → Trace → Type 0
+  Over scope = HasServedOver scope lines h.guests h.history h.broken run.merged run.run.closed
+
+  -- ---- of a file below the leaf
+  module _ (files : List LinkedFile) (name : List ℕ) (old : Disk) (drawn now_drawn : Option (List (List ℕ))) (can : CanStart files old) (begun : HasStartedMerge files name old (disk first.store) drawn now_drawn first.layers) where
+    abbrev m : MergeFiles
+    m = begun.m
+
+    have : (a b c : Option Trace) → old.told ≡ a → (disk first.store).told ≡ b → StartsMerge m begun.merge first.layers a b → LeavesRest m a b → WhereBothTold Left b c → WhereBothTold (Over (scope_of m)) a c
+    have None None None is e s rest l = tt
+    have None None (Some c) is e s rest l = absurd l
+    have None (Some b) c is e s rest l = absurd s
+    have (Some a) None c is e s rest l = absurd s
+    have (Some a) (Some b) None is e s rest l = absurd l
+    have (Some a) (Some b) (Some c) is e s rest l =
+        let found : AreFound a m = are_found m old (subst (λ fs. CanStart fs old) begun.planned.begun.files_are.files_are can) a is in
+        let scope = scope_is m begun.merge a b rest (source_then m begun.merge.ids begun.merge.twice a b s.serving.synced) s.no_log (names_started a b m begun.merge.ids begun.merge.twice found) (names_all a b m begun.merge.ids begun.merge.twice found) in
+        files_left (scope_of m) begun.begun.geometry begun.begun.session (started_merge a b m begun.merge.ids begun.merge.twice) a b scope e s.serving c (l (started_merge a b m begun.merge.ids begun.merge.twice) s.serving refl)
+
+    pub merge_ran : HasRunServeMerge files name names lines run old after drawn now_drawn
+    merge_ran = record {
+      m = m;
+      merge = begun.merge;
+      planned = begun.planned;
+      serves = with_counts (scope_of m) old begun.begun.counts (have old.told (disk first.store).told after.told refl refl begun.begun.serving begun.still h.leaves);
+    }
+
+  -- ---- of the leaf
+  module _ (files : List LinkedFile) (old : Disk) (drawn now_drawn : Option (List (List ℕ))) (can : CanStart files old) (begun : HasStartedLeafMerge files old (disk first.store) drawn now_drawn first.layers) where
+    abbrev of_leaf : LeafFiles
+    of_leaf = begun.m
+
+    have_leaf : (a b c : Option Trace) → old.told ≡ a → (disk first.store).told ≡ b → StartsLeafMerge of_leaf begun.merge first.layers a b → LeavesAllBut is_first_two a b → WhereBothTold Left b c → WhereBothTold (Over (leaf_scope_of of_leaf)) a c
+    have_leaf None None None is e s rest l = tt
+    have_leaf None None (Some c) is e s rest l = absurd l
+    have_leaf None (Some b) c is e s rest l = absurd s
+    have_leaf (Some a) None c is e s rest l = absurd s
+    have_leaf (Some a) (Some b) None is e s rest l = absurd l
+    have_leaf (Some a) (Some b) (Some c) is e s rest l =
+        let scope = leaves.scope_is of_leaf begun.merge a b rest (subst (AreAsOpened a 0) begun.planned.begun.files_are (can.told a is).each) in
+        files_left (leaf_scope_of of_leaf) begun.begun.geometry begun.begun.session (started_leaf_merge a b of_leaf begun.merge.ids begun.merge.twice) a b scope e s c (l (started_leaf_merge a b of_leaf begun.merge.ids begun.merge.twice) s refl)
+
+    pub leaf_merge_ran : HasRunServeLeafMerge files names lines run old after drawn now_drawn
+    leaf_merge_ran = record {
+      m = of_leaf;
+      merge = begun.merge;
+      planned = begun.planned;
+      serves = with_counts (leaf_scope_of of_leaf) old begun.begun.counts (have_leaf old.told (disk first.store).told after.told refl refl begun.begun.serving begun.still h.leaves);
+    }

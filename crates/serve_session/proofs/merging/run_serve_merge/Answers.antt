@@ -1,0 +1,10 @@
+use Rattle.std.proofs.Common.{map}
+use Rattle.serve_session.proofs.MergeSessions.{merge_ran}
+use Rattle.serve_session.proofs.merging.run_serve_merge.Goals as goal
+
+pub returns-in-Ok-clause-ran : goal.returns-in-Ok-clause-ran
+returns-in-Ok-clause-ran g c =
+    let disk = g.S.Store.disk in
+    let first = c.in-Ok.chain in
+    merge_ran disk first (map g.N.AsStr.text c.args.names.now) c.args.lines.now c.serve_merging-store.result.1 (disk c.serve_merging-store.result.0) c.serve_merging-store.ensures c.in-Ok.ensures.sound.sector
+    c.args.files.now c.args.source.now (disk c.args.store) (g.I.Ids.drawn c.args.ids.now) (g.I.Ids.drawn c.start_merge.new.ids) c.requires.files c.in-Ok.ensures.started

@@ -1,0 +1,42 @@
+use Rattle.std.proofs.Common.{◌≡◌, ◌+◌, ◌∷◌, [], ap, length, length-append, subst, ◌∙◌, arith}
+use Rattle.std.specs.Prelude.{IfSome}
+use Rattle.std.proofs.lemmas.List.Elements.{All-pop}
+use Rattle.turn_lock.specs.Histories.{StartsWith}
+use Rattle.turn_lock.specs.Seats.{together_of}
+use Rattle.shared_chain.specs.Bases.{Contains, together}
+use Rattle.serve_session.specs.Lists.{HasDone}
+use Rattle.serve_session.proofs.Joining.{join_more, worker_joined}
+use Rattle.serve_session.proofs.serving.end_workers.Goals as goal
+
+pub join-requires-clause-own : goal.join-requires-clause-own
+join-requires-clause-own g c =
+    let left = All-pop (HasDone c.args.lock.now) c.loop-worker.workers.items c.pop.new.self.items c.pop.result c.pop.ensures.items c.loop-worker.invariant.done in
+    let done = subst (λ o. IfSome o (HasDone c.args.lock.now)) c.in-Some.is left.1 in
+    (c.loop-worker.invariant.free.0, ap (λ s. s.lock) c.end-seat.ensures.0 ∙ done.0.0)
+
+pub join-requires-clause-free : goal.join-requires-clause-free
+join-requires-clause-free g c =
+    let left = All-pop (HasDone c.args.lock.now) c.loop-worker.workers.items c.pop.new.self.items c.pop.result c.pop.ensures.items c.loop-worker.invariant.done in
+    let done = subst (λ o. IfSome o (HasDone c.args.lock.now)) c.in-Some.is left.1 in
+    (c.loop-worker.invariant.free.1, ap (λ s. s.turn) c.end-seat.ensures.0 ∙ done.0.1)
+
+pub loop-worker-preserved : goal.loop-worker-preserved
+loop-worker-preserved g c =
+    let disk = g.S.Store.disk in
+    let i = c.loop-worker.invariant in
+    let w = c.in-Some.worker in
+    let left = All-pop (HasDone c.args.lock.now) c.loop-worker.workers.items c.pop.new.self.items c.pop.result c.pop.ensures.items i.done in
+    let done = subst (λ o. IfSome o (HasDone c.args.lock.now)) c.in-Some.is left.1 in
+    let popped : length c.loop-worker.workers.items ≡ length c.pop.new.self.items + 1 = ap length c.in-Some.ensures.items ∙ length-append c.pop.new.self.items (w ∷ []) in
+    let met = subst (λ s. (c.join.new.first ≡ together_of together c.loop-worker.first s) × (StartsWith c.join.new.first.seen c.loop-worker.first.seen × StartsWith c.join.new.first.seen s.seen) × (Contains c.join.new.first.basis c.loop-worker.first.basis × Contains c.join.new.first.basis s.basis))
+    c.end-seat.ensures.0 (c.join.ensures.both, c.join.ensures.seen, c.join.ensures.basis) in
+    record {
+      taken = i.taken + 1;
+      count = omega (arith, popped, i.count);
+      joined = λ first names lines told short guests j. worker_joined disk first c.args.lock.now names lines c.loop-worker.first c.join.new.first told short guests (i.joined first names lines told short guests j) w done met.0 met.1 met.2;
+      done = left.0;
+      family = join_more c.args.first.now.family c.loop-worker.first.family c.join.new.first.family i.taken (i.taken + 1) i.family (ap (λ s. s.family) c.join.ensures.both) (omega arith);
+      free = (ap (λ s. s.lock) c.join.ensures.both ∙ i.free.0, ap (λ s. s.turn) c.join.ensures.both ∙ i.free.1);
+      leads = ap (λ s. s.family.is_first) c.join.ensures.both ∙ i.leads;
+      same = λ none. absurd (omega (arith, none, i.count, popped));
+    }

@@ -1,0 +1,20 @@
+use Rattle.std.proofs.Common.{◌≡◌, ◌+◌, All, ℕ, length, true}
+use Rattle.shared_chain.specs.Seats.{IsFree}
+use Rattle.serve_session.specs.Lists.{HasDone, WorkersJoin}
+use Rattle.serve_session.proofs.serving.end_workers.Given as goal
+
+-- the seats of the workers that were taken are joined
+abbrev pub invariant-loop-worker : goal.invariant-loop-worker
+invariant-loop-worker g l = record {
+  taken : ℕ;
+  count : taken + length l.workers.items ≡ length l.fn.workers.items;
+  joined : WorkersJoin g.S.Store.disk l.lock l.fn.first l.first;
+  done : All (HasDone l.lock) l.workers.items;
+  family : l.first.family ≡ record (l.fn.first.family) { joins = l.fn.first.family.joins + taken };
+  free : IsFree l.lock l.first;
+  leads : l.first.family.is_first ≡ true;
+  same : length l.fn.workers.items ≡ 0 → l.first ≡ l.fn.first;
+}
+
+abbrev pub decreases-loop-worker : goal.decreases-loop-worker
+decreases-loop-worker g l = length l.workers.items

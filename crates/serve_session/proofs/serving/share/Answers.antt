@@ -1,0 +1,100 @@
+use Rattle.std.proofs.Common.{◌≡◌, ◌++◌, ap, drop, false, length, map, sym, subst, take, true, ◌∙◌}
+use Rattle.std.specs.Prelude.{All}
+use Rattle.serve_session.specs.Actors.{AreJoined, HasRun}
+use Rattle.serve_session.specs.Lists.{AreActors, AreFresh, HasDone, IsFreshWorker, IsReady}
+use Rattle.serve_session.specs.Serving.{IsShared}
+use Rattle.serve_session.proofs.Final.{made_all, made_ready, made_run}
+use Rattle.serve_session.proofs.Guests.{written_all}
+use Rattle.serve_session.proofs.Joining.{all_done, wider_joined}
+use Rattle.serve_session.proofs.serving.share.Goals as goal
+
+pub run_beside-requires-clause-guests : goal.run_beside-requires-clause-guests
+run_beside-requires-clause-guests g c κs within = subst (λ xs. All (IsReady c.in-Ok-new.made.0) xs) (sym c.as_mut_slice-guests.ensures.value)
+    (made_ready g.S.Store.disk c.args.chain c.requires.begun.fresh c.requires.begun.whole c.in-Ok-new.made.0 c.in-Ok-new.made.1 c.in-Ok-new.ensures.ok (length c.args.rooms.items) c.add_actors.new.actors.items c.add_actors.ensures.fresh)
+
+pub end_actors-is_short-requires-clause-ran : goal.end_actors-is_short-requires-clause-ran
+end_actors-is_short-requires-clause-ran g c =
+    let disk = g.S.Store.disk in
+    let names = map g.N.AsStr.text c.args.names.now in
+    let lines = c.args.lines.now in
+    let lock = c.in-Ok-new.made.0 in
+    let n = length c.args.rooms.items in
+    let whole : c.add_actors.new.actors.len ≡ length c.run_beside.new.actors = c.add_actors.new.actors.ok.0 ∙ ap length (sym c.as_mut_slice-guests.ensures.value) ∙ sym c.run_beside.ensures.guests.count in
+    let all = written_all c.add_actors.new.actors.len c.run_beside.new.actors (drop (length c.run_beside.new.actors) c.add_actors.new.actors.items) whole in
+    let count : length c.run_beside.new.actors ≡ n = c.run_beside.ensures.guests.count ∙ ap length c.as_mut_slice-guests.ensures.value ∙ c.add_actors.ensures.count in
+    let made = made_run disk c.args.chain c.requires.begun.fresh c.requires.begun.whole lock c.in-Ok-new.made.1 c.in-Ok-new.ensures.ok c.requires.begun.sound.sector names lines n c.as_mut_slice-guests.result.now c.run_beside.new.actors
+    (subst (AreFresh c.in-Ok-new.made.1 n) (sym c.as_mut_slice-guests.ensures.value) c.add_actors.ensures.fresh) c.run_beside.ensures.guests in
+    let xs = take c.add_actors.new.actors.len (c.run_beside.new.actors ++ drop (length c.run_beside.new.actors) c.add_actors.new.actors.items) in
+    subst (λ f. AreActors (HasRun disk f lock names lines) (length xs) xs) (sym (ap (λ v. v.first) c.of-was.ensures))
+    (subst (λ xs. AreActors (HasRun disk c.args.chain.first lock names lines) (length xs) xs) (sym all) (subst (λ k. AreActors (HasRun disk c.args.chain.first lock names lines) k c.run_beside.new.actors) (sym count) made))
+
+pub end_workers-requires-clause-done : goal.end_workers-requires-clause-done
+end_workers-requires-clause-done g c =
+    let lock = c.in-Ok-new.made.0 in
+    let whole : c.add_workers.new.workers.len ≡ length c.run_beside.new.workers = c.add_workers.new.workers.ok.0 ∙ ap length (sym c.as_mut_slice-hands.ensures.value) ∙ sym c.run_beside.ensures.workers.count in
+    let all = written_all c.add_workers.new.workers.len c.run_beside.new.workers (drop (length c.run_beside.new.workers) c.add_workers.new.workers.items) whole in
+    subst (All (HasDone lock)) (sym all)
+    (all_done lock c.add_actors.new.first c.in-Ok.claims c.as_mut_slice-hands.result.now c.run_beside.new.workers (ap (λ s. s.lock) c.add_actors.ensures.seat ∙ ap (λ s. s.lock) c.in-Ok-new.ensures.ok)
+    (subst (All (IsFreshWorker c.add_actors.new.first c.in-Ok.claims)) (sym c.as_mut_slice-hands.ensures.value) c.add_workers.ensures.fresh) c.run_beside.ensures.workers)
+
+pub close-chain-requires-clause-all : goal.close-chain-requires-clause-all
+close-chain-requires-clause-all g c =
+    let guests : c.add_actors.new.actors.len ≡ length c.run_beside.new.actors = c.add_actors.new.actors.ok.0 ∙ ap length (sym c.as_mut_slice-guests.ensures.value) ∙ sym c.run_beside.ensures.guests.count in
+    let hands : c.add_workers.new.workers.len ≡ length c.run_beside.new.workers = c.add_workers.new.workers.ok.0 ∙ ap length (sym c.as_mut_slice-hands.ensures.value) ∙ sym c.run_beside.ensures.workers.count in
+    let actors = ap length (written_all c.add_actors.new.actors.len c.run_beside.new.actors (drop (length c.run_beside.new.actors) c.add_actors.new.actors.items) guests) in
+    let workers = ap length (written_all c.add_workers.new.workers.len c.run_beside.new.workers (drop (length c.run_beside.new.workers) c.add_workers.new.workers.items) hands) in
+    made_all g.S.Store.disk c.args.chain c.requires.begun.fresh c.requires.begun.whole c.in-Ok-new.made.0 c.in-Ok-new.made.1 c.in-Ok-new.ensures.ok
+    (length c.args.rooms.items) (length c.args.pieces.items) _ _ c.add_actors.new.first c.add_workers.new.first c.end_actors-is_short.new.first c.end_workers.new.first
+    c.add_actors.ensures.seat c.add_workers.ensures.seat c.end_actors-is_short.ensures.joined.family c.end_workers.ensures.family
+    (actors ∙ c.run_beside.ensures.guests.count ∙ ap length c.as_mut_slice-guests.ensures.value ∙ c.add_actors.ensures.count)
+    (workers ∙ c.run_beside.ensures.workers.count ∙ ap length c.as_mut_slice-hands.ensures.value ∙ c.add_workers.ensures.count)
+
+pub returns-clause-alone : goal.returns-clause-alone
+returns-clause-alone g c none =
+    let disk = g.S.Store.disk in
+    let names = map g.N.AsStr.text c.args.names.now in
+    let lines = c.args.lines.now in
+    let lock = c.in-Ok-new.made.0 in
+    let j = c.end_actors-is_short.ensures.joined in
+    let told = c.end_actors-is_short.new.told.items in
+    let short = c.end_actors-is_short.result in
+    let guests : c.add_actors.new.actors.len ≡ length c.run_beside.new.actors = c.add_actors.new.actors.ok.0 ∙ ap length (sym c.as_mut_slice-guests.ensures.value) ∙ sym c.run_beside.ensures.guests.count in
+    let hands : c.add_workers.new.workers.len ≡ length c.run_beside.new.workers = c.add_workers.new.workers.ok.0 ∙ ap length (sym c.as_mut_slice-hands.ensures.value) ∙ sym c.run_beside.ensures.workers.count in
+    let actors = ap length (written_all c.add_actors.new.actors.len c.run_beside.new.actors (drop (length c.run_beside.new.actors) c.add_actors.new.actors.items) guests) in
+    let workers = ap length (written_all c.add_workers.new.workers.len c.run_beside.new.workers (drop (length c.run_beside.new.workers) c.add_workers.new.workers.items) hands) in
+    let same = c.end_workers.ensures.same (workers ∙ c.run_beside.ensures.workers.count ∙ ap length c.as_mut_slice-hands.ensures.value ∙ c.add_workers.ensures.count ∙ none) in
+    IsShared.was_shared (record {
+      lock = lock;
+      seat = c.end_workers.new.first;
+      guests = j.guests;
+      joined = subst (λ f. AreJoined disk f false lock names lines c.end_workers.new.first told short j.guests) (ap (λ v. v.first) c.of-was.ensures)
+          (subst (λ s. AreJoined disk c.of-was.result.value.first false lock names lines s told short j.guests) (sym same) j.joined);
+      count = j.count_is ∙ actors ∙ c.run_beside.ensures.guests.count ∙ ap length c.as_mut_slice-guests.ensures.value ∙ c.add_actors.ensures.count ∙ c.requires.count;
+      history = c.close-chain.ensures.history;
+      basis = c.close-chain.ensures.basis;
+      places = c.close-chain.ensures.places;
+    })
+
+pub returns-clause-beside : goal.returns-clause-beside
+returns-clause-beside g c =
+    let disk = g.S.Store.disk in
+    let names = map g.N.AsStr.text c.args.names.now in
+    let lines = c.args.lines.now in
+    let lock = c.in-Ok-new.made.0 in
+    let j = c.end_actors-is_short.ensures.joined in
+    let told = c.end_actors-is_short.new.told.items in
+    let short = c.end_actors-is_short.result in
+    let first = c.of-was.result.value.first in
+    let guests : c.add_actors.new.actors.len ≡ length c.run_beside.new.actors = c.add_actors.new.actors.ok.0 ∙ ap length (sym c.as_mut_slice-guests.ensures.value) ∙ sym c.run_beside.ensures.guests.count in
+    let actors = ap length (written_all c.add_actors.new.actors.len c.run_beside.new.actors (drop (length c.run_beside.new.actors) c.add_actors.new.actors.items) guests) in
+    let wide = c.end_workers.ensures.joined first names lines told short j.guests (wider_joined disk first lock names lines c.end_actors-is_short.new.first told short j.guests j.joined) in
+    IsShared.was_shared (record {
+      lock = lock;
+      seat = c.end_workers.new.first;
+      guests = j.guests;
+      joined = subst (λ f. AreJoined disk f true lock names lines c.end_workers.new.first told short j.guests) (ap (λ v. v.first) c.of-was.ensures) wide;
+      count = j.count_is ∙ actors ∙ c.run_beside.ensures.guests.count ∙ ap length c.as_mut_slice-guests.ensures.value ∙ c.add_actors.ensures.count ∙ c.requires.count;
+      history = c.close-chain.ensures.history;
+      basis = c.close-chain.ensures.basis;
+      places = c.close-chain.ensures.places;
+    })

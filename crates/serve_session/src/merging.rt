@@ -1,0 +1,196 @@
+//! A script's session with several guests over the files of a chain, in which a file is merged beside them.
+
+ghost use Rattle.std.specs.Prelude.{◌≡◌, ◌≤◌, ◌^◌, All, [], None, true, length, map, IfErr, IfOk, OnErr};
+ghost use Rattle.chain_core.specs.Sessions.{IsSound};
+ghost use Rattle.shared_chain.specs.Homes.{session_of};
+ghost use Rattle.serve_session.specs.Serving.{HasServed};
+ghost use Rattle.chain_core.specs.Starting.{EachOpensAlike};
+ghost use Rattle.chain_core.specs.LeafStarting.{RefusesLeafMerge};
+ghost use Rattle.chain_core.specs.MergeStarting.{RefusesMerge};
+ghost use Rattle.merge_plan.specs.Attached.{CanStart};
+ghost use Rattle.serve_session.specs.MergeServed.{HasRunServeLeafMerge, HasRunServeMerge};
+ghost use Rattle.serve_session.specs.Served.{guest_count};
+
+use crate::serving::{serve, unserved};
+use chain_core::{Chain, MergeStartRefusal};
+use guest_model::{ChainRefusal, KeepAll};
+use link_rules::LinkedFile;
+use merge_core::Piece;
+use script::Line;
+use script_session::ScriptRun;
+use shared_chain::SharedChain;
+use std::alloc::Global;
+use std::convert::AsStr;
+use std::sync::Wait;
+use std::thread::Threads;
+use store_model::{Gate, Ids, Store};
+use vx_base::{Name, NoRoom};
+
+// Sectors of a stripe.
+const STRIPE: u64 = 2_048;
+
+/// What a script's session with a merge gave.
+#[derive(Drop)]
+pub struct MergeRun {
+    pub run: ScriptRun,
+    /// Whether the merge was finished; else what stopped it at the end.
+    pub merged: Result<(), ChainRefusal>,
+}
+
+/// Room for a stripe, for each of so many workers.
+pub fn pieces_for(alloc: Global, workers: u32) -> Result<Vec<Piece>, NoRoom>
+    ensures count { IfOk result (λ pieces. length pieces.items ≡ workers) }
+{
+    let mut pieces = Vec::new(alloc);
+    for _ in 0..workers {
+        pieces.push(Piece::new(alloc)?)?;
+    }
+    Ok(pieces)
+}
+
+// How many stripes of 1 MB a disk has; fewer than 2^32.
+fn stripes_of(files: &[LinkedFile]) -> u32 {
+    match files.first() {
+        Some(leaf) => {
+            let stripes = leaf.parts.geometry.sectors.div_ceil(STRIPE);
+            stripes.min(u64::from(u32::MAX)) as u32
+        }
+        None => 0,
+    }
+}
+
+// Serves the guests of a script over a chain whose session has begun with a merge, beside its workers.
+fn serve_merging<S: Store + Send, R: Threads + Wait + Sync, G: Gate + Sync, N: AsStr + Sync>(
+    rt: &R,
+    alloc: Global,
+    chain: Chain<S, KeepAll>,
+    names: &[N],
+    lines: &[Line],
+    rooms: Vec<Vec<u8>>,
+    stripes: u32,
+    pieces: Vec<Piece>,
+    last: &mut Piece,
+    gate: &G,
+) -> (S, MergeRun)
+where
+    S::R: Send,
+    requires sound { IsSound (session_of S.disk chain) }
+    requires fresh { (chain.events ≡ 0) × (chain.broken ≡ None) × (chain.recorder ≡ []) }
+    requires few { length lines.now ≤ 2 ^ 20 }
+    requires count { length rooms.items ≡ guest_count lines.now }
+    requires each { All (λ room. length room.items ≡ 1048576) rooms.items }
+    requires workers { length pieces.items ≤ 64 }
+    ensures { HasServed S.disk true chain (map N.text names.now) lines.now result.1 (S.disk result.0) }
+{
+    match SharedChain::new(alloc, chain) {
+        Ok(chain) => serve(
+            rt,
+            alloc,
+            chain,
+            names,
+            lines,
+            rooms,
+            stripes,
+            pieces,
+            Some(last),
+            gate,
+        ),
+        Err((store, closed)) => (store, unserved(closed)),
+    }
+}
+
+/// Runs a script of `serve` in a session over the files of a chain that starts with the merge of its file `source`, which isn't the leaf, into
+/// its parent: each guest's calls in the script's order and in a thread of its own where one can be made, and a worker for each piece beside
+/// them, which copies stripes. Then what is missing is copied, the merge is finished, and the session ends. The store comes back, whatever is
+/// answered. The names are those of the files, from the leaf on; each guest has a room, and the last piece is for what the workers left.
+pub fn run_serve_merge<
+    S: Store + Send,
+    R: Threads + Wait + Sync,
+    I: Ids,
+    G: Gate + Sync,
+    N: AsStr + Sync,
+>(
+    rt: &R,
+    alloc: Global,
+    store: S,
+    files: &[LinkedFile],
+    names: &[N],
+    source: &Name,
+    ids: &mut I,
+    lines: &[Line],
+    rooms: Vec<Vec<u8>>,
+    pieces: Vec<Piece>,
+    last: &mut Piece,
+    gate: &G,
+) -> (S, Result<MergeRun, MergeStartRefusal>)
+where
+    S::R: Send,
+    requires files { CanStart files.now (S.disk store) }
+    requires few { length lines.now ≤ 2 ^ 20 }
+    requires count { length rooms.items ≡ guest_count lines.now }
+    requires each { All (λ room. length room.items ≡ 1048576) rooms.items }
+    requires workers { length pieces.items ≤ 64 }
+    ensures ran { IfOk result.1 (λ run. HasRunServeMerge files.now source.now (map N.text names.now) lines.now run (S.disk store) (S.disk result.0)
+        (I.drawn ids.old) (I.drawn ids.new)) }
+    ensures refused { IfErr result.1 (RefusesMerge files.now source.now (S.disk store) (S.disk result.0) (I.drawn ids.old) (I.drawn ids.new)) }
+    // Where no session started.
+    ensures kept { OnErr result.1 (EachOpensAlike files.now (S.disk store).told (S.disk result.0).told) }
+{
+    let stripes = stripes_of(files);
+    match Chain::start_merge(alloc, store, files, source, KeepAll::new(alloc), ids) {
+        Ok(chain) => {
+            let (store, run) = serve_merging(
+                rt, alloc, chain, names, lines, rooms, stripes, pieces, last, gate,
+            );
+            (store, Ok(run))
+        }
+        Err((store, refusal)) => (store, Err(refusal)),
+    }
+}
+
+/// Runs a script of `serve` in a session over the files of a chain that starts with the merge of its leaf into its parent, as `run_serve_merge`
+/// does with that of another file.
+pub fn run_serve_leaf_merge<
+    S: Store + Send,
+    R: Threads + Wait + Sync,
+    I: Ids,
+    G: Gate + Sync,
+    N: AsStr + Sync,
+>(
+    rt: &R,
+    alloc: Global,
+    store: S,
+    files: &[LinkedFile],
+    names: &[N],
+    ids: &mut I,
+    lines: &[Line],
+    rooms: Vec<Vec<u8>>,
+    pieces: Vec<Piece>,
+    last: &mut Piece,
+    gate: &G,
+) -> (S, Result<MergeRun, MergeStartRefusal>)
+where
+    S::R: Send,
+    requires files { CanStart files.now (S.disk store) }
+    requires parent { 2 ≤ length files.now }
+    requires few { length lines.now ≤ 2 ^ 20 }
+    requires count { length rooms.items ≡ guest_count lines.now }
+    requires each { All (λ room. length room.items ≡ 1048576) rooms.items }
+    requires workers { length pieces.items ≤ 64 }
+    ensures ran { IfOk result.1 (λ run. HasRunServeLeafMerge files.now (map N.text names.now) lines.now run (S.disk store) (S.disk result.0)
+        (I.drawn ids.old) (I.drawn ids.new)) }
+    ensures refused { IfErr result.1 (RefusesLeafMerge files.now (S.disk store) (S.disk result.0) (I.drawn ids.old) (I.drawn ids.new)) }
+    // Where no session started.
+    ensures kept { OnErr result.1 (EachOpensAlike files.now (S.disk store).told (S.disk result.0).told) }
+{
+    let stripes = stripes_of(files);
+    match Chain::start_leaf_merge(alloc, store, files, KeepAll::new(alloc), ids) {
+        Ok(chain) => {
+            let (store, run) = serve_merging(
+                rt, alloc, chain, names, lines, rooms, stripes, pieces, last, gate,
+            );
+            (store, Ok(run))
+        }
+        Err((store, refusal)) => (store, Err(refusal)),
+    }
+}
