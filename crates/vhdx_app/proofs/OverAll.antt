@@ -3,7 +3,7 @@ use Rattle.std.proofs.Common.{◌≡◌, ℕ, ◌<◌, Bool, true, false, List, 
 use Rattle.std.proofs.lemmas.List.{length-map}
 use Rattle.std.specs.Prelude.{All, IfErr, IfOk, option_map}
 use Rattle.file_open.specs.Causes.{Meaning, refuses, host_failed, store_failed, no_memory}
-use Rattle.store_model.specs.Disk.{Disk as StoreDisk, WhereTold}
+use Rattle.store_model.specs.Disk.{Disk as StoreDisk, WhereBothTold, WhereTold}
 use Rattle.store_model.specs.Folder.{AreAway, HasFailed, Hosted, KeepsStore, RoseWhere, given_back}
 use Rattle.chain_model.specs.Members.{NoneTwice}
 use Rattle.link_rules.specs.Chains.{names_of}
@@ -27,7 +27,7 @@ use Rattle.chain_core.specs.declared.merge_start.MergeStartRefusal.TheVariants a
 use Rattle.chain_core.specs.declared.starting.Mode.{Mode}
 use Rattle.chain_core.specs.declared.starting.Mode.TheVariants.{Guests, ReadOnly}
 use Rattle.script.specs.declared.form.Line.{Line}
-use Rattle.script_session.specs.MergeRunning.{names_without}
+use Rattle.script_session.specs.MergeRunning.{HasHistoryOver, HasRunLeafMerge, HasRunMerge, names_without}
 use Rattle.script_session.specs.declared.session.ScriptRun.{ScriptRun}
 use Rattle.vhdx_app.specs.Causes.{LeavesStoreBy, meaning_of_chain}
 use Rattle.vhdx_app.specs.Commands.{Lends}
@@ -46,7 +46,7 @@ use Rattle.vhdx_app.proofs.OverMerge.{leaves_merge}
 use Rattle.vhdx_app.proofs.OverMerge as merge
 use Rattle.vhdx_app.proofs.Unlogged.{unlogged_two}
 use Rattle.vhdx_app.proofs.Followed.{last_once}
-use Rattle.vhdx_app.proofs.OverScope.{Counted, LeavesMerge, LeftMerged, as_told, left_none, not_merged, scope_changed, scope_ran}
+use Rattle.vhdx_app.proofs.OverScope.{Counted, LeavesMerge, LeftMerged, as_told, left_none, not_merged, scope_changed, scope_over, scope_ran}
 use Rattle.vhdx_app.proofs.Ran.{back_requires, still_rests, still_stands}
 
 -- ---- what a session with a merge leaves, of the leaf or of another file
@@ -69,6 +69,15 @@ module _ (retired : List (List ℕ)) (leaf : LinkedFile) (others : List LinkedFi
       by_kind true is h = leaves_leaf_merge retired leaf others old mid lent disk chain lends before after name is r x h alike told
       by_kind false is h = leaves_merge retired leaf others old mid lent disk chain lends before after name is r x h alike told
 
+  -- what one that ran tells of its files
+  pub past_leaf : (lines : List Line) (run : ScriptRun) (h : HasRunLeafMerge (leaf ∷ others) (names_of (leaf ∷ others)) lines run lent disk before after) → is_leaf (leaf ∷ others) name ≡ true
+      → WhereBothTold (HasHistoryOver (scope_over leaf others name is_first_two (leaf_left_names h.m)) (take h.many lines) h.told run.closed) lent.told disk.told
+  past_leaf lines run h is = subst (λ scope. WhereBothTold (HasHistoryOver scope (take h.many lines) h.told run.closed) lent.told disk.told) (leaf_merge.scope_is retired leaf others old mid lent disk chain lends before after name is h.m h.merge h.planned) h.history
+
+  pub past_other : (lines : List Line) (run : ScriptRun) (h : HasRunMerge (leaf ∷ others) name (names_of (leaf ∷ others)) lines run lent disk before after) → is_leaf (leaf ∷ others) name ≡ false
+      → WhereBothTold (HasHistoryOver (scope_over leaf others name (is_changed h.m) (names_without h.m)) (take h.many lines) h.told run.closed) lent.told disk.told
+  past_other lines run h is = subst (λ scope. WhereBothTold (HasHistoryOver scope (take h.many lines) h.told run.closed) lent.told disk.told) (merge.scope_is retired leaf others old mid lent disk chain lends before after name is h.m h.merge h.planned) h.history
+
   -- what one that ran changed
   changed_all : (lines : List Line) (run : ScriptRun) → HasRunMergeOf (is_leaf (leaf ∷ others) name) (leaf ∷ others) name (names_of (leaf ∷ others)) lines run lent disk before after → LeftMerged leaf others name lent disk
   changed_all lines run h = by_kind (is_leaf (leaf ∷ others) name) refl h
@@ -77,12 +86,12 @@ module _ (retired : List (List ℕ)) (leaf : LinkedFile) (others : List LinkedFi
       by_kind true is h = record {
         written = is_first_two;
         may = leaf_merge.may retired leaf others old mid lent disk chain lends before after name is;
-        changed = scope_changed leaf others name is_first_two (leaf_left_names h.m) (take h.many lines) h.told run.closed lent.told disk.told (leaf_merge.past retired leaf others old mid lent disk chain lends before after name is lines run h);
+        changed = scope_changed leaf others name is_first_two (leaf_left_names h.m) (take h.many lines) h.told run.closed lent.told disk.told (past_leaf lines run h is);
       }
       by_kind false is h = record {
         written = is_changed h.m;
-        may = merge.may retired leaf others old mid lent disk chain lends before after name is lines run h;
-        changed = scope_changed leaf others name (is_changed h.m) (names_without h.m) (take h.many lines) h.told run.closed lent.told disk.told (merge.past retired leaf others old mid lent disk chain lends before after name is lines run h);
+        may = merge.may retired leaf others old mid lent disk chain lends before after name is h.m h.merge h.planned;
+        changed = scope_changed leaf others name (is_changed h.m) (names_without h.m) (take h.many lines) h.told run.closed lent.told disk.told (past_other lines run h is);
       }
 
 -- ---- before the files come back
@@ -125,13 +134,13 @@ module _ (mode : Mode) (retired : List (List ℕ)) (old mid now : Hosted) (lent 
               → RunOver Guests (Some name) (record { retired = retired; files = leaf ∷ others }) lines run old now before after
           by_kind true is h =
               scope_ran retired leaf others old mid now lent disk idle served once chain lends back_is past_is count before after name is_first_two (leaf_left_names h.m) (leaf_merge.may retired leaf others old mid lent disk chain lends before after name is)
-              (leaf_merge.left retired leaf others old mid lent disk chain lends before after name is lines run h) h.many lines h.told run (leaf_merge.past retired leaf others old mid lent disk chain lends before after name is lines run h) h.faults (unlogged_two leaf others name is) h.whole h.fault_is
-              h.counted h.ended h.quiet (leaf_merge.drawn retired leaf others old mid lent disk chain lends before after name is lines run h)
+              (leaf_merge.left retired leaf others old mid lent disk chain lends before after name is h.m h.merge h.planned) h.many lines h.told run (past_leaf retired leaf others old mid lent disk chain lends before after name lines run h is) h.faults (unlogged_two leaf others name is) h.whole h.fault_is
+              h.counted h.ended h.quiet (leaf_merge.drawn retired leaf others old mid lent disk chain lends before after name is h.m h.merge h.planned)
           by_kind false is h =
-              scope_ran retired leaf others old mid now lent disk idle served once chain lends back_is past_is count before after name (is_changed h.m) (names_without h.m) (merge.may retired leaf others old mid lent disk chain lends before after name is lines run h)
-              (merge.left retired leaf others old mid lent disk chain lends before after name is lines run h) h.many lines h.told run (merge.past retired leaf others old mid lent disk chain lends before after name is lines run h) h.faults
-              (merge.ended_all retired leaf others old mid lent disk chain lends before after name is lines run h (last_once retired (names_of (leaf ∷ others)) once)) h.whole h.fault_is
-              h.counted h.ended h.quiet (merge.drawn retired leaf others old mid lent disk chain lends before after name is lines run h)
+              scope_ran retired leaf others old mid now lent disk idle served once chain lends back_is past_is count before after name (is_changed h.m) (names_without h.m) (merge.may retired leaf others old mid lent disk chain lends before after name is h.m h.merge h.planned)
+              (merge.left retired leaf others old mid lent disk chain lends before after name is h.m h.merge h.planned) h.many lines h.told run (past_other retired leaf others old mid lent disk chain lends before after name lines run h is) h.faults
+              (merge.ended_all retired leaf others old mid lent disk chain lends before after name is h.m h.merge h.planned (last_once retired (names_of (leaf ∷ others)) once)) h.whole h.fault_is
+              h.counted h.ended h.quiet (merge.drawn retired leaf others old mid lent disk chain lends before after name is h.m h.merge h.planned)
       by_mode ReadOnly can = absurd can
 
   not_run_all : (merge : Option (List ℕ)) (files : List LinkedFile) (names : List (List ℕ)) (result : Result ScriptRun StepsRefusal) → CanMerge mode merge → names ≡ names_of files → IsLine files → All IsServed files

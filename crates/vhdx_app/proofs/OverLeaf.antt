@@ -1,8 +1,8 @@
 -- The merge of the leaf over a chain's files: from what the store's session leaves to what the host is left with.
-use Rattle.std.proofs.Common.{◌≡◌, ℕ, ◌<◌, ◌≤◌, true, false, is_some, List, [], ◌∷◌, take, Option, Some, None, refl, sym, ap, ap₂, subst, ◌∙◌, inr}
+use Rattle.std.proofs.Common.{◌≡◌, ℕ, ◌<◌, ◌≤◌, true, false, is_some, List, [], ◌∷◌, Option, Some, None, refl, sym, ap, ap₂, subst, ◌∙◌, inr}
 use Rattle.std.specs.Prelude.{nat_lt, slice_index_or}
 use Rattle.std.proofs.lemmas.Bool.{le-ltb}
-use Rattle.store_model.specs.Disk.{Disk as StoreDisk, WhereBothTold, WhereTold}
+use Rattle.store_model.specs.Disk.{Disk as StoreDisk, WhereTold}
 use Rattle.store_model.specs.File.{seen}
 use Rattle.store_model.specs.Folder.{Hosted}
 use Rattle.store_model.specs.Trace.{file_of}
@@ -28,9 +28,7 @@ use Rattle.chain_core.specs.MergeStarting.{first_or}
 use Rattle.chain_core.specs.Starting.{EachOpensAlike, way_to}
 use Rattle.chain_core.specs.declared.merge_start.MergeStartRefusal.{MergeStartRefusal}
 use Rattle.chain_core.specs.declared.merge_start.MergeStartRefusal.TheVariants as start
-use Rattle.script.specs.declared.form.Line.{Line}
-use Rattle.script_session.specs.MergeRunning.{HasHistoryOver, HasRunLeafMerge, leaf_scope_of}
-use Rattle.script_session.specs.declared.session.ScriptRun.{ScriptRun}
+use Rattle.script_session.specs.MergeRunning.{leaf_scope_of}
 use Rattle.vhdx_app.specs.Commands.{Lends}
 use Rattle.vhdx_app.specs.Sessions.{BeginsLeafMerge, HasLeafMergeCause, HasMergeCauseOf, IsChainIn, IsMergeRefusal, PlanNamesFile, is_told, meaning_of_steps, no_name, of_merge_start, of_plan}
 use Rattle.vhdx_app.specs.Starts.{IsLeafFullIn, JudgesLeafMerge, JudgesMergeOf, StandsSo, is_leaf, leaf_pairs}
@@ -92,27 +90,21 @@ module _ (retired : List (List ℕ)) (leaf : LinkedFile) (others : List LinkedFi
   pub may : (n : ℕ) → is_first_two n ≡ true → is_among (slice_index_or (names_of (leaf ∷ others)) n []) (starts.changed_names false (Some name) (leaf ∷ others)) ≡ true
   may = may_change_two leaf others name is
 
-  module _ (lines : List Line) (run : ScriptRun) (h : HasRunLeafMerge (leaf ∷ others) (names_of (leaf ∷ others)) lines run lent disk before after) where
-    abbrev pub m : LeafFiles
-    m = h.m
-
+  module _ (m : LeafFiles) (merge : LeafMerge) (p : PlansLeafMerge (leaf ∷ others) lent before after m merge) where
     same_files : leaf ∷ others ≡ leaf_chain m
-    same_files = h.planned.begun.files_are
+    same_files = p.begun.files_are
 
     -- its scope is the chain's
-    scope_is : leaf_scope_of m ≡ scope_over leaf others name is_first_two (leaf_left_names m)
+    pub scope_is : leaf_scope_of m ≡ scope_over leaf others name is_first_two (leaf_left_names m)
     scope_is =
         ap₂ (λ (l : LinkedFile) (fs : List LinkedFile). record { leaf = way_to l fs (Some l.name); geometry = l.parts.geometry; files = fs; changes = is_first_two; staying = leaf_left_names m; of_leaf = true }) (leaf_same m leaf others same_files) (sym same_files)
         ∙ ap₂ (λ b n. record { leaf = way_to leaf (leaf ∷ others) (Some n); geometry = leaf.parts.geometry; files = leaf ∷ others; changes = is_first_two; staying = leaf_left_names m; of_leaf = b }) (sym is) (leaf_named leaf others name is)
-
-    pub past : WhereBothTold (HasHistoryOver (scope_over leaf others name is_first_two (leaf_left_names m)) (take h.many lines) h.told run.closed) lent.told disk.told
-    past = subst (λ scope. WhereBothTold (HasHistoryOver scope (take h.many lines) h.told run.closed) lent.told disk.told) scope_is h.history
 
     pub left : AreLeft (leaf ∷ others) name (leaf_left_names m)
     left = by_leaf m is same_files
 
     pub drawn : JudgesMergeOf (is_leaf (leaf ∷ others) name) L name old.folder before after None
-    drawn = subst (λ b. JudgesMergeOf b L name old.folder before after None) (sym is) (planned m h.merge h.planned)
+    drawn = subst (λ b. JudgesMergeOf b L name old.folder before after None) (sym is) (planned m merge p)
 
   -- ---- one that didn't start
 

@@ -1,9 +1,9 @@
 -- The merge of a file below the leaf over a chain's files: from what the store's session leaves to what the host is left with.
-use Rattle.std.proofs.Common.{◌≡◌, ℕ, ◌<◌, ◌≤◌, true, false, List, [], ◌∷◌, ◌++◌, length, take, Option, Some, None, refl, sym, ap, ap₂, subst, ◌∙◌, inr}
+use Rattle.std.proofs.Common.{◌≡◌, ℕ, ◌<◌, ◌≤◌, true, false, List, [], ◌∷◌, ◌++◌, length, Option, Some, None, refl, sym, ap, ap₂, subst, ◌∙◌, inr}
 use Rattle.std.specs.Prelude.{nat_lt, slice_index_or}
 use Rattle.std.proofs.lemmas.Bool.{le-ltb}
 use Rattle.std.proofs.lemmas.List.{append_assoc, length-append}
-use Rattle.store_model.specs.Disk.{Disk as StoreDisk, WhereBothTold, WhereTold}
+use Rattle.store_model.specs.Disk.{Disk as StoreDisk, WhereTold}
 use Rattle.store_model.specs.File.{seen}
 use Rattle.store_model.specs.Folder.{Hosted}
 use Rattle.store_model.specs.Trace.{Trace, file_of}
@@ -29,9 +29,7 @@ use Rattle.chain_core.specs.MergeStarting.{PlansMerge, RefusesMerge, chain_files
 use Rattle.chain_core.specs.Starting.{EachOpensAlike, way_to}
 use Rattle.chain_core.specs.declared.merge_start.MergeStartRefusal.{MergeStartRefusal}
 use Rattle.chain_core.specs.declared.merge_start.MergeStartRefusal.TheVariants as start
-use Rattle.script.specs.declared.form.Line.{Line}
-use Rattle.script_session.specs.MergeRunning.{HasHistoryOver, HasRunMerge, names_without, scope_of}
-use Rattle.script_session.specs.declared.session.ScriptRun.{ScriptRun}
+use Rattle.script_session.specs.MergeRunning.{names_without, scope_of}
 use Rattle.vhdx_app.specs.Commands.{Lends}
 use Rattle.vhdx_app.specs.Sessions.{BeginsMerge, HasMergeCause, HasMergeCauseOf, IsChainIn, IsMergeRefusal, PlanNamesFile, is_told, meaning_of_steps, no_name, of_merge_start, of_plan}
 use Rattle.vhdx_app.specs.Starts.{IsFullIn, JudgesMerge, JudgesMergeOf, StandsSo, changed_names, child_pairs, is_leaf, source_pairs}
@@ -90,33 +88,27 @@ module _ (retired : List (List ℕ)) (leaf : LinkedFile) (others : List LinkedFi
 
   -- ---- a session that ran
 
-  module _ (lines : List Line) (run : ScriptRun) (h : HasRunMerge (leaf ∷ others) name (names_of (leaf ∷ others)) lines run lent disk before after) where
-    abbrev pub m : MergeFiles
-    m = h.m
-
+  module _ (m : MergeFiles) (merge : Merge) (p : PlansMerge (leaf ∷ others) name lent before after m merge) where
     same_files : leaf ∷ others ≡ chain_files m
-    same_files = h.planned.begun.files_are.files_are
+    same_files = p.begun.files_are.files_are
 
     pub may : (n : ℕ) → is_changed m n ≡ true → is_among (slice_index_or (names_of (leaf ∷ others)) n []) (changed_names false (Some name) (leaf ∷ others)) ≡ true
-    may = may_change_all m leaf others name same_files h.planned.begun.files_are.named other
+    may = may_change_all m leaf others name same_files p.begun.files_are.named other
 
     -- its scope is the chain's
-    scope_is : scope_of m ≡ scope_over leaf others name (is_changed m) (names_without m)
+    pub scope_is : scope_of m ≡ scope_over leaf others name (is_changed m) (names_without m)
     scope_is =
         ap₂ (λ (l : LinkedFile) (fs : List LinkedFile). record { leaf = way_to l fs (Some m.source.name); geometry = l.parts.geometry; files = fs; changes = is_changed m; staying = names_without m; of_leaf = false }) (leaf_is m leaf others same_files) (sym same_files)
-        ∙ ap₂ (λ b n. record { leaf = way_to leaf (leaf ∷ others) (Some n); geometry = leaf.parts.geometry; files = leaf ∷ others; changes = is_changed m; staying = names_without m; of_leaf = b }) (sym other) h.planned.begun.files_are.named
-
-    pub past : WhereBothTold (HasHistoryOver (scope_over leaf others name (is_changed m) (names_without m)) (take h.many lines) h.told run.closed) lent.told disk.told
-    past = subst (λ scope. WhereBothTold (HasHistoryOver scope (take h.many lines) h.told run.closed) lent.told disk.told) scope_is h.history
+        ∙ ap₂ (λ b n. record { leaf = way_to leaf (leaf ∷ others) (Some n); geometry = leaf.parts.geometry; files = leaf ∷ others; changes = is_changed m; staying = names_without m; of_leaf = b }) (sym other) p.begun.files_are.named
 
     pub ended_all : NoneTwice (names_of (leaf ∷ others)) → (t : Trace) → ((n : ℕ) → is_changed m n ≡ true → NamesNoLog (seen (file_of t n))) → AllByRecursion (IsUnlogged (leaf ∷ others) t) (changed_names false (Some name) (leaf ∷ others))
-    ended_all differ t none = unlogged_all m leaf others name same_files h.planned.begun.files_are.named other differ t none
+    ended_all differ t none = unlogged_all m leaf others name same_files p.begun.files_are.named other differ t none
 
     pub left : AreLeft (leaf ∷ others) name (names_without m)
-    left = by_other m other h.planned.begun.files_are
+    left = by_other m other p.begun.files_are
 
     pub drawn : JudgesMergeOf (is_leaf (leaf ∷ others) name) L name old.folder before after None
-    drawn = subst (λ b. JudgesMergeOf b L name old.folder before after None) (sym other) (planned m h.merge h.planned)
+    drawn = subst (λ b. JudgesMergeOf b L name old.folder before after None) (sym other) (planned m merge p)
 
   -- ---- one that didn't start
 

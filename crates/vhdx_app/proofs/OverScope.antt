@@ -193,6 +193,36 @@ module _ (retired : List (List ℕ)) (leaf : LinkedFile) (others : List LinkedFi
   abbrev traced : List Held → Trace
   traced f = attached_trace (names_of (leaf ∷ others)) f
 
+  -- ---- at rest, by the scope
+
+  module _ (changes : ℕ → Bool) (staying : List (List ℕ)) (may : (n : ℕ) → changes n ≡ true → is_among (slice_index_or (names_of (leaf ∷ others)) n []) (changed_names false (Some name) (leaf ∷ others)) ≡ true) (became : WhereBothTold (Changed changes) lent.told disk.told)
+      (f : List Held) (told : old.folder ≡ Some f) (history : History) where
+    abbrev pub later : Trace
+    later = (now_told retired leaf others old mid lent idle once chain lends disk Guests (Some name) changes may became f told).0
+
+    abbrev pub EndsAtRest : Type 0
+    EndsAtRest = IsAtRestOver (scope_over leaf others name changes staying) (scoped.drive_over (scope_over leaf others name changes staying) (traced f)) history later
+
+    module _ (a : EndsAtRest) where
+      pub scope_rests : Rests M history f old now
+      scope_rests = rests retired leaf others old mid lent idle once chain lends disk Guests (Some name) changes may became now back_is past_is count f told history a.synced a.opens
+
+      pub scope_unlogged : ((t : Trace) → ((n : ℕ) → changes n ≡ true → NamesNoLog (seen (file_of t n))) → AllByRecursion (IsUnlogged (leaf ∷ others) t) (changed_names false (Some name) (leaf ∷ others)))
+          → WhereTold now.folder (NoneNamesLog (changed_names false (Some name) (leaf ∷ others)))
+      scope_unlogged ended_all = unlogged retired leaf others old mid lent idle once chain lends disk Guests (Some name) changes may became now back_is past_is count f told (changed_names false (Some name) (leaf ∷ others)) (ended_all _ a.no_log)
+
+      pub scope_stays : EachLinks leaf.name (names_of (leaf ∷ others)) later → WhereTold now.folder (λ after. LeadsTo (files_of after) (leaf_name M) (names_of (leaf ∷ others)))
+      scope_stays links = leads retired leaf others old mid lent idle once chain lends disk Guests (Some name) changes may became now back_is past_is count f told history (names_of (leaf ∷ others)) a.synced a.opens links
+
+      pub scope_dropped : AreLeft (leaf ∷ others) name staying → EachLinks leaf.name staying later → IsDropped (leaf_name M) M now name
+      scope_dropped left links = record {
+        left = staying;
+        are_left = left;
+        leads = leads retired leaf others old mid lent idle once chain lends disk Guests (Some name) changes may became now back_is past_is count f told history staying a.synced a.opens links;
+        follows = λ is. subst (λ n. WhereTold now.folder (λ after. LeadsTo (files_of after) n staying)) (leaf_named leaf others name is)
+            (first_leads retired leaf others old mid lent idle once chain lends disk Guests (Some name) changes may became now back_is past_is count f told history staying a.synced a.opens links);
+      }
+
   module _ (changes : ℕ → Bool) (staying : List (List ℕ)) (may : (n : ℕ) → changes n ≡ true → is_among (slice_index_or (names_of (leaf ∷ others)) n []) (changed_names false (Some name) (leaf ∷ others)) ≡ true) (left : AreLeft (leaf ∷ others) name staying)
       (many : ℕ) (lines : List Line) (told_all : List Told) (run : ScriptRun) (past : WhereBothTold (HasHistoryOver (scope_over leaf others name changes staying) (take many lines) told_all run.closed) lent.told disk.told)
       (told_faults : FaultsAreTold told_all (failed_by run.closed) lent.files lent.failed_changes disk.failed_reads disk.failed_changes)
@@ -220,42 +250,30 @@ module _ (retired : List (List ℕ)) (leaf : LinkedFile) (others : List LinkedFi
           faults = last_returned retired leaf others old mid lent idle once chain lends disk Guests (Some name) changes may became now back_is past_is count f told
               (λ store. FaultsAreTold told_all (failed_by run.closed) (length (leaf ∷ others)) (λ file. 0) store.failed_reads store.failed_changes)
               (λ trace rest. lent_faults Guests retired leaf others old mid now lent disk idle served once chain lends back_is past_is count before after (Some name) changes may told_all (failed_by run.closed) told_faults);
-          rests = rests_as f told k.history run.closed k.at_rest;
-          no_log = no_log_as f told k.history run.closed k.at_rest;
-          dropped = dropped_as f told k.history k.course run.closed k.at_rest k.linked;
-          stays = stays_as f told k.history k.course run.closed k.at_rest k.stays;
+          rests = rests_as k.history run.closed k.at_rest;
+          no_log = no_log_as k.history run.closed k.at_rest;
+          dropped = dropped_as k.history k.course run.closed k.at_rest k.linked;
+          stays = stays_as k.history k.course run.closed k.at_rest k.stays;
         }
       where
-        rests_as : (f : List Held) (told : old.folder ≡ Some f) (history : History) (closed : Result (Unit {0}) StoreFault)
-            → OnOk closed (IsAtRestOver scope (scoped.drive_over scope (traced f)) history (now_told retired leaf others old mid lent idle once chain lends disk Guests (Some name) changes may became f told).0) → OnOk closed (Rests M history f old now)
-        rests_as f told history (Ok done) a = rests retired leaf others old mid lent idle once chain lends disk Guests (Some name) changes may became now back_is past_is count f told history a.synced a.opens
-        rests_as f told history (Err fault) a = tt
+        rests_as : (history : History) (closed : Result (Unit {0}) StoreFault) → OnOk closed (EndsAtRest changes staying may became f told history) → OnOk closed (Rests M history f old now)
+        rests_as history (Ok done) a = scope_rests changes staying may became f told history a
+        rests_as history (Err fault) a = tt
 
-        no_log_as : (f : List Held) (told : old.folder ≡ Some f) (history : History) (closed : Result (Unit {0}) StoreFault)
-            → OnOk closed (IsAtRestOver scope (scoped.drive_over scope (traced f)) history (now_told retired leaf others old mid lent idle once chain lends disk Guests (Some name) changes may became f told).0)
-            → OnOk closed (WhereTold now.folder (NoneNamesLog (changed_names false (Some name) (leaf ∷ others))))
-        no_log_as f told history (Ok done) a =
-            unlogged retired leaf others old mid lent idle once chain lends disk Guests (Some name) changes may became now back_is past_is count f told (changed_names false (Some name) (leaf ∷ others)) (ended_all _ a.no_log)
-        no_log_as f told history (Err fault) a = tt
+        no_log_as : (history : History) (closed : Result (Unit {0}) StoreFault) → OnOk closed (EndsAtRest changes staying may became f told history) → OnOk closed (WhereTold now.folder (NoneNamesLog (changed_names false (Some name) (leaf ∷ others))))
+        no_log_as history (Ok done) a = scope_unlogged changes staying may became f told history a ended_all
+        no_log_as history (Err fault) a = tt
 
-        stays_as : (f : List Held) (told : old.folder ≡ Some f) (history : History) (course : Course) (closed : Result (Unit {0}) StoreFault)
-            → (let t = (now_told retired leaf others old mid lent idle once chain lends disk Guests (Some name) changes may became f told).0 in OnOk closed (IsAtRestOver scope (scoped.drive_over scope (traced f)) history t))
-            → (let t = (now_told retired leaf others old mid lent idle once chain lends disk Guests (Some name) changes may became f told).0 in course ≢ no_merge → OnOk closed (EachLinks leaf.name (names_of (leaf ∷ others)) t))
+        stays_as : (history : History) (course : Course) (closed : Result (Unit {0}) StoreFault) → OnOk closed (EndsAtRest changes staying may became f told history)
+            → (course ≢ no_merge → OnOk closed (EachLinks leaf.name (names_of (leaf ∷ others)) (later changes staying may became f told history)))
             → OnOk closed (course ≢ no_merge → WhereTold now.folder (λ after. LeadsTo (files_of after) (leaf_name M) (names_of (leaf ∷ others))))
-        stays_as f told history course (Err fault) a links = tt
-        stays_as f told history course (Ok done) a links = λ some. leads retired leaf others old mid lent idle once chain lends disk Guests (Some name) changes may became now back_is past_is count f told history (names_of (leaf ∷ others)) a.synced a.opens (links some)
+        stays_as history course (Err fault) a links = tt
+        stays_as history course (Ok done) a links = λ some. scope_stays changes staying may became f told history a (links some)
 
-        dropped_as : (f : List Held) (told : old.folder ≡ Some f) (history : History) (course : Course) (closed : Result (Unit {0}) StoreFault)
-            → (let t = (now_told retired leaf others old mid lent idle once chain lends disk Guests (Some name) changes may became f told).0 in OnOk closed (IsAtRestOver scope (scoped.drive_over scope (traced f)) history t))
-            → (let t = (now_told retired leaf others old mid lent idle once chain lends disk Guests (Some name) changes may became f told).0 in course ≡ no_merge → OnOk closed (EachLinks leaf.name staying t)) → OnOk closed (course ≡ no_merge → IsDropped (leaf_name M) M now name)
-        dropped_as f told history course (Err fault) a links = tt
-        dropped_as f told history course (Ok done) a links = λ ended. record {
-          left = staying;
-          are_left = left;
-          leads = leads retired leaf others old mid lent idle once chain lends disk Guests (Some name) changes may became now back_is past_is count f told history staying a.synced a.opens (links ended);
-          follows = λ is. subst (λ n. WhereTold now.folder (λ after. LeadsTo (files_of after) n staying)) (leaf_named leaf others name is)
-              (first_leads retired leaf others old mid lent idle once chain lends disk Guests (Some name) changes may became now back_is past_is count f told history staying a.synced a.opens (links ended));
-        }
+        dropped_as : (history : History) (course : Course) (closed : Result (Unit {0}) StoreFault) → OnOk closed (EndsAtRest changes staying may became f told history)
+            → (course ≡ no_merge → OnOk closed (EachLinks leaf.name staying (later changes staying may became f told history))) → OnOk closed (course ≡ no_merge → IsDropped (leaf_name M) M now name)
+        dropped_as history course (Err fault) a links = tt
+        dropped_as history course (Ok done) a links = λ ended. scope_dropped changes staying may became f told history a left (links ended)
 
     pub scope_ran : (whole : IfOk run.transcript (λ text. (take many lines ≡ lines) × (string_bytes text ≡ transcript (names_of (leaf ∷ others)) lines told_all) × AllByRecursion HasMemory told_all)) → run.fault ≡ last_fault told_all → IfSome run.fault (Counts disk) → IfErr run.closed (Counts disk)
         → (run.fault ≡ None → OnOk run.closed (disk ≡ record lent { told = disk.told })) → JudgesMergeOf (is_leaf (leaf ∷ others) name) M name old.folder before after None → RunOver Guests (Some name) M lines run old now before after

@@ -14,6 +14,7 @@ use Rattle.store_model.specs.Moments.{Throughout}
 use Rattle.store_model.specs.Trace.{NamedBytes}
 use Rattle.store_model.proofs.Throughout.{throughout_weaken}
 use Rattle.guest_model.specs.Calls.{Disk}
+use Rattle.guest_model.specs.History.{History}
 use Rattle.file_open.specs.Effects.{IsLongEnough}
 use Rattle.chain_model.specs.Files.{HasParts, IsIn, IsLinked, IsWhole, OpensWithin, at_rest, files_in}
 use Rattle.chain_model.specs.Members.{Member, disk_of, Way}
@@ -36,9 +37,10 @@ use Rattle.vhdx_app.specs.Crashes.{OpensToFirst}
 use Rattle.vhdx_app.specs.Folders.{files_of}
 use Rattle.vhdx_app.specs.Printed.{RefusesLeaf, unlinked}
 use Rattle.vhdx_app.specs.Refusals.{Refusal}
-use Rattle.vhdx_app.specs.Resuming.{CanResume, IsRunOver, OpeningsResume, ResumedRunsGoOn, ResumesFirst, ResumesWithin, RunResumes, RunsResume, restarted}
-use Rattle.vhdx_app.specs.Steps.{Opened, Ran, RunsOver, way_by}
+use Rattle.vhdx_app.specs.Resuming.{CanResume, IsRunOver, OpeningsResume, ResumedRunsGoOn, ResumesFirst, ResumesWithin, RunsResume, ServicesResume, restarted}
+use Rattle.vhdx_app.specs.Steps.{way_by}
 use Rattle.vhdx_app.specs.Worlds.{World}
+use Rattle.script_session.specs.Histories.{Break}
 use Rattle.script_session.specs.Running.{open_by}
 use Rattle.vhdx_app.proofs.OneAnswer.{not_two}
 
@@ -118,11 +120,20 @@ can_resume leaf image retired chain linked whole =
 resumes_within : (leaf : Way) (among : ℕ → Bool) (disk : Disk) (image : List NamedBytes) → OpensWithin (files_in image) leaf among disk → ResumesWithin leaf among disk image
 resumes_within leaf among disk image o = record { names = model.names_of o.chain; own = disk_of o.chain; by = o.by; resumes = can_resume leaf.name image o.retired o.chain o.linked o.whole; agrees = o.agrees }
 
+module _ (leaf : Way) (disk : Disk) (h : History) (broken : Option Break) (old new : Hosted) where
+  resumes_throughout : Throughout (OpensToFirst leaf disk h (open_by broken)) old new → Throughout (ResumesFirst leaf disk h broken) old new
+  resumes_throughout past =
+      throughout_weaken (OpensToFirst leaf disk h (open_by broken)) (ResumesFirst leaf disk h broken) old new (λ f o. record { m = o.m; within = o.within; resumes = λ image is. resumes_within leaf _ _ image (o.opens image is) }) past
+
 pub runs_resume : RunsResume
 runs_resume leaf merge read_only before now status run = record {
-  moments = λ folder told.
-      throughout_weaken (OpensToFirst (way_by leaf run.begun.linked merge) run.begun.disk run.ran.history (open_by run.ran.broken)) (ResumesFirst (way_by leaf run.begun.linked merge) run.begun.disk run.ran) run.opened now.host
-      (λ f o. record { m = o.m; within = o.within; resumes = λ image is. resumes_within (way_by leaf run.begun.linked merge) _ _ image (o.opens image is) }) (run.kept folder told).moments;
+  moments = λ folder told. resumes_throughout (way_by leaf run.begun.linked merge) run.begun.disk run.ran.history run.ran.broken run.opened now.host (run.kept folder told).moments;
+  last = λ folder told f is image left. resumes_within (way_by leaf run.begun.linked merge) _ _ image ((run.kept folder told).last f is image left);
+}
+
+pub services_resume : ServicesResume
+services_resume leaf merge before now status run = record {
+  moments = λ folder told. resumes_throughout (way_by leaf run.begun.linked merge) run.begun.disk run.service.history run.service.broken run.opened now.host (run.kept folder told).moments;
   last = λ folder told f is image left. resumes_within (way_by leaf run.begun.linked merge) _ _ image ((run.kept folder told).last f is image left);
 }
 

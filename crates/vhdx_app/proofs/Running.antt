@@ -17,7 +17,7 @@ use Rattle.link_rules.specs.Touches.{IsOnWay, TouchesSafely}
 use Rattle.link_rules.proofs.Safe.{none_safely}
 use Rattle.vhdx_app.specs.Folders.{IsReplayedIn, OnlyFollows}
 use Rattle.printing.specs.Sent.{Sent, cut, whole}
-use Rattle.vhdx_app.specs.Runs.{AskMerge, Ends, HasMerge, FollowsFirst, IsRun, IsRunAlone, NoMerge, Runs, RunsNothing, StartsNoThread, no_memory, served_leaf, usage}
+use Rattle.vhdx_app.specs.Runs.{AskMerge, Ends, HasMerge, FollowsFirst, IsMerging, IsRun, IsRunAlone, Runs, StartsNoThread, no_memory, serving, usage}
 use Rattle.script.specs.declared.form.ScriptKind.TheVariants as kinds
 use Rattle.vhdx_app.specs.Serves as serves
 use Rattle.vhdx_app.specs.Steps as steps
@@ -45,14 +45,17 @@ module _ (words : List (List ℕ)) (told : Option Request) (h : MatchOption told
   none_asked is = asked_none words told is h
 
   -- how it ends where a merge may be asked for
-  pub merge_ends : (leaf : List ℕ) (merge : Option (List ℕ)) (read_only : Bool) (request : Request) → told ≡ Some request → plain request ≡ wish.steps leaf merge read_only → (before now : World) (status : Status) → Ends (HasMerge merge) before now status
-      → Ends (AskMerge words) before now status
-  merge_ends leaf merge read_only request is same before now status ends = record {
+  merge_ends_by : (wish : Wish) → Asks words wish → (before now : World) (status : Status) → Ends (IsMerging wish) before now status → Ends (AskMerge words) before now status
+  merge_ends_by wish asks before now status ends = record {
     rose = ends.rose;
     quiet = ends.quiet;
     home = ends.home;
-    idle = λ fault none. ends.idle fault (λ memory has. none memory (wish.steps leaf merge read_only, subst (Asks words) same (asked words told request is h), has));
+    idle = λ fault none. ends.idle fault (λ memory has. none memory (wish, asks, has));
   }
+
+  pub merge_ends : (leaf : List ℕ) (merge : Option (List ℕ)) (read_only : Bool) (request : Request) → told ≡ Some request → plain request ≡ wish.steps leaf merge read_only → (before now : World) (status : Status) → Ends (HasMerge merge) before now status
+      → Ends (AskMerge words) before now status
+  merge_ends leaf merge read_only request is same before now status ends = merge_ends_by (wish.steps leaf merge read_only) (subst (Asks words) same (asked words told request is h)) before now status ends
 
   -- what was told is done, and nothing else is asked for
   pub told_is_run : (request : Request) → told ≡ Some request → (before now : World) (status : Status) → Runs (plain request) before now status → Ends (AskMerge words) before now status → IsRun words before now status
@@ -64,25 +67,25 @@ module _ (words : List (List ℕ)) (told : Option Request) (h : MatchOption told
 
   -- the same without threads, if it isn't asked for guests to be served
   pub told_alone : (request : Request) → told ≡ Some request → (before now : World) (status : Status) → Runs (plain request) before now status → Ends (AskMerge words) before now status
-      → ((leaf : List ℕ) (workers : ℕ) → plain request ≡ wish.serve leaf workers → ⊥) → IsRunAlone words before now status
+      → ((leaf : List ℕ) (workers : ℕ) (merge : Option (List ℕ)) → plain request ≡ wish.serve leaf workers merge → ⊥) → IsRunAlone words before now status
   told_alone request is before now status runs ends other = record {
     alone = λ none. told_is_run request is before now status runs ends;
-    other = λ leaf workers asks. absurd (other leaf workers (asked_once words (plain request) (wish.serve leaf workers) (asked words told request is h) asks));
+    other = λ leaf workers merge asks. absurd (other leaf workers merge (asked_once words (plain request) (wish.serve leaf workers merge) (asked words told request is h) asks));
   }
 
   -- guests are to be served, and nothing is done
-  pub serve_alone : (request : Request) → told ≡ Some request → (leaf : List ℕ) (workers : ℕ) → plain request ≡ wish.serve leaf workers → (before : World) (status : Status) → status ≡ Usage → IsRunAlone words before before status
-  serve_alone request is leaf workers same before status ended = record {
-    alone = λ none. absurd (none leaf workers (subst (Asks words) same (asked words told request is h)));
-    other = λ l w asks. usage ended refl;
+  pub serve_alone : (request : Request) → told ≡ Some request → (leaf : List ℕ) (workers : ℕ) (merge : Option (List ℕ)) → plain request ≡ wish.serve leaf workers merge → (before : World) (status : Status) → status ≡ Usage → IsRunAlone words before before status
+  serve_alone request is leaf workers merge same before status ended = record {
+    alone = λ none. absurd (none leaf workers merge (subst (Asks words) same (asked words told request is h)));
+    other = λ l w m asks. usage ended refl;
   }
 
   -- what is asked for where guests are to be served, and where they aren't
-  pub serve_asked : (leaf : List ℕ) → served_leaf (option_map plain told) ≡ Some leaf → (workers : ℕ) × Asks words (wish.serve leaf workers)
-  serve_asked leaf is = go told refl is
+  pub serve_asked : (w : Wish) → serving (option_map plain told) ≡ Some w → Asks words w
+  serve_asked w is = go told refl is
     where
-      by_wish : (w : Wish) → Asks words w → served_leaf (Some w) ≡ Some leaf → (workers : ℕ) × Asks words (wish.serve leaf workers)
-      by_wish (wish.serve l n) asks e = (n, subst (λ x. Asks words (wish.serve x n)) (same_Some l leaf e) asks)
+      by_wish : (v : Wish) → Asks words v → serving (Some v) ≡ Some w → Asks words w
+      by_wish (wish.serve l n m) asks e = subst (Asks words) (same_Some (wish.serve l n m) w e) asks
       by_wish (wish.dump l first count) asks e = cc
       by_wish (wish.make name file) asks e = cc
       by_wish (wish.info l) asks e = cc
@@ -92,28 +95,29 @@ module _ (words : List (List ℕ)) (told : Option Request) (h : MatchOption told
       by_wish wish.help asks e = cc
       by_wish wish.version asks e = cc
 
-      go : (t : Option Request) → told ≡ t → served_leaf (option_map plain t) ≡ Some leaf → (workers : ℕ) × Asks words (wish.serve leaf workers)
+      go : (t : Option Request) → told ≡ t → serving (option_map plain t) ≡ Some w → Asks words w
       go None t e = cc
       go (Some request) t e = by_wish (plain request) (asked words told request t h) e
 
-  pub serve_unasked : served_leaf (option_map plain told) ≡ None → StartsNoThread words
-  serve_unasked is leaf workers asks = go told refl is
+  pub serve_unasked : serving (option_map plain told) ≡ None → StartsNoThread words
+  serve_unasked is leaf workers merge asks = go told refl is
     where
-      by_wish : (w : Wish) → w ≡ wish.serve leaf workers → served_leaf (Some w) ≡ None → ⊥
-      by_wish w same e = let never : ◌≡◌ {A = Option (List ℕ)} (Some leaf) None = ap (λ x. served_leaf (Some x)) (sym same) ∙ e in cc
+      by_wish : (w : Wish) → w ≡ wish.serve leaf workers merge → serving (Some w) ≡ None → ⊥
+      by_wish w same e = let never : ◌≡◌ {A = Option Wish} (Some (wish.serve leaf workers merge)) None = ap (λ x. serving (Some x)) (sym same) ∙ e in cc
 
-      go : (t : Option Request) → told ≡ t → served_leaf (option_map plain t) ≡ None → ⊥
-      go None t e = none_asked t (wish.serve leaf workers) asks
-      go (Some request) t e = by_wish (plain request) (asked_once words (plain request) (wish.serve leaf workers) (asked words told request t h) asks) e
+      go : (t : Option Request) → told ≡ t → serving (option_map plain t) ≡ None → ⊥
+      go None t e = none_asked t (wish.serve leaf workers merge) asks
+      go (Some request) t e = by_wish (plain request) (asked_once words (plain request) (wish.serve leaf workers merge) (asked words told request t h) asks) e
 
   -- guests were served
-  pub served_is_run : (leaf : List ℕ) → served_leaf (option_map plain told) ≡ Some leaf → (before now : World) (status : Status) → ((workers : ℕ) → Runs (wish.serve leaf workers) before now status) → Ends NoMerge before now status → IsRun words before now status
-  served_is_run leaf is before now status runs ends =
-      let a = serve_asked leaf is in
+  pub served_is_run : (leaf : List ℕ) (workers : ℕ) (merge : Option (List ℕ)) → serving (option_map plain told) ≡ Some (wish.serve leaf workers merge) → (before now : World) (status : Status) → Runs (wish.serve leaf workers merge) before now status → Ends (HasMerge merge) before now status
+      → IsRun words before now status
+  served_is_run leaf workers merge is before now status runs ends =
+      let asks = serve_asked (wish.serve leaf workers merge) is in
       record {
-        asked = λ w asks. subst (λ w. Runs w before now status) (asked_once words (wish.serve leaf a.0) w a.1 asks) (runs a.0);
-        nothing = λ nothing. absurd (nothing (wish.serve leaf a.0) a.1);
-        ends = record { rose = ends.rose; quiet = ends.quiet; home = ends.home; idle = λ fault none. ends.idle fault (λ memory has. absurd has) };
+        asked = λ w also. subst (λ w. Runs w before now status) (asked_once words (wish.serve leaf workers merge) w asks also) runs;
+        nothing = λ nothing. absurd (nothing (wish.serve leaf workers merge) asks);
+        ends = merge_ends_by (wish.serve leaf workers merge) asks before now status ends;
       }
 
   -- nothing was told, and nothing is done
@@ -125,7 +129,7 @@ module _ (words : List (List ℕ)) (told : Option Request) (h : MatchOption told
   }
 
   pub none_alone : told ≡ None → (before : World) (status : Status) → status ≡ Usage → Ends (AskMerge words) before before status → IsRunAlone words before before status
-  none_alone is before status ended ends = record { alone = λ none. none_is_run is before status ended ends; other = λ leaf workers asks. usage ended refl }
+  none_alone is before status ended ends = record { alone = λ none. none_is_run is before status ended ends; other = λ leaf workers merge asks. usage ended refl }
 
 -- ---- the commands
 
@@ -174,7 +178,7 @@ module _ (host : Hosted) (drawn : Option (List (List ℕ))) (left : Option (List
   no_memory_runs sent (wish.info leaf) = record { printed = record { meant = NoMemory; text = codes "no memory\n"; said = refl; sent = sent }; follows = follows_first leaf _ _ status (follows_none leaf host) (λ shown. absurd (no_memory_shown _ _ _ _ _ _ sent shown)) (none_safely (λ f. IsOnWay (contents f) leaf) host) refl refl }
   no_memory_runs sent (wish.make name file) = record { printed = record { meant = NoMemory; text = codes "no memory\n"; said = refl; sent = sent }; kept = λ done fault. looks_still file host; others = adds_none name file host; moments = still_making name file host; unread = refl }
   no_memory_runs sent (wish.steps leaf merge read_only) = steps.unread (unread_runs kinds.Steps leaf ⊥ (world host drawn left rises sunk old) (world host drawn left rises after new) status refl refl NoMemory (codes "no memory\n") sent refl (none_taken left))
-  no_memory_runs sent (wish.serve leaf workers) = serves.unread (unread_runs kinds.Serve leaf ⊥ (world host drawn left rises sunk old) (world host drawn left rises after new) status refl refl NoMemory (codes "no memory\n") sent refl (none_taken left))
+  no_memory_runs sent (wish.serve leaf workers merge) = serves.unread (unread_runs kinds.Serve leaf ⊥ (world host drawn left rises sunk old) (world host drawn left rises after new) status refl refl NoMemory (codes "no memory\n") sent refl (none_taken left))
   no_memory_runs sent (wish.check name) = record {
     printed = record { meant = NoMemory; text = codes "no memory\n"; said = refl; sent = sent };
     looks = looks_none name host;
@@ -203,7 +207,7 @@ module _ (host : Hosted) (drawn : Option (List (List ℕ))) (left : Option (List
   }
 
   pub no_memory_alone : (words : List (List ℕ)) → Sent sunk after old new NoMemory (codes "no memory\n") status → IsRunAlone words (world host drawn left rises sunk old) (world host drawn left rises after new) status
-  no_memory_alone words sent = record { alone = λ none. no_memory_is_run words sent; other = λ leaf workers asks. no_memory refl sent }
+  no_memory_alone words sent = record { alone = λ none. no_memory_is_run words sent; other = λ leaf workers merge asks. no_memory refl sent }
 
 pub usage_ends : (host : Hosted) (drawn : Option (List (List ℕ))) (left : Option (List ℕ)) (rises : ℕ) (sunk : Option (List ℕ)) (old : ℕ) (status : Status) → WhereTold host.folder AllIdle → status ≡ Usage → {merges : Type 0} → Ends merges (world host drawn left rises sunk old) (world host drawn left rises sunk old) status
 usage_ends host drawn left rises sunk old status idle is = record { rose = λ fault. let e : Usage ≡ Fault = sym is ∙ fault in cc; quiet = λ fault. (refl, refl, refl); home = home_still host.folder host.folder idle refl; idle = λ fault none f told. idle }

@@ -1,6 +1,6 @@
 -- What `serve` does once the chain is opened, from what the session leaves.
-use Rattle.std.proofs.Common.{◌≡◌, ◌≢◌, ℕ, Bool, true, false, List, [], length, Option, Some, None, Result, Ok, Err, refl, sym, ap, subst, ◌∙◌, inl, inr, arith}
-use Rattle.std.specs.Prelude.{IfErr, IfOk, IfSome, OnOk, String, codes, string_bytes}
+use Rattle.std.proofs.Common.{◌≡◌, ◌≢◌, ℕ, true, false, List, [], length, Option, Some, None, Result, Ok, Err, refl, sym, ap, subst, ◌∙◌, inl, inr, arith}
+use Rattle.std.specs.Prelude.{IfErr, IfOk, IfSome, OnOk, String, codes, is_some, string_bytes}
 use Rattle.std.specs.List.{AllByRecursion}
 use Rattle.std.proofs.lemmas.Option.{same_Some}
 use Rattle.file_open.specs.Causes.{IfCause, Meaning, refuses, host_failed, store_failed, no_memory, cause_in}
@@ -8,13 +8,16 @@ use Rattle.store_model.specs.Cause.{Rose}
 use Rattle.store_model.specs.Disk.{WhereTold}
 use Rattle.store_model.specs.Folder.{Held, Hosted}
 use Rattle.store_model.specs.Moments.{IsHealthy, LastReturnedCounts, Throughout}
+use Rattle.store_model.specs.declared.fault.HostFault.{HostFault}
 use Rattle.store_model.specs.declared.fault.StoreFault.{StoreFault}
 use Rattle.store_model.proofs.Throughout.{last_join, returned_join}
 use Rattle.vhdx_format.specs.Fields.{sector_size}
 use Rattle.vx_base.specs.declared.NoRoom.{NoRoom}
 use Rattle.guest_model.specs.Calls.{Disk}
-use Rattle.guest_model.specs.History.{History, replay}
-use Rattle.guest_model.specs.declared.refusal.ChainRefusal.TheVariants.{Spent}
+use Rattle.guest_model.specs.History.{replay}
+use Rattle.guest_model.specs.declared.refusal.ChainRefusal.{ChainRefusal}
+use Rattle.guest_model.specs.declared.refusal.ChainRefusal.TheVariants.{ReadOnly, Spent}
+use Rattle.guest_model.specs.declared.refusal.ChainRefusal.TheVariants as refusals
 use Rattle.chain_model.specs.Files.{OpensTo}
 use Rattle.chain_model.specs.Members.{disk_of}
 use Rattle.chain_core.specs.declared.starting.Mode.TheVariants.{Guests}
@@ -30,40 +33,40 @@ use Rattle.script.specs.Sources.{IsTaken}
 use Rattle.script.specs.declared.form.Line.{Line}
 use Rattle.script.specs.declared.form.ScriptKind.TheVariants as kinds
 use Rattle.script_session.specs.Faults.{FaultsAreTold}
-use Rattle.script_session.specs.Histories.{Break, IsEndTold}
+use Rattle.script_session.specs.Histories.{IsEndTold}
 use Rattle.script_session.specs.Running.{open_by, open_last}
 use Rattle.script_session.specs.Told.{failed_by}
 use Rattle.script_session.specs.declared.session.ScriptRun.{ScriptRun}
-use Rattle.serve_session.specs.Served.{AreServed, IsTranscript, Outcome, all_told}
+use Rattle.serve_session.specs.MergeServed.{StopsMerge}
+use Rattle.serve_session.specs.declared.merging.MergeRun.{MergeRun}
+use Rattle.serve_session.specs.Served.{AreServed, IsTranscript, all_told}
 use Rattle.printing.specs.Answers.{fault_line}
 use Rattle.printing.specs.Sent.{Sent, cut, whole}
 use Rattle.printing.specs.declared.status.Status.{Status}
-use Rattle.printing.specs.declared.status.Status.TheVariants.{Done, Fault, NoMemory, Refused}
+use Rattle.printing.specs.declared.status.Status.TheVariants.{Fault, NoMemory, Refused}
 use Rattle.vhdx_app.specs.Causes.{meaning_of_chain, of_chain}
 use Rattle.vhdx_app.specs.Commands.{LeavesFollowedBy, Reports}
-use Rattle.vhdx_app.specs.Crashes.{AreSpared, EachImageOpens, HasLong, NoneNamesLog, OpensToFirst}
+use Rattle.vhdx_app.specs.Crashes.{EachImageOpens, HasLong, NoneNamesLog, OpensToFirst}
 use Rattle.vhdx_app.specs.Folders.{AllHome, LastReturned, OnlyFollows, files_of}
-use Rattle.vhdx_app.specs.Guests.{LeafIsServed, ServedIn, ServedOver}
+use Rattle.vhdx_app.specs.Guests.{LeafIsServed, ReportsServed, ServedOver, end_of, stopped_by}
 use Rattle.vhdx_app.specs.Guests as code_guests
-use Rattle.vhdx_app.specs.Making.{ShowIds}
 use Rattle.vhdx_app.specs.Printed.{Prints, ShowsFault, of_host, of_store}
 use Rattle.vhdx_app.specs.Printed as printed
-use Rattle.vhdx_app.specs.Refusals.{IdUnfit, OfCall, OfChain, Refusal}
-use Rattle.vhdx_app.specs.Runs.{Ends, NoMerge}
-use Rattle.vhdx_app.specs.Serves.{HasServedOut, IsServeText, IsServiceText, KeepsServed, RunsServe, Service, met, no_service}
+use Rattle.vhdx_app.specs.Refusals.{IdUnfit, IsBase, LocatorTooLarge, MetadataFull, NotInChain, OfCall, OfChain, Refusal}
+use Rattle.vhdx_app.specs.Runs.{Ends, HasMerge}
+use Rattle.vhdx_app.specs.Serves.{HasServedOut, IsMergeLeft, IsServeText, IsServiceText, IsStopTold, IsUnfinished, KeepsServed, RunsServe, Service, met, no_service}
 use Rattle.vhdx_app.specs.Serves as serves
-use Rattle.vhdx_app.specs.Sessions.{IsCounted, IsFollowedTo, IsNotFollowed, NotRunOver, OpensIn, ReportsRun, Rests, Stands, UnlessMerging, UnlessStore, meaning_of_steps, run_said, said_of}
+use Rattle.vhdx_app.specs.Sessions.{IsCounted, IsFollowedTo, IsNotFollowed, NotRunOver, OpensIn, Rests, Stands, UnlessMerging, UnlessStore, leaf_name, meaning_of_steps, run_said, said_of}
 use Rattle.vhdx_app.specs.Sessions as code
-use Rattle.vhdx_app.specs.Starts.{DrawsFor, JudgesDrawn, RefusesSession, changed_names}
-use Rattle.vhdx_app.specs.Starts as starts
+use Rattle.vhdx_app.specs.Starts.{RefusesSession, changed_names}
 use Rattle.vhdx_app.specs.Steps.{IsUnopenedText, Opened, RunsUnopened, drive_over, way_by}
 use Rattle.vhdx_app.specs.Steps as steps
 use Rattle.vhdx_app.specs.Worlds.{World}
-use Rattle.vhdx_app.specs.declared.refusal.ChainRefusal.{ChainRefusal}
 use Rattle.vhdx_app.specs.declared.refusal.StepsRefusal.{StepsRefusal}
 use Rattle.vhdx_app.specs.declared.refusal.StepsRefusal.TheVariants as refusal
+use Rattle.vhdx_app.proofs.Before.{drawn_before, refuses_by, ruleless}
 use Rattle.vhdx_app.proofs.Behind.{name_is, opens_mid, told_mid}
-use Rattle.vhdx_app.proofs.Followed.{has_followed, order_stopped, shown_before}
+use Rattle.vhdx_app.proofs.Followed.{has_followed, order_stopped}
 use Rattle.vhdx_app.proofs.Home.{StaysHome, home_followed}
 use Rattle.vhdx_app.proofs.Left.{counted, followed, idle_left, stopped}
 use Rattle.vhdx_app.proofs.Said.{CountsIn, counts_as, is_fault}
@@ -76,21 +79,48 @@ ended_well (Err fault) p none = cc
 never_told : {A : Type 0} (x : A) → None ≡ Some x → ⊥
 never_told x e = cc
 
--- what a run says without a merge
-unless_none : {R : Type 0} (m : Meaning R) {P : Type 0} → UnlessMerging None m P → P
-unless_none m p = p
+-- a text that was sent has its status, but for a fault of the sink
+sent_is : (before after : Option (List ℕ)) (old new : ℕ) (meant : Status) (text : List ℕ) (status : Status) → Sent before after old new meant text status → status ≢ Fault → status ≡ meant
+sent_is before after old new meant text status (whole is sent same) fault = is
+sent_is before after old new meant text status (cut is n sent rose) fault = absurd (fault is)
 
-module _ (leaf : List ℕ) (before now : World) (status : Status) (idle : WhereTold before.host.folder AllIdle) (unread : now.source_faults ≡ before.source_faults) (taken : WhereTold before.left (λ bytes. IsTaken bytes now.left)) (lines : List Line)
+none_of : (merge : Option (List ℕ)) → ¬ HasMerge merge → merge ≡ None
+none_of None none = refl
+none_of (Some name) none = absurd (none tt)
+
+neither : {A E : Type 0} (r : Result A E) → IfOk r (λ x. ⊥) → IfErr r (λ e. ⊥) → ⊥
+neither (Ok x) ok err = ok
+neither (Err e) ok err = err
+
+-- where no fault was met and memory didn't run out the count of events is used up, or a file is full
+unfinished_by : (run : ScriptRun) (e : ChainRefusal) → StopsMerge run e → run.fault ≡ None → IfErr run.closed (λ x. ⊥) → IfErr run.transcript (λ x. ⊥) → IsUnfinished (Some e)
+unfinished_by run (refusals.Spent t) k none well in_memory = k
+unfinished_by run (refusals.FileFull next) k none well in_memory = tt
+unfinished_by run (refusals.ReadFault file n) k none well in_memory = let never : ◌≡◌ {A = Option StoreFault} (Some (record { file = file; count = n })) None = sym k ∙ none in cc
+unfinished_by run (refusals.Broken file n) k none well in_memory = absurd (subst (λ r. IfErr r (λ x. ⊥)) k well)
+unfinished_by run refusals.NoRoom k none well in_memory = absurd (neither run.transcript k in_memory)
+unfinished_by run refusals.EmptyRange k none well in_memory = absurd k
+unfinished_by run (refusals.OutOfRange x0 x1 x2) k none well in_memory = absurd k
+unfinished_by run (refusals.TooLong x0 x1) k none well in_memory = absurd k
+unfinished_by run refusals.ReadOnly k none well in_memory = absurd k
+unfinished_by run refusals.NoMerge k none well in_memory = absurd k
+unfinished_by run (refusals.Stale x0 x1) k none well in_memory = absurd k
+unfinished_by run (refusals.NotYet x0) k none well in_memory = absurd k
+unfinished_by run (refusals.Abandoned x0 x1) k none well in_memory = absurd k
+unfinished_by run (refusals.NoStripe x0 x1) k none well in_memory = absurd k
+unfinished_by run refusals.NoPiece k none well in_memory = absurd k
+
+module _ (leaf : List ℕ) (merge : Option (List ℕ)) (before now : World) (status : Status) (idle : WhereTold before.host.folder AllIdle) (unread : now.source_faults ≡ before.source_faults) (taken : WhereTold before.left (λ bytes. IsTaken bytes now.left)) (lines : List Line)
     (is_script : WhereTold before.left (λ bytes. IsScript kinds.Serve bytes lines)) where
   -- ---- a report
 
   reports_end : (meaning : Meaning Refusal) → CountsIn before.host now.host meaning → Reports meaning before.written now.written before.sink_faults now.sink_faults status → StaysHome before.host.folder now.host.folder
-      → (status ≢ Fault → (status ≡ NoMemory → ¬ NoMerge) → WhereTold before.host.folder (λ f. WhereTold now.host.folder AllIdle)) → Ends NoMerge before now status
-  reports_end (refuses r) counts (inl sent) home idles = ends_by NoMerge before now Refused status _ sent (λ e. cc) (λ e. (counts, unread)) home idles
-  reports_end (refuses r) counts (inr sent) home idles = ends_by NoMerge before now NoMemory status _ sent (λ e. cc) (λ e. (counts, unread)) home idles
-  reports_end (host_failed fault) counts sent home idles = ends_by NoMerge before now Fault status _ sent (λ e. inl counts.0) (λ e. absurd (e refl)) home idles
-  reports_end (store_failed fault) counts sent home idles = ends_by NoMerge before now Fault status _ sent (λ e. inl counts.0) (λ e. absurd (e refl)) home idles
-  reports_end no_memory counts sent home idles = ends_by NoMerge before now NoMemory status _ sent (λ e. cc) (λ e. (counts, unread)) home idles
+      → (status ≢ Fault → (status ≡ NoMemory → ¬ HasMerge merge) → WhereTold before.host.folder (λ f. WhereTold now.host.folder AllIdle)) → Ends (HasMerge merge) before now status
+  reports_end (refuses r) counts (inl sent) home idles = ends_by (HasMerge merge) before now Refused status _ sent (λ e. cc) (λ e. (counts, unread)) home idles
+  reports_end (refuses r) counts (inr sent) home idles = ends_by (HasMerge merge) before now NoMemory status _ sent (λ e. cc) (λ e. (counts, unread)) home idles
+  reports_end (host_failed fault) counts sent home idles = ends_by (HasMerge merge) before now Fault status _ sent (λ e. inl counts.0) (λ e. absurd (e refl)) home idles
+  reports_end (store_failed fault) counts sent home idles = ends_by (HasMerge merge) before now Fault status _ sent (λ e. inl counts.0) (λ e. absurd (e refl)) home idles
+  reports_end no_memory counts sent home idles = ends_by (HasMerge merge) before now NoMemory status _ sent (λ e. cc) (λ e. (counts, unread)) home idles
 
   -- ---- a name that leads to no chain
 
@@ -109,7 +139,7 @@ module _ (leaf : List ℕ) (before now : World) (status : Status) (idle : WhereT
     unlinked_follows : OnlyFollows leaf before.host.folder now.host.folder
     unlinked_follows = stopped leaf before.host now.host (of_chain (meaning_of r)) left_by h.moments
 
-    unlinked_runs : now.drawn ≡ before.drawn → RunsServe leaf before now status
+    unlinked_runs : now.drawn ≡ before.drawn → RunsServe leaf merge before now status
     unlinked_runs undrawn = serves.unopened (record {
       reads = λ bytes told. ((lines, is_script bytes told), taken bytes told);
       printed = unlinked_said (meaning_of r) h.answer (counted leaf before.host now.host (of_chain (meaning_of r)) left_by) reports;
@@ -118,7 +148,7 @@ module _ (leaf : List ℕ) (before now : World) (status : Status) (idle : WhereT
       undrawn = undrawn;
     })
 
-    unlinked_ends : Ends NoMerge before now status
+    unlinked_ends : Ends (HasMerge merge) before now status
     unlinked_ends = reports_end (of_chain (meaning_of r)) (counted leaf before.host now.host (of_chain (meaning_of r)) left_by) reports (home_followed leaf before.host.folder now.host.folder idle unlinked_follows)
         (λ fault none. idle_left leaf before.host now.host (of_chain (meaning_of r)) before.written now.written before.sink_faults now.sink_faults status left_by reports fault)
 
@@ -163,30 +193,38 @@ module _ (leaf : List ℕ) (before now : World) (status : Status) (idle : WhereT
     abbrev IsSent : Status → List ℕ → Type 0
     IsSent meant text = Sent before.written now.written before.sink_faults now.sink_faults meant text status
 
-    -- the leaf names no log
+    -- no file that it may change names a log
     abbrev LogsEnded : Type 0
-    LogsEnded = WhereTold now.host.folder (NoneNamesLog (changed_names false None linked.files))
+    LogsEnded = WhereTold now.host.folder (NoneNamesLog (changed_names false merge linked.files))
+
+    -- a merge has left the chain so, with the leaf's name
+    abbrev MergeLeft : Service → List ℕ → Type 0
+    MergeLeft service name = IfSome merge (IsMergeLeft service.stopped name linked now.host)
 
     -- what was said, and what it says of the session's end
     record HasSaid (service : Service) : Type 0 where
       meant : Status
       text : List ℕ
-      said : IsServeText begun now service meant text
+      said : IsServeText begun merge now service meant text
       sent : IsSent meant text
-      rests : HasServedOut service meant → WhereTold mid.folder (λ g. Rests linked service.history g mid now.host)
-      no_log : HasServedOut service meant → service.has_begun ≡ true → WhereTold mid.folder (λ g. LogsEnded)
-      unchanged : meant ≡ Refused → code.StaysAsItWas mid.folder now.host.folder
+      rests : HasServedOut merge service meant → WhereTold mid.folder (λ g. Rests linked service.history g mid now.host)
+      no_log : HasServedOut merge service meant → service.has_begun ≡ true → WhereTold mid.folder (λ g. LogsEnded)
+      left : HasServedOut merge service meant → service.has_begun ≡ true → WhereTold mid.folder (λ g. MergeLeft service (leaf_name linked))
+      unchanged : meant ≡ Refused → service.has_begun ≡ false → code.StaysAsItWas mid.folder now.host.folder
       rose : meant ≡ Fault → Rose before.host.faults now.host.faults
       quiet : meant ≢ Fault → (now.host.faults ≡ before.host.faults) × (met service ≡ None)
 
     abbrev EndsOf : Service → Type 0
-    EndsOf service = AllByRecursion (IsEndTold (λ next. WhereTold now.host.folder (HasLong (changed_names false None linked.files) next))) (all_told service.guests)
+    EndsOf service = AllByRecursion (IsEndTold (λ next. WhereTold now.host.folder (HasLong (changed_names false merge linked.files) next))) (all_told service.guests)
+
+    abbrev StopOf : Service → Type 0
+    StopOf service = IfSome service.stopped (IsStopTold (λ next. WhereTold now.host.folder (HasLong (changed_names false merge linked.files) next)))
 
     abbrev FaultsOf : Service → Type 0
     FaultsOf service = LastReturned (λ store. FaultsAreTold (all_told service.guests) service.ended (length linked.files) (λ file. 0) store.failed_reads store.failed_changes) mid now.host
 
-    over_by : (service : Service) → (service.has_begun ≡ false → service ≡ no_service) → HasSaid service → WhereTold mid.folder (λ g. OpensIn linked g (λ disk. AreServed (drive_over false disk) lines service.guests service.history service.ended service.broken))
-        → WhereTold mid.folder (λ g. Stands Guests None linked service.history service.broken g mid now.host) → WhereTold mid.folder (λ g. EndsOf service × (service.has_begun ≡ true → FaultsOf service)) → RunsServe leaf before now status
+    over_by : (service : Service) → (service.has_begun ≡ false → service ≡ no_service) → HasSaid service → WhereTold mid.folder (λ g. OpensIn linked g (λ disk. AreServed (is_some merge) (drive_over false disk) lines service.guests service.history service.ended service.broken))
+        → WhereTold mid.folder (λ g. Stands Guests merge linked service.history service.broken g mid now.host) → WhereTold mid.folder (λ g. EndsOf service × StopOf service × (service.has_begun ≡ true → FaultsOf service)) → RunsServe leaf merge before now status
     over_by service none s told_so stands outside = serves.served (record {
       begun = begun;
       taken = taken;
@@ -205,34 +243,28 @@ module _ (leaf : List ℕ) (before now : World) (status : Status) (idle : WhereT
       quiet = s.quiet;
     })
       where
-        keeps : WhereTold before.host.folder (λ f. KeepsServed leaf linked begun.disk lines service s.meant mid now.host)
+        keeps : WhereTold before.host.folder (λ f. KeepsServed leaf linked begun.disk merge lines service s.meant mid now.host)
         keeps f told =
             let g = told_mid leaf linked before.host mid h f told in
             let opens = opens_mid leaf linked before.host mid h f g.0 told g.1 begun.disk (begun.opens f told) in
             let name = name_is leaf linked before.host mid h in
             record {
               told_so = told_so g.0 g.1 begun.disk opens;
-              moments = subst (λ n. Throughout (OpensToFirst (way_by n linked None) begun.disk service.history (open_by service.broken)) mid now.host) name ((stands g.0 g.1).moments begun.disk opens);
-              last = subst (λ n. WhereTold now.host.folder (EachImageOpens (way_by n linked None) (open_last service.history service.broken) (replay sector_size begun.disk service.history))) name ((stands g.0 g.1).last begun.disk opens);
+              moments = subst (λ n. Throughout (OpensToFirst (way_by n linked merge) begun.disk service.history (open_by service.broken)) mid now.host) name ((stands g.0 g.1).moments begun.disk opens);
+              last = subst (λ n. WhereTold now.host.folder (EachImageOpens (way_by n linked merge) (open_last service.history service.broken) (replay sector_size begun.disk service.history))) name ((stands g.0 g.1).last begun.disk opens);
               full = (outside g.0 g.1).0;
-              faults = (outside g.0 g.1).1;
+              stopped = (outside g.0 g.1).1;
+              faults = (outside g.0 g.1).2;
               spared = λ x is. (stands x is).spared;
               idle = λ rested after is. (s.rests rested g.0 g.1).idle g.0 g.1 after is;
               at_rest = λ rested after is. subst (λ n. OpensTo (files_of after) n (replay sector_size begun.disk service.history)) name ((s.rests rested g.0 g.1).opens begun.disk opens after is);
               no_log = λ rested some. s.no_log rested some g.0 g.1;
+              merged = λ rested some. subst (MergeLeft service) name (s.left rested some g.0 g.1);
             }
-
-    shown_known : (known : List (List ℕ)) → WhereTold mid.folder (λ g. ShowIds (contents g) linked.files known) → WhereTold before.host.folder (λ f. ShowIds (contents f) linked.files known)
-    shown_known known shown f told =
-        let g = told_mid leaf linked before.host mid h f told in
-        shown_before (contents f) (contents g.0) leaf linked known (h.links f told) g.2 (shown g.0 g.1)
-
-    draws_for : (unfit : Option (List ℕ)) → JudgesDrawn linked mid.folder before.drawn now.drawn unfit → JudgesDrawn linked before.host.folder before.drawn now.drawn unfit
-    draws_for unfit j = record { unspent = j.unspent; ids = j.ids; draws = j.draws; known = j.known; shown = shown_known j.known j.shown; judged = j.judged }
 
     -- ---- no session ran
 
-    module _ (r : StepsRefusal) (n : NotRunOver Guests None linked mid now.host before.drawn now.drawn r) where
+    module _ (r : StepsRefusal) (n : NotRunOver Guests merge linked mid now.host before.drawn now.drawn r) where
       abbrev RestsNone : Type 0
       RestsNone = WhereTold mid.folder (λ g. Rests linked [] g mid now.host)
 
@@ -242,28 +274,42 @@ module _ (leaf : List ℕ) (before now : World) (status : Status) (idle : WhereT
       counts_all (store_failed fault) c = (rose_all c.rose, c.some, last_all fault.count c.last)
       counts_all no_memory c = c ∙ h.replayed.quiet
 
-      not_rests_by : (meaning : Meaning Refusal) → Reports meaning before.written now.written before.sink_faults now.sink_faults status → {P : Type 0} → UnlessStore meaning (UnlessMerging None meaning P) → status ≢ Fault → P
-      not_rests_by (refuses x) reports p fault = p
-      not_rests_by (host_failed x) reports p fault = p
-      not_rests_by (store_failed x) reports p fault = absurd (fault (is_fault _ _ _ _ _ status reports))
-      not_rests_by no_memory reports p fault = p
+      unless_rule : (k : Option (List ℕ)) (x : Refusal) → {P : Type 0} → UnlessMerging k (refuses x) P → P
+      unless_rule None x p = p
+      unless_rule (Some name) x p = p
+
+      unless_host : (k : Option (List ℕ)) (fault : HostFault) → {P : Type 0} → UnlessMerging {R = Refusal} k (host_failed fault) P → P
+      unless_host None fault p = p
+      unless_host (Some name) fault p = p
+
+      unless_memory : (k : Option (List ℕ)) → {P : Type 0} → UnlessMerging {R = Refusal} k no_memory P → k ≡ None → P
+      unless_memory None p is = p
+      unless_memory (Some name) p is = cc
+
+      not_rests_by : (meaning : Meaning Refusal) → Reports meaning before.written now.written before.sink_faults now.sink_faults status → {P : Type 0} → UnlessStore meaning (UnlessMerging merge meaning P) → status ≢ Fault
+          → (status ≡ NoMemory → merge ≡ None) → P
+      not_rests_by (refuses x) reports p fault memory = unless_rule merge x p
+      not_rests_by (host_failed x) reports p fault memory = unless_host merge x p
+      not_rests_by (store_failed x) reports p fault memory = absurd (fault (is_fault _ _ _ _ _ status reports))
+      not_rests_by no_memory reports p fault memory = unless_memory merge p (memory (sent_is _ _ _ _ NoMemory _ status reports fault))
 
       module _ (reports : Reports (meaning_of_steps r) before.written now.written before.sink_faults now.sink_faults status) where
-        not_run_ends : Ends NoMerge before now status
+        not_run_ends : Ends (HasMerge merge) before now status
         not_run_ends =
-            reports_end (meaning_of_steps r) (counts_all (meaning_of_steps r) n.counts) reports (home_all (λ g is. (n.stands g is).home)) (λ fault none. idle_all (λ g is. (not_rests_by (meaning_of_steps r) reports n.rests fault g is).idle g is))
+            reports_end (meaning_of_steps r) (counts_all (meaning_of_steps r) n.counts) reports (home_all (λ g is. (n.stands g is).home)) (λ fault none. idle_all (λ g is. (not_rests_by (meaning_of_steps r) reports n.rests fault (λ e. none_of merge (none e)) g is).idle g is))
 
         -- what was said, once a status other than a fault leaves the files at rest
-        not_said : (meant : Status) (text : List ℕ) → IsServeText begun now no_service meant text → IsSent meant text → (meant ≢ Fault → RestsNone) → (meant ≡ Refused → code.StaysAsItWas mid.folder now.host.folder)
+        not_said : (meant : Status) (text : List ℕ) → IsServeText begun merge now no_service meant text → IsSent meant text → (meant ≢ Fault → (meant ≡ NoMemory → merge ≡ None) → RestsNone) → (meant ≡ Refused → code.StaysAsItWas mid.folder now.host.folder)
             → (meant ≡ Fault → Rose before.host.faults now.host.faults) → (meant ≢ Fault → now.host.faults ≡ before.host.faults) → HasSaid no_service
         not_said meant text said sent rests unchanged rose quiet = record {
           meant = meant;
           text = text;
           said = said;
           sent = sent;
-          rests = λ rested. rests (rested.1 refl);
+          rests = λ rested. rests (rested.sound.1 refl) (λ memory. elim (rested.begun memory) [ inl none ↦ none | inr some ↦ absurd (let never : false ≡ true = some in cc) ]);
           no_log = λ rested some. let never : false ≡ true = some in cc;
-          unchanged = unchanged;
+          left = λ rested some. let never : false ≡ true = some in cc;
+          unchanged = λ refused begun. unchanged refused;
           rose = rose;
           quiet = λ other. (quiet other, refl);
         }
@@ -271,139 +317,160 @@ module _ (leaf : List ℕ) (before now : World) (status : Status) (idle : WhereT
         not_run_said : HasSaid no_service
         not_run_said = by_refusal r n.counts n.cause n.rests n.unchanged reports
           where
-            by_meaning : (m : Meaning Refusal) → code.CountsRefusal mid now.host m → code.IsNoRule m → UnlessStore m (UnlessMerging None m RestsNone) → Reports m before.written now.written before.sink_faults now.sink_faults status → HasSaid no_service
+            by_meaning : (m : Meaning Refusal) → code.CountsRefusal mid now.host m → code.IsNoRule m → UnlessStore m (UnlessMerging merge m RestsNone) → Reports m before.written now.written before.sink_faults now.sink_faults status → HasSaid no_service
             by_meaning (refuses x) counts none rests sent = absurd none
             by_meaning (host_failed fault) counts none rests sent =
                 not_said Fault _ (steps.unrun refl (of_host (rose_all counts.0) (healthy_all counts.2) (ap (fault_line (codes "host")) counts.1))) sent (λ other. absurd (other refl)) (λ e. cc) (λ e. rose_all counts.0) (λ other. absurd (other refl))
             by_meaning (store_failed fault) counts none rests sent = not_said Fault _ (steps.unrun refl (fault_shown fault counts)) sent (λ other. absurd (other refl)) (λ e. cc) (λ e. rose_all counts.rose) (λ other. absurd (other refl))
-            by_meaning no_memory counts none rests sent = not_said NoMemory (codes "no memory\n") refl sent (λ other. rests) (λ e. cc) (λ e. cc) (λ other. counts ∙ h.replayed.quiet)
+            by_meaning no_memory counts none rests sent = not_said NoMemory (codes "no memory\n") refl sent (λ other memory. unless_memory merge rests (memory refl)) (λ e. cc) (λ e. cc) (λ other. counts ∙ h.replayed.quiet)
 
             -- it was refused by a rule, or memory ran out for the line
-            refused_by : (x : Refusal) → RefusesSession false linked before.host.folder before.drawn now.drawn None x → (now.host.faults ≡ mid.faults) → RestsNone → code.StaysAsItWas mid.folder now.host.folder
+            refused_by : (x : Refusal) → RefusesSession false linked before.host.folder before.drawn now.drawn merge x → (now.host.faults ≡ mid.faults) → UnlessMerging merge (refuses x) RestsNone → code.StaysAsItWas mid.folder now.host.folder
                 → Reports (refuses x) before.written now.written before.sink_faults now.sink_faults status → HasSaid no_service
-            refused_by x so counts rests same (inl sent) = not_said Refused _ (record { refusal = x; text_is = refl; so = so }, refl) sent (λ other. rests) (λ e. same) (λ e. cc) (λ other. counts ∙ h.replayed.quiet)
-            refused_by x so counts rests same (inr sent) = not_said NoMemory (codes "no memory\n") refl sent (λ other. rests) (λ e. cc) (λ e. cc) (λ other. counts ∙ h.replayed.quiet)
+            refused_by x so counts rests same (inl sent) =
+                not_said Refused _ (serves.unbegun refl (record { refusal = x; text_is = refl; so = so })) sent (λ other memory. unless_rule merge x rests) (λ e. same) (λ e. cc) (λ other. counts ∙ h.replayed.quiet)
+            refused_by x so counts rests same (inr sent) = not_said NoMemory (codes "no memory\n") refl sent (λ other memory. unless_rule merge x rests) (λ e. cc) (λ e. cc) (λ other. counts ∙ h.replayed.quiet)
 
-            by_refusal : (x : StepsRefusal) → code.CountsRefusal mid now.host (meaning_of_steps x) → code.HasCauseIn Guests None linked mid.folder before.drawn now.drawn x
-                → UnlessStore (meaning_of_steps x) (UnlessMerging None (meaning_of_steps x) RestsNone) → code.IfRule (meaning_of_steps x) (code.StaysAsItWas mid.folder now.host.folder)
+            by_refusal : (x : StepsRefusal) → code.CountsRefusal mid now.host (meaning_of_steps x) → code.HasCauseIn Guests merge linked mid.folder before.drawn now.drawn x
+                → UnlessStore (meaning_of_steps x) (UnlessMerging merge (meaning_of_steps x) RestsNone) → code.IfRule (meaning_of_steps x) (code.StaysAsItWas mid.folder now.host.folder)
                 → Reports (meaning_of_steps x) before.written now.written before.sink_faults now.sink_faults status → HasSaid no_service
-            by_refusal (refusal.Chain x) counts cause rests same sent = by_meaning (meaning_of_chain x) counts cause rests sent
-            by_refusal (refusal.Spent number) counts cause rests same sent = refused_by (OfCall (Spent number)) (starts.spent number cause.0 cause.1) counts rests same sent
-            by_refusal (refusal.IdUnfit id) counts cause rests same sent = refused_by (IdUnfit id) (starts.id_unfit id (draws_for (Some id) cause)) counts rests same sent
-            by_refusal refusal.ReadOnly counts cause rests same sent = absurd cause
-            by_refusal (refusal.NotInChain name) counts cause rests same sent = absurd cause
-            by_refusal (refusal.IsBase name) counts cause rests same sent = absurd cause
-            by_refusal (refusal.LocatorTooLarge len) counts cause rests same sent = absurd cause
-            by_refusal (refusal.MetadataFull file) counts cause rests same sent = absurd cause
+            by_refusal (refusal.Chain x) counts cause rests same sent = by_meaning (meaning_of_chain x) counts (ruleless false merge linked mid.folder before.drawn now.drawn x cause) rests sent
+            by_refusal (refusal.Spent number) counts cause rests same sent = refused_by (OfCall (Spent number)) (refuses_by leaf linked before.host mid h before.drawn now.drawn false false merge (refusal.Spent number) refl cause (OfCall (Spent number)) refl tt) counts rests same sent
+            by_refusal (refusal.IdUnfit id) counts cause rests same sent = refused_by (IdUnfit id) (refuses_by leaf linked before.host mid h before.drawn now.drawn false false merge (refusal.IdUnfit id) refl cause (IdUnfit id) refl tt) counts rests same sent
+            by_refusal refusal.ReadOnly counts cause rests same sent = refused_by (OfCall ReadOnly) (refuses_by leaf linked before.host mid h before.drawn now.drawn false false merge refusal.ReadOnly refl cause (OfCall ReadOnly) refl tt) counts rests same sent
+            by_refusal (refusal.NotInChain name) counts cause rests same sent = refused_by (NotInChain name) (refuses_by leaf linked before.host mid h before.drawn now.drawn false false merge (refusal.NotInChain name) refl cause (NotInChain name) refl tt) counts rests same sent
+            by_refusal (refusal.IsBase name) counts cause rests same sent = refused_by (IsBase name) (refuses_by leaf linked before.host mid h before.drawn now.drawn false false merge (refusal.IsBase name) refl cause (IsBase name) refl tt) counts rests same sent
+            by_refusal (refusal.LocatorTooLarge len) counts cause rests same sent = refused_by (LocatorTooLarge len) (refuses_by leaf linked before.host mid h before.drawn now.drawn false false merge (refusal.LocatorTooLarge len) refl cause (LocatorTooLarge len) refl tt) counts rests same sent
+            by_refusal (refusal.MetadataFull file) counts cause rests same sent = refused_by (MetadataFull file) (refuses_by leaf linked before.host mid h before.drawn now.drawn false false merge (refusal.MetadataFull file) refl cause (MetadataFull file) refl tt) counts rests same sent
 
-        none_told : (g : List Held) → OpensIn linked g (λ disk. AreServed (drive_over false disk) lines [] [] None None)
+        none_told : (g : List Held) → OpensIn linked g (λ disk. AreServed (is_some merge) (drive_over false disk) lines [] [] None None)
         none_told g disk opens = record { told = tt; order = tt; all = λ p low high. absurd (omega (arith, low, high)); breaker = tt }
 
-        not_run_runs : RunsServe leaf before now status
-        not_run_runs = over_by no_service (λ e. refl) not_run_said (λ g is. none_told g) n.stands (λ g is. (tt, λ some. let never : false ≡ true = some in cc))
+        not_run_runs : RunsServe leaf merge before now status
+        not_run_runs = over_by no_service (λ e. refl) not_run_said (λ g is. none_told g) n.stands (λ g is. (tt, tt, λ some. let never : false ≡ true = some in cc))
 
     -- ---- a session ran
 
-    module _ (run : ScriptRun) (o : ServedOver linked lines run mid now.host before.drawn now.drawn) where
+    module _ (run : MergeRun) (o : ServedOver merge linked lines run mid now.host before.drawn now.drawn) where
       abbrev service : Service
-      service = record { has_begun = true; guests = o.guests; history = o.history; broken = o.broken; refused = run.fault; ended = failed_by run.closed }
+      service = record { has_begun = true; guests = o.guests; history = o.history; broken = o.broken; stopped = stopped_by run.merged; refused = run.run.fault; ended = failed_by run.run.closed }
 
-      abbrev service_by : Option StoreFault → Result (Unit {0}) StoreFault → Service
-      service_by fault closed = record { has_begun = true; guests = o.guests; history = o.history; broken = o.broken; refused = fault; ended = failed_by closed }
+      abbrev service_by : Result (Unit {0}) ChainRefusal → Option StoreFault → Result (Unit {0}) StoreFault → Service
+      service_by merged fault closed = record { has_begun = true; guests = o.guests; history = o.history; broken = o.broken; stopped = stopped_by merged; refused = fault; ended = failed_by closed }
 
-      transcript_is : (fault : Option StoreFault) (closed : Result (Unit {0}) StoreFault) (text : List ℕ) → IsTranscript (names_of linked.files) lines o.guests o.history text → IsServiceText begun now (service_by fault closed) text
-      transcript_is fault closed text w = record { count = o.count; transcript = w; drawn = draws_for None o.drawn }
+      abbrev TextIs : List ℕ → Type 0
+      TextIs text = IsTranscript (names_of linked.files) lines o.guests o.history text
 
-      record Shown (fault : Option StoreFault) (closed : Result (Unit {0}) StoreFault) (said : Status × List ℕ) : Type 0 where
-        so : IsServeText begun now (service_by fault closed) said.0 said.1
-        none : said.0 ≡ Refused → ⊥
+      transcript_is : (merged : Result (Unit {0}) ChainRefusal) (fault : Option StoreFault) (closed : Result (Unit {0}) StoreFault) (text : List ℕ) → TextIs text → IsServiceText begun merge now (service_by merged fault closed) text
+      transcript_is merged fault closed text w = record { count = o.count; transcript = w; drawn = drawn_before leaf linked before.host mid h before.drawn now.drawn false merge false o.drawn }
+
+      record Shown (merged : Result (Unit {0}) ChainRefusal) (fault : Option StoreFault) (closed : Result (Unit {0}) StoreFault) (said : Status × List ℕ) : Type 0 where
+        so : IsServeText begun merge now (service_by merged fault closed) said.0 said.1
         rose : said.0 ≡ Fault → Rose before.host.faults now.host.faults
-        quiet : said.0 ≢ Fault → (now.host.faults ≡ before.host.faults) × (met (service_by fault closed) ≡ None)
+        quiet : said.0 ≢ Fault → (now.host.faults ≡ before.host.faults) × (met (service_by merged fault closed) ≡ None)
 
-      shown_by : {Z : Type 0} (t : Result (String Z) NoRoom) (fault : Option StoreFault) (closed : Result (Unit {0}) StoreFault) → IfOk t (λ text. IsTranscript (names_of linked.files) lines o.guests o.history (string_bytes text))
-          → IfSome fault (IsCounted mid now.host) → IfErr closed (IsCounted mid now.host) → (fault ≡ None → OnOk closed (now.host.faults ≡ mid.faults)) → Shown fault closed (said_of t fault closed)
-      shown_by (Ok text) None (Ok done) w counts ended quiet =
-          record { so = transcript_is None (Ok done) (string_bytes text) w; none = λ e. cc; rose = λ e. cc; quiet = λ other. (quiet refl ∙ h.replayed.quiet, refl) }
-      shown_by (Ok text) None (Err last) w counts ended quiet =
-          record { so = steps.in_lines last refl (transcript_is None (Err last) (string_bytes text) w); none = λ e. cc; rose = λ e. rose_all ended.rose; quiet = λ other. absurd (other refl) }
-      shown_by (Ok text) (Some fault) (Ok done) w counts ended quiet =
-          record { so = steps.in_lines fault refl (transcript_is (Some fault) (Ok done) (string_bytes text) w); none = λ e. cc; rose = λ e. rose_all counts.rose; quiet = λ other. absurd (other refl) }
-      shown_by (Ok text) (Some fault) (Err last) w counts ended quiet =
-          record { so = steps.in_lines last refl (transcript_is (Some fault) (Err last) (string_bytes text) w); none = λ e. cc; rose = λ e. rose_all counts.rose; quiet = λ other. absurd (other refl) }
-      shown_by (Err e) fault (Err last) w counts ended quiet = record { so = steps.no_text last refl (fault_shown last ended) refl; none = λ e. cc; rose = λ e. rose_all ended.rose; quiet = λ other. absurd (other refl) }
-      shown_by (Err e) (Some fault) (Ok done) w counts ended quiet = record { so = steps.no_text fault refl (fault_shown fault counts) refl; none = λ e. cc; rose = λ e. rose_all counts.rose; quiet = λ other. absurd (other refl) }
-      shown_by (Err e) None (Ok done) w counts ended quiet = record { so = refl; none = λ e. cc; rose = λ e. cc; quiet = λ other. (quiet refl ∙ h.replayed.quiet, refl) }
+      -- what stopped a merge whose transcript is whole, if no fault was met
+      abbrev Unfinished : {Z : Type 0} → Result (String Z) NoRoom → Option StoreFault → Result (Unit {0}) StoreFault → Result (Unit {0}) ChainRefusal → Type 0
+      Unfinished t fault closed merged = IfErr merged (λ e. (merge ≢ None) × (fault ≡ None → IfErr closed (λ x. ⊥) → IfErr t (λ x. ⊥) → IsUnfinished (Some e)))
+
+      whole_shown : {Z : Type 0} (text : String Z) (u : Unit {0}) (merged : Result (Unit {0}) ChainRefusal) → TextIs (string_bytes text) → Unfinished (Ok text) None (Ok u) merged → (now.host.faults ≡ before.host.faults) → Shown merged None (Ok u) (end_of merged, string_bytes text)
+      whole_shown text u (Ok done) w stopped quiet = record { so = (transcript_is (Ok done) None (Ok u) (string_bytes text) w, refl, refl); rose = λ e. cc; quiet = λ other. (quiet, refl) }
+      whole_shown text u (Err e) w stopped quiet =
+          record { so = serves.unfinished refl stopped.0 (stopped.1 refl tt tt) (transcript_is (Err e) None (Ok u) (string_bytes text) w); rose = λ e. cc; quiet = λ other. (quiet, refl) }
+
+      stopped_so : (merged : Result (Unit {0}) ChainRefusal) → IfErr merged (λ e. (merge ≢ None) × StopsMerge run.run e) → Unfinished run.run.transcript run.run.fault run.run.closed merged
+      stopped_so (Ok done) k = tt
+      stopped_so (Err e) k = (k.0, unfinished_by run.run e k.1)
+
+      shown_by : {Z : Type 0} (t : Result (String Z) NoRoom) (fault : Option StoreFault) (closed : Result (Unit {0}) StoreFault) (merged : Result (Unit {0}) ChainRefusal) → IfOk t (λ text. TextIs (string_bytes text))
+          → IfSome fault (IsCounted mid now.host) → IfErr closed (IsCounted mid now.host) → (fault ≡ None → OnOk closed (now.host.faults ≡ mid.faults)) → Unfinished t fault closed merged → Shown merged fault closed (said_of (end_of merged) t fault closed)
+      shown_by (Ok text) None (Ok done) merged w counts ended quiet stopped = whole_shown text done merged w stopped (quiet refl ∙ h.replayed.quiet)
+      shown_by (Ok text) None (Err last) merged w counts ended quiet stopped =
+          record { so = steps.in_lines last refl (transcript_is merged None (Err last) (string_bytes text) w); rose = λ e. rose_all ended.rose; quiet = λ other. absurd (other refl) }
+      shown_by (Ok text) (Some fault) (Ok done) merged w counts ended quiet stopped =
+          record { so = steps.in_lines fault refl (transcript_is merged (Some fault) (Ok done) (string_bytes text) w); rose = λ e. rose_all counts.rose; quiet = λ other. absurd (other refl) }
+      shown_by (Ok text) (Some fault) (Err last) merged w counts ended quiet stopped =
+          record { so = steps.in_lines last refl (transcript_is merged (Some fault) (Err last) (string_bytes text) w); rose = λ e. rose_all counts.rose; quiet = λ other. absurd (other refl) }
+      shown_by (Err e) fault (Err last) merged w counts ended quiet stopped = record { so = steps.no_text last refl (fault_shown last ended) refl; rose = λ e. rose_all ended.rose; quiet = λ other. absurd (other refl) }
+      shown_by (Err e) (Some fault) (Ok done) merged w counts ended quiet stopped = record { so = steps.no_text fault refl (fault_shown fault counts) refl; rose = λ e. rose_all counts.rose; quiet = λ other. absurd (other refl) }
+      shown_by (Err e) None (Ok done) merged w counts ended quiet stopped = record { so = refl; rose = λ e. cc; quiet = λ other. (quiet refl ∙ h.replayed.quiet, refl) }
 
       -- where no fault was meant the session ended
-      closed_well : {Z : Type 0} (t : Result (String Z) NoRoom) (fault : Option StoreFault) (closed : Result (Unit {0}) StoreFault) {P : Type 0} → Sent before.written now.written before.sink_faults now.sink_faults (said_of t fault closed).0 (said_of t fault closed).1 status
+      closed_well : {Z : Type 0} (end : Status) (t : Result (String Z) NoRoom) (fault : Option StoreFault) (closed : Result (Unit {0}) StoreFault) {P : Type 0} → Sent before.written now.written before.sink_faults now.sink_faults (said_of end t fault closed).0 (said_of end t fault closed).1 status
           → OnOk closed P → status ≢ Fault → P
-      closed_well (Ok text) None (Ok done) sent p none = p
-      closed_well (Ok text) None (Err fault) sent p none = absurd (none (is_fault _ _ _ _ _ status sent))
-      closed_well (Ok text) (Some fault) closed sent p none = absurd (none (is_fault _ _ _ _ _ status sent))
-      closed_well (Err e) fault (Err last) sent p none = absurd (none (is_fault _ _ _ _ _ status sent))
-      closed_well (Err e) (Some fault) (Ok done) sent p none = p
-      closed_well (Err e) None (Ok done) sent p none = p
+      closed_well end (Ok text) None (Ok done) sent p none = p
+      closed_well end (Ok text) None (Err fault) sent p none = absurd (none (is_fault _ _ _ _ _ status sent))
+      closed_well end (Ok text) (Some fault) closed sent p none = absurd (none (is_fault _ _ _ _ _ status sent))
+      closed_well end (Err e) fault (Err last) sent p none = absurd (none (is_fault _ _ _ _ _ status sent))
+      closed_well end (Err e) (Some fault) (Ok done) sent p none = p
+      closed_well end (Err e) None (Ok done) sent p none = p
 
-      module _ (sent : Sent before.written now.written before.sink_faults now.sink_faults (run_said run).0 (run_said run).1 status) where
+      module _ (sent : Sent before.written now.written before.sink_faults now.sink_faults (run_said (end_of run.merged) run.run).0 (run_said (end_of run.merged) run.run).1 status) where
         in_mid : (P : List Held → Type 0) (g : List Held) → mid.folder ≡ Some g → P g → WhereTold mid.folder P
         in_mid P g g_is p x is = subst P (same_Some g x (sym g_is ∙ is)) p
 
         said_all : HasSaid service
         said_all =
-            let shown = shown_by run.transcript run.fault run.closed o.transcript o.counted o.ended o.quiet in
+            let shown = shown_by run.run.transcript run.run.fault run.run.closed run.merged o.transcript o.counted o.ended o.quiet (stopped_so run.merged o.stopped) in
             record {
-              meant = (run_said run).0;
-              text = (run_said run).1;
+              meant = (run_said (end_of run.merged) run.run).0;
+              text = (run_said (end_of run.merged) run.run).1;
               said = shown.so;
               sent = sent;
-              rests = λ rested g is. ended_well run.closed (o.served g is).rests rested.0;
-              no_log = λ rested some g is. ended_well run.closed (o.served g is).no_log rested.0;
-              unchanged = λ e. absurd (shown.none e);
+              rests = λ rested g is. ended_well run.run.closed (o.served g is).rests rested.sound.0;
+              no_log = λ rested some g is. ended_well run.run.closed (o.served g is).no_log rested.sound.0;
+              left = λ rested some g is. ended_well run.run.closed (o.served g is).left rested.sound.0;
+              unchanged = λ e begun. let never : true ≡ false = begun in cc;
               rose = shown.rose;
               quiet = shown.quiet;
             }
 
-        run_runs : RunsServe leaf before now status
-        run_runs = over_by service (λ e. let never : true ≡ false = e in cc) said_all (λ g is. (o.served g is).told_so) (λ g is. (o.served g is).stands) (λ g is. ((o.served g is).full, λ some. (o.served g is).faults))
+        run_runs : RunsServe leaf merge before now status
+        run_runs = over_by service (λ e. let never : true ≡ false = e in cc) said_all (λ g is. (o.served g is).told_so) (λ g is. (o.served g is).stands) (λ g is. ((o.served g is).full, (o.served g is).stopped, λ some. (o.served g is).faults))
 
-        run_ends : Ends NoMerge before now status
+        run_ends : Ends (HasMerge merge) before now status
         run_ends =
-            ends_all run.transcript run.fault run.closed o.counted o.ended o.quiet sent (home_all (λ g is. (o.served g is).stands.home))
-            (λ none memory. idle_all (λ g is. (closed_well run.transcript run.fault run.closed sent (o.served g is).rests none).idle g is))
+            ends_all (end_of run.merged) (ended_so run.merged) run.run.transcript run.run.fault run.run.closed o.counted o.ended o.quiet sent (home_all (λ g is. (o.served g is).stands.home))
+            (λ none memory. idle_all (λ g is. (closed_well (end_of run.merged) run.run.transcript run.run.fault run.run.closed sent (o.served g is).rests none).idle g is))
           where
-            ends_all : {Z : Type 0} (t : Result (String Z) NoRoom) (fault : Option StoreFault) (closed : Result (Unit {0}) StoreFault) → IfSome fault (IsCounted mid now.host) → IfErr closed (IsCounted mid now.host) → (fault ≡ None → OnOk closed (now.host.faults ≡ mid.faults))
-                → Sent before.written now.written before.sink_faults now.sink_faults (said_of t fault closed).0 (said_of t fault closed).1 status → StaysHome before.host.folder now.host.folder
-                → (status ≢ Fault → (status ≡ NoMemory → ¬ NoMerge) → WhereTold before.host.folder (λ f. WhereTold now.host.folder AllIdle)) → Ends NoMerge before now status
-            ends_all (Ok text) None (Ok done) counts ended quiet sent home idles = ends_by NoMerge before now Done status _ sent (λ e. cc) (λ e. (quiet refl ∙ h.replayed.quiet, unread)) home idles
-            ends_all (Ok text) None (Err last) counts ended quiet sent home idles = ends_by NoMerge before now Fault status _ sent (λ e. inl (rose_all ended.rose)) (λ e. absurd (e refl)) home idles
-            ends_all (Ok text) (Some fault) closed counts ended quiet sent home idles = ends_by NoMerge before now Fault status _ sent (λ e. inl (rose_all counts.rose)) (λ e. absurd (e refl)) home idles
-            ends_all (Err x) fault (Err last) counts ended quiet sent home idles = ends_by NoMerge before now Fault status _ sent (λ e. inl (rose_all ended.rose)) (λ e. absurd (e refl)) home idles
-            ends_all (Err x) (Some fault) (Ok done) counts ended quiet sent home idles = ends_by NoMerge before now Fault status _ sent (λ e. inl (rose_all counts.rose)) (λ e. absurd (e refl)) home idles
-            ends_all (Err x) None (Ok done) counts ended quiet sent home idles = ends_by NoMerge before now NoMemory status _ sent (λ e. cc) (λ e. (quiet refl ∙ h.replayed.quiet, unread)) home idles
+            ended_so : (merged : Result (Unit {0}) ChainRefusal) → end_of merged ≢ Fault
+            ended_so (Ok done) = λ e. cc
+            ended_so (Err refusal) = λ e. cc
+
+            ends_all : {Z : Type 0} (end : Status) → end ≢ Fault → (t : Result (String Z) NoRoom) (fault : Option StoreFault) (closed : Result (Unit {0}) StoreFault) → IfSome fault (IsCounted mid now.host) → IfErr closed (IsCounted mid now.host) → (fault ≡ None → OnOk closed (now.host.faults ≡ mid.faults))
+                → Sent before.written now.written before.sink_faults now.sink_faults (said_of end t fault closed).0 (said_of end t fault closed).1 status → StaysHome before.host.folder now.host.folder
+                → (status ≢ Fault → (status ≡ NoMemory → ¬ HasMerge merge) → WhereTold before.host.folder (λ f. WhereTold now.host.folder AllIdle)) → Ends (HasMerge merge) before now status
+            ends_all end sound (Ok text) None (Ok done) counts ended quiet sent home idles = ends_by (HasMerge merge) before now end status _ sent (λ e. absurd (sound e)) (λ e. (quiet refl ∙ h.replayed.quiet, unread)) home idles
+            ends_all end sound (Ok text) None (Err last) counts ended quiet sent home idles = ends_by (HasMerge merge) before now Fault status _ sent (λ e. inl (rose_all ended.rose)) (λ e. absurd (e refl)) home idles
+            ends_all end sound (Ok text) (Some fault) closed counts ended quiet sent home idles = ends_by (HasMerge merge) before now Fault status _ sent (λ e. inl (rose_all counts.rose)) (λ e. absurd (e refl)) home idles
+            ends_all end sound (Err x) fault (Err last) counts ended quiet sent home idles = ends_by (HasMerge merge) before now Fault status _ sent (λ e. inl (rose_all ended.rose)) (λ e. absurd (e refl)) home idles
+            ends_all end sound (Err x) (Some fault) (Ok done) counts ended quiet sent home idles = ends_by (HasMerge merge) before now Fault status _ sent (λ e. inl (rose_all counts.rose)) (λ e. absurd (e refl)) home idles
+            ends_all end sound (Err x) None (Ok done) counts ended quiet sent home idles = ends_by (HasMerge merge) before now NoMemory status _ sent (λ e. cc) (λ e. (quiet refl ∙ h.replayed.quiet, unread)) home idles
 
   -- ---- whatever the answer
 
-  both : (result : Result ScriptRun StepsRefusal) → LeafIsServed leaf lines before.host now.host before.drawn now.drawn result → ReportsRun result before.written now.written before.sink_faults now.sink_faults status
-      → RunsServe leaf before now status × Ends NoMerge before now status
+  both : (result : Result MergeRun StepsRefusal) → LeafIsServed leaf merge lines before.host now.host before.drawn now.drawn result → ReportsServed result before.written now.written before.sink_faults now.sink_faults status
+      → RunsServe leaf merge before now status × Ends (HasMerge merge) before now status
   both result (code_guests.no_room is same undrawn) reports =
-      let sent : Sent before.written now.written before.sink_faults now.sink_faults NoMemory (codes "no memory\n") status = subst (λ x. ReportsRun x before.written now.written before.sink_faults now.sink_faults status) is reports in (
-        serves.unopened (not_opened kinds.Serve leaf NoMerge before now status same undrawn NoMemory (codes "no memory\n") sent refl (λ bytes told. ((lines, is_script bytes told), taken bytes told))),
-        unread_ends kinds.Serve leaf NoMerge before now status same undrawn idle NoMemory (codes "no memory\n") sent (λ e. cc) (λ e. unread),
+      let sent : Sent before.written now.written before.sink_faults now.sink_faults NoMemory (codes "no memory\n") status = subst (λ x. ReportsServed x before.written now.written before.sink_faults now.sink_faults status) is reports in (
+        serves.unopened (not_opened kinds.Serve leaf (HasMerge merge) before now status same undrawn NoMemory (codes "no memory\n") sent refl (λ bytes told. ((lines, is_script bytes told), taken bytes told))),
+        unread_ends kinds.Serve leaf (HasMerge merge) before now status same undrawn idle NoMemory (codes "no memory\n") sent (λ e. cc) (λ e. unread),
       )
   both result (code_guests.unlinked r is none undrawn) reports =
-      let said : Reports (of_chain (meaning_of r)) before.written now.written before.sink_faults now.sink_faults status = subst (λ x. ReportsRun x before.written now.written before.sink_faults now.sink_faults status) is reports in
+      let said : Reports (of_chain (meaning_of r)) before.written now.written before.sink_faults now.sink_faults status = subst (λ x. ReportsServed x before.written now.written before.sink_faults now.sink_faults status) is reports in
       (unlinked_runs r none said undrawn, unlinked_ends r none said)
   both (Ok run) (code_guests.over mid linked h over not_run) reports = (run_runs mid linked h run over reports, run_ends mid linked h run over reports)
   both (Err r) (code_guests.over mid linked h over not_run) reports = (not_run_runs mid linked h r not_run reports, not_run_ends mid linked h r not_run reports)
 
-  pub leaf_serves : (result : Result ScriptRun StepsRefusal) → LeafIsServed leaf lines before.host now.host before.drawn now.drawn result → ReportsRun result before.written now.written before.sink_faults now.sink_faults status → RunsServe leaf before now status
+  pub leaf_serves : (result : Result MergeRun StepsRefusal) → LeafIsServed leaf merge lines before.host now.host before.drawn now.drawn result → ReportsServed result before.written now.written before.sink_faults now.sink_faults status → RunsServe leaf merge before now status
   leaf_serves result h reports = (both result h reports).0
 
-  pub leaf_serves_ends : (result : Result ScriptRun StepsRefusal) → LeafIsServed leaf lines before.host now.host before.drawn now.drawn result → ReportsRun result before.written now.written before.sink_faults now.sink_faults status → Ends NoMerge before now status
+  pub leaf_serves_ends : (result : Result MergeRun StepsRefusal) → LeafIsServed leaf merge lines before.host now.host before.drawn now.drawn result → ReportsServed result before.written now.written before.sink_faults now.sink_faults status → Ends (HasMerge merge) before now status
   leaf_serves_ends result h reports = (both result h reports).1
 
 -- a run over the leaf's name, by what its arguments are
-pub serve_told : (named leaf : List ℕ) (lines script : List Line) (old new : Hosted) (before now : Option (List (List ℕ))) (result : Result ScriptRun StepsRefusal) → named ≡ leaf → lines ≡ script → LeafIsServed named lines old new before now result
-    → LeafIsServed leaf script old new before now result
-serve_told named leaf lines script old new before now result a b h =
-    subst (λ n. LeafIsServed n script old new before now result) a (subst (λ ls. LeafIsServed named ls old new before now result) b h)
+pub serve_told : (named leaf : List ℕ) (source merge : Option (List ℕ)) (lines script : List Line) (old new : Hosted) (before now : Option (List (List ℕ))) (result : Result MergeRun StepsRefusal) → named ≡ leaf → source ≡ merge → lines ≡ script
+    → LeafIsServed named source lines old new before now result → LeafIsServed leaf merge script old new before now result
+serve_told named leaf source merge lines script old new before now result a b c h =
+    subst (λ n. LeafIsServed n merge script old new before now result) a
+    (subst (λ k. LeafIsServed named k script old new before now result) b (subst (λ ls. LeafIsServed named source ls old new before now result) c h))

@@ -18,12 +18,6 @@ use Rattle.chain_model.specs.Files.{OpensTo}
 use Rattle.chain_model.specs.Members.{disk_of}
 use Rattle.link_rules.specs.Causes.{meaning_of}
 use Rattle.link_rules.specs.Chains.{Links, is_among, names_of}
-use Rattle.link_rules.specs.Effects.{Replays, linked_names}
-use Rattle.merge_plan.specs.LeafMerging.{AreOfLeaf, LeafFiles}
-use Rattle.merge_plan.specs.Merging.{MergeFiles}
-use Rattle.merge_plan.specs.declared.drawing.MergeIds.{MergeIds}
-use Rattle.merge_plan.specs.declared.leaf_drawing.LeafMergeIds.{LeafMergeIds}
-use Rattle.chain_core.specs.MergeStarting.{chain_files}
 use Rattle.link_rules.specs.Chains as chains
 use Rattle.link_rules.specs.Folders.{AllIdle, ReturnsHealthy, contents}
 use Rattle.link_rules.specs.declared.linked.Linked.{Linked}
@@ -44,7 +38,6 @@ use Rattle.vhdx_app.specs.Causes.{meaning_of_chain, of_chain}
 use Rattle.vhdx_app.specs.Commands.{LeavesFollowedBy, Reports}
 use Rattle.vhdx_app.specs.Crashes.{AreSpared, EachImageOpens, HasLong, NoneNamesLog, OpensToFirst}
 use Rattle.vhdx_app.specs.Folders.{AllHome, LastReturned, LeadsTo, OnlyFollows, files_of}
-use Rattle.vhdx_app.specs.Making.{ShowIds}
 use Rattle.printing.specs.Sent.{Sent, cut, whole}
 use Rattle.vhdx_app.specs.Printed.{Prints, ShowsFault, of_host, of_store}
 use Rattle.vhdx_app.specs.Printed as printed
@@ -52,21 +45,19 @@ use Rattle.vhdx_app.specs.Refusals.{IdUnfit, IsBase, LocatorTooLarge, MetadataFu
 use Rattle.vhdx_app.specs.Runs.{Ends, HasMerge}
 use Rattle.vhdx_app.specs.Sessions.{IsCounted, IsFollowedTo, IsNotFollowed, LeafIsRun, NotRunOver, OpensIn, RanIn, ReportsRun, Rests, RunOver, Stands, UnlessMerging, UnlessStore, is_reading, leaf_name, meaning_of_steps, mode_of, run_said, said_of}
 use Rattle.vhdx_app.specs.Sessions as code
-use Rattle.vhdx_app.specs.Starts.{DrawsFor, IsFullIn, IsLeafFullIn, JudgesDrawn, JudgesLeafMerge, JudgesMerge, JudgesMergeOf, RefusesLeafMerge, RefusesMerge, RefusesSession, StandsSo, changed_names, is_leaf}
-use Rattle.vhdx_app.specs.Starts as starts
+use Rattle.vhdx_app.specs.Starts.{DrawsFor, RefusesSession, changed_names}
 use Rattle.vhdx_app.specs.Steps.{HasRested, IsDropped, IsStepsText, IsTold, IsTranscript, IsUnopenedText, Keeps, Opened, Ran, RunsSteps, begun_course, drive_over, met, way_by}
 use Rattle.vhdx_app.specs.Steps as steps
 use Rattle.vhdx_app.specs.Worlds.{World}
-use Rattle.vhdx_app.specs.declared.refusal.ChainRefusal.{ChainRefusal}
 use Rattle.vhdx_app.specs.declared.refusal.StepsRefusal.{StepsRefusal}
 use Rattle.vhdx_app.specs.declared.refusal.StepsRefusal.TheVariants as refusal
 use Rattle.printing.specs.declared.status.Status.{Status}
 use Rattle.printing.specs.declared.status.Status.TheVariants.{Done, Fault, NoMemory, Refused}
 use Rattle.link_rules.proofs.Chained.{links_are_chains}
+use Rattle.vhdx_app.proofs.Before.{drawn_before, refuses_by, ruleless}
 use Rattle.vhdx_app.proofs.Behind.{name_is, opens_mid, told_mid}
-use Rattle.vhdx_app.proofs.Followed.{has_followed, order_stopped, shown_before, stands_before}
+use Rattle.vhdx_app.proofs.Followed.{has_followed, order_stopped}
 use Rattle.vhdx_app.proofs.Home.{StaysHome, home_followed}
-use Rattle.vhdx_app.proofs.MergePlaces.{child_in, named_among, source_in}
 use Rattle.vhdx_app.proofs.Left.{counted, followed, idle_left, stopped}
 use Rattle.vhdx_app.proofs.Said.{CountsIn, counts_as, is_fault}
 use Rattle.vhdx_app.proofs.Stepped.{ends_by, not_opened, unread_ends}
@@ -97,20 +88,6 @@ never_told x e = cc
 none_lacked : (told : List Told) → AllByRecursion HasMemory told → AllByRecursion (λ (t : Told). t ≢ Err NoMemoryLeft) told
 none_lacked [] all = tt
 none_lacked (t ∷ told) all = (λ e. subst HasMemory e all.0, none_lacked told all.1)
-
--- a rule refuses it
-abbrev IsNoChain : StepsRefusal → Type 0
-IsNoChain (refusal.Chain x) = ⊥
-IsNoChain other = Unit {0}
-
-ruleless : (ro : Bool) (merge : Option (List ℕ)) (linked : Linked) (folder : Option (List Held)) (before now : Option (List (List ℕ))) (x : ChainRefusal) → code.HasCauseIn (mode_of ro) merge linked folder before now (refusal.Chain x) → code.IsNoRule (meaning_of_chain x)
-ruleless ro None linked folder before now x c = c
-ruleless false (Some name) linked folder before now x c = by_kind (is_leaf linked.files name) c
-  where
-    by_kind : (b : Bool) → code.HasMergeCauseOf b linked name folder before now (refusal.Chain x) → code.IsNoRule (meaning_of_chain x)
-    by_kind true c = c
-    by_kind false c = c
-ruleless true (Some name) linked folder before now x c = c
 
 module _ (leaf : List ℕ) (merge : Option (List ℕ)) (ro : Bool) (before now : World) (status : Status) (idle : WhereTold before.host.folder AllIdle) (unread : now.source_faults ≡ before.source_faults) (taken : WhereTold before.left (λ bytes. IsTaken bytes now.left)) (lines : List Line)
     (is_script : WhereTold before.left (λ bytes. IsScript kinds.Steps bytes lines)) where
@@ -270,127 +247,8 @@ module _ (leaf : List ℕ) (merge : Option (List ℕ)) (ro : Bool) (before now :
               dropped = λ rested ended. subst (λ n. IfSome merge (IsDropped n linked now.host)) name (s.dropped rested ended g.0 g.1);
             }
 
-    shown_known : (known : List (List ℕ)) → WhereTold mid.folder (λ g. ShowIds (contents g) linked.files known) → WhereTold before.host.folder (λ f. ShowIds (contents f) linked.files known)
-    shown_known known shown f told =
-        let g = told_mid leaf linked before.host mid h f told in
-        shown_before (contents f) (contents g.0) leaf linked known (h.links f told) g.2 (shown g.0 g.1)
-
-    draws_for : (unfit : Option (List ℕ)) → JudgesDrawn linked mid.folder before.drawn now.drawn unfit → JudgesDrawn linked before.host.folder before.drawn now.drawn unfit
-    draws_for unfit j = record { unspent = j.unspent; ids = j.ids; draws = j.draws; known = j.known; shown = shown_known j.known j.shown; judged = j.judged }
-
-    -- ---- what refuses a session
-
-    room_before : (file : LinkedFile) (P : List ℕ → Type 0) → is_among file.name (names_of linked.files) ≡ true → WhereTold mid.folder (λ g. StandsSo (contents g) file.name P) → WhereTold before.host.folder (λ f. StandsSo (contents f) file.name P)
-    room_before file P among so f told =
-        let g = told_mid leaf linked before.host mid h f told in
-        stands_before (contents f) (contents g.0) leaf linked file.name P g.2 among (so g.0 g.1)
-
-    judges_for : (name : List ℕ) (unfit : Option (List ℕ)) → JudgesMerge linked name mid.folder before.drawn now.drawn unfit → JudgesMerge linked name before.host.folder before.drawn now.drawn unfit
-    judges_for name unfit j = record {
-      m = j.m;
-      ids = j.ids;
-      unspent = j.unspent;
-      begun = j.begun;
-      short = j.short;
-      source = room_before j.m.source _ (source_in linked.files j.m j.begun.files_are.files_are) j.source;
-      child = room_before j.m.child _ (child_in linked.files j.m j.begun.files_are.files_are) j.child;
-      known = j.known;
-      shown = shown_known j.known j.shown;
-      judged = j.judged;
-    }
-
-    full_before : (m : MergeFiles) (ids : MergeIds) (file : List ℕ) → linked.files ≡ chain_files m → WhereTold mid.folder (λ g. IsFullIn (contents g) m ids file) → WhereTold before.host.folder (λ f. IsFullIn (contents f) m ids file)
-    full_before m ids file are full f told = let g = told_mid leaf linked before.host mid h f told in by_full g.0 g.2 file (full g.0 g.1) where
-      by_full : (g : List Held) → Replays (linked_names linked) (contents f) (contents g) → (file : List ℕ) → IsFullIn (contents g) m ids file → IsFullIn (contents f) m ids file
-      by_full g replays _ (starts.in_source lacks) = starts.in_source (stands_before (contents f) (contents g) leaf linked m.source.name _ replays (source_in linked.files m are) lacks)
-      by_full g replays _ (starts.in_child has lacks) =
-          starts.in_child (stands_before (contents f) (contents g) leaf linked m.source.name _ replays (source_in linked.files m are) has)
-          (stands_before (contents f) (contents g) leaf linked m.child.name _ replays (child_in linked.files m are) lacks)
-
-    -- with the leaf's merge
-
-    source_there : (m : LeafFiles) → AreOfLeaf linked.files m → is_among m.source.name (names_of linked.files) ≡ true
-    source_there m are = named_among [] m.source (m.target ∷ m.below) linked.files are
-
-    leaf_judges : (unfit : Option (List ℕ)) → JudgesLeafMerge linked mid.folder before.drawn now.drawn unfit → JudgesLeafMerge linked before.host.folder before.drawn now.drawn unfit
-    leaf_judges unfit j = record {
-      m = j.m;
-      ids = j.ids;
-      unspent = j.unspent;
-      begun = j.begun;
-      short = j.short;
-      link = room_before j.m.source _ (source_there j.m j.begun.files_are) j.link;
-      retired = room_before j.m.source _ (source_there j.m j.begun.files_are) j.retired;
-      known = j.known;
-      shown = shown_known j.known j.shown;
-      judged = j.judged;
-    }
-
-    leaf_full_before : (m : LeafFiles) (ids : LeafMergeIds) (file : List ℕ) → AreOfLeaf linked.files m → WhereTold mid.folder (λ g. IsLeafFullIn (contents g) m ids file) → WhereTold before.host.folder (λ f. IsLeafFullIn (contents f) m ids file)
-    leaf_full_before m ids file are full f told = let g = told_mid leaf linked before.host mid h f told in by_full g.0 g.2 file (full g.0 g.1) where
-      by_full : (g : List Held) → Replays (linked_names linked) (contents f) (contents g) → (file : List ℕ) → IsLeafFullIn (contents g) m ids file → IsLeafFullIn (contents f) m ids file
-      by_full g replays _ (starts.for_link lacks) = starts.for_link (stands_before (contents f) (contents g) leaf linked m.source.name _ replays (source_there m are) lacks)
-      by_full g replays _ (starts.for_name has lacks) =
-          starts.for_name (stands_before (contents f) (contents g) leaf linked m.source.name _ replays (source_there m are) has)
-          (stands_before (contents f) (contents g) leaf linked m.source.name _ replays (source_there m are) lacks)
-
-    abbrev LeafRefused : Refusal → Type 0
-    LeafRefused r = RefusesLeafMerge linked before.host.folder before.drawn now.drawn r
-
-    abbrev Refused_ : Option (List ℕ) → Refusal → Type 0
-    Refused_ k r = RefusesSession ro linked before.host.folder before.drawn now.drawn k r
-
-    leaf_merge_refused : (x : StepsRefusal) → code.HasLeafMergeCause linked mid.folder before.drawn now.drawn x → (r : Refusal) → cause_in (meaning_of_steps x) ≡ Some r → IsNoChain x → LeafRefused r
-    leaf_merge_refused (refusal.Chain x) c r is none = absurd none
-    leaf_merge_refused (refusal.Spent number) c r is none = subst LeafRefused (same_Some _ r is) (starts.leaf_spent number c.0 c.1)
-    leaf_merge_refused (refusal.IdUnfit id) c r is none = subst LeafRefused (same_Some _ r is) (starts.leaf_unfit id (leaf_judges (Some id) c))
-    leaf_merge_refused refusal.ReadOnly c r is none = absurd c
-    leaf_merge_refused (refusal.NotInChain other) c r is none = absurd c
-    leaf_merge_refused (refusal.IsBase other) c r is none = absurd c
-    leaf_merge_refused (refusal.LocatorTooLarge len) c r is none = subst LeafRefused (same_Some _ r is) (starts.link_too_large c.0 c.1 len c.2.unspent c.2.begun c.3)
-    leaf_merge_refused (refusal.MetadataFull file) c r is none = subst LeafRefused (same_Some _ r is) (starts.leaf_full c.0 c.1 file c.2.unspent c.2.begun c.3 (leaf_full_before c.0 c.1 file c.2.begun.files_are c.4))
-
-    leaf_refused : (x : StepsRefusal) → code.HasLeafCause linked mid.folder before.drawn now.drawn x → (r : Refusal) → cause_in (meaning_of_steps x) ≡ Some r → IsNoChain x → Refused_ None r
-    leaf_refused (refusal.Chain x) c r is none = absurd none
-    leaf_refused (refusal.Spent number) c r is none = subst (Refused_ None) (same_Some _ r is) (starts.spent number c.0 c.1)
-    leaf_refused (refusal.IdUnfit id) c r is none = subst (Refused_ None) (same_Some _ r is) (starts.id_unfit id (draws_for (Some id) c))
-    leaf_refused refusal.ReadOnly c r is none = absurd c
-    leaf_refused (refusal.NotInChain name) c r is none = absurd c
-    leaf_refused (refusal.IsBase name) c r is none = absurd c
-    leaf_refused (refusal.LocatorTooLarge len) c r is none = absurd c
-    leaf_refused (refusal.MetadataFull file) c r is none = absurd c
-
-    abbrev OtherRefused : List ℕ → Refusal → Type 0
-    OtherRefused name r = RefusesMerge linked name before.host.folder before.drawn now.drawn r
-
-    merge_refused : (name : List ℕ) (x : StepsRefusal) → code.HasMergeCause linked name mid.folder before.drawn now.drawn x → (r : Refusal) → cause_in (meaning_of_steps x) ≡ Some r → IsNoChain x → OtherRefused name r
-    merge_refused name (refusal.Chain x) c r is none = absurd none
-    merge_refused name (refusal.Spent number) c r is none = subst (OtherRefused name) (same_Some _ r is) (starts.is_spent number c.0 c.1)
-    merge_refused name (refusal.IdUnfit id) c r is none = subst (OtherRefused name) (same_Some _ r is) (starts.is_unfit id (judges_for name (Some id) c))
-    merge_refused name refusal.ReadOnly c r is none = absurd c
-    merge_refused name (refusal.NotInChain other) c r is none = subst (OtherRefused name) (ap NotInChain (sym c.same) ∙ same_Some _ r is) (starts.not_in_chain c.unspent c.so c.undrawn)
-    merge_refused name (refusal.IsBase other) c r is none = subst (OtherRefused name) (ap IsBase (sym c.same) ∙ same_Some _ r is) (starts.is_base c.unspent c.so c.undrawn)
-    merge_refused name (refusal.LocatorTooLarge len) c r is none = subst (OtherRefused name) (same_Some _ r is) (starts.locator_too_large c.0 c.1 len c.2.unspent c.2.begun c.3)
-    merge_refused name (refusal.MetadataFull file) c r is none = subst (OtherRefused name) (same_Some _ r is) (starts.metadata_full c.0 c.1 file c.2.unspent c.2.begun c.3 (full_before c.0 c.1 file c.2.begun.files_are.files_are c.4))
-
-    barred_refused : (name : List ℕ) (x : StepsRefusal) → ro ≡ true → code.IsBarred before.drawn now.drawn x → (r : Refusal) → cause_in (meaning_of_steps x) ≡ Some r → IsNoChain x → Refused_ (Some name) r
-    barred_refused name (refusal.Chain x) e c r is none = absurd none
-    barred_refused name refusal.ReadOnly e c r is none = subst (Refused_ (Some name)) (same_Some _ r is) (starts.merge_in_reading name e c)
-    barred_refused name (refusal.Spent number) e c r is none = absurd c
-    barred_refused name (refusal.IdUnfit id) e c r is none = absurd c
-    barred_refused name (refusal.NotInChain other) e c r is none = absurd c
-    barred_refused name (refusal.IsBase other) e c r is none = absurd c
-    barred_refused name (refusal.LocatorTooLarge len) e c r is none = absurd c
-    barred_refused name (refusal.MetadataFull file) e c r is none = absurd c
-
-    refuses_by : (b : Bool) (k : Option (List ℕ)) (x : StepsRefusal) → ro ≡ b → code.HasCauseIn (mode_of b) k linked mid.folder before.drawn now.drawn x → (r : Refusal) → cause_in (meaning_of_steps x) ≡ Some r → IsNoChain x → Refused_ k r
-    refuses_by b None x e c r is none = leaf_refused x c r is none
-    refuses_by false (Some name) x e c r is none = either_refused (is_leaf linked.files name) refl c
-      where
-        either_refused : (b : Bool) → is_leaf linked.files name ≡ b → code.HasMergeCauseOf b linked name mid.folder before.drawn now.drawn x → Refused_ (Some name) r
-        either_refused true kind c = starts.refuses_leaf_merge name r e kind (leaf_merge_refused x c r is none)
-        either_refused false kind c = starts.refuses_merge name r e kind (merge_refused name x c r is none)
-    refuses_by true (Some name) x e c r is none = barred_refused name x e c r is none
+    abbrev Refused_ : Refusal → Type 0
+    Refused_ r = RefusesSession ro linked before.host.folder before.drawn now.drawn merge r
 
     -- ---- no session ran
 
@@ -474,7 +332,7 @@ module _ (leaf : List ℕ) (merge : Option (List ℕ)) (ro : Bool) (before now :
             by_meaning no_memory counts none rests sent = not_said NoMemory (codes "no memory\n") (λ e. cc) refl sent (λ other memory. unless_memory merge rests (memory refl)) (λ e. cc) (λ e. cc) (λ other. counts ∙ h.replayed.quiet)
 
             -- it was refused by a rule, or memory ran out for the line
-            refused_by : (x : Refusal) → Refused_ merge x → (now.host.faults ≡ mid.faults) → UnlessMerging merge (refuses x) RestsNone → code.StaysAsItWas mid.folder now.host.folder
+            refused_by : (x : Refusal) → Refused_ x → (now.host.faults ≡ mid.faults) → UnlessMerging merge (refuses x) RestsNone → code.StaysAsItWas mid.folder now.host.folder
                 → Reports (refuses x) before.written now.written before.sink_faults now.sink_faults status → HasSaid ran_none
             refused_by x so counts rests same (inl sent) =
                 not_said Refused _ (λ e. cc) (record { refusal = x; text_is = refl; so = so }, refl) sent (λ other memory. unless_rule merge x rests) (λ e. same) (λ e. cc) (λ other. counts ∙ h.replayed.quiet)
@@ -484,13 +342,13 @@ module _ (leaf : List ℕ) (merge : Option (List ℕ)) (ro : Bool) (before now :
                 → UnlessStore (meaning_of_steps x) (UnlessMerging merge (meaning_of_steps x) RestsNone) → code.IfRule (meaning_of_steps x) (code.StaysAsItWas mid.folder now.host.folder)
                 → Reports (meaning_of_steps x) before.written now.written before.sink_faults now.sink_faults status → HasSaid ran_none
             by_refusal (refusal.Chain x) counts cause rests same sent = by_meaning (meaning_of_chain x) counts (ruleless ro merge linked mid.folder before.drawn now.drawn x cause) rests sent
-            by_refusal (refusal.Spent number) counts cause rests same sent = refused_by (OfCall (Spent number)) (refuses_by ro merge (refusal.Spent number) refl cause (OfCall (Spent number)) refl tt) counts rests same sent
-            by_refusal (refusal.IdUnfit id) counts cause rests same sent = refused_by (IdUnfit id) (refuses_by ro merge (refusal.IdUnfit id) refl cause (IdUnfit id) refl tt) counts rests same sent
-            by_refusal refusal.ReadOnly counts cause rests same sent = refused_by (OfCall ReadOnly) (refuses_by ro merge refusal.ReadOnly refl cause (OfCall ReadOnly) refl tt) counts rests same sent
-            by_refusal (refusal.NotInChain name) counts cause rests same sent = refused_by (NotInChain name) (refuses_by ro merge (refusal.NotInChain name) refl cause (NotInChain name) refl tt) counts rests same sent
-            by_refusal (refusal.IsBase name) counts cause rests same sent = refused_by (IsBase name) (refuses_by ro merge (refusal.IsBase name) refl cause (IsBase name) refl tt) counts rests same sent
-            by_refusal (refusal.LocatorTooLarge len) counts cause rests same sent = refused_by (LocatorTooLarge len) (refuses_by ro merge (refusal.LocatorTooLarge len) refl cause (LocatorTooLarge len) refl tt) counts rests same sent
-            by_refusal (refusal.MetadataFull file) counts cause rests same sent = refused_by (MetadataFull file) (refuses_by ro merge (refusal.MetadataFull file) refl cause (MetadataFull file) refl tt) counts rests same sent
+            by_refusal (refusal.Spent number) counts cause rests same sent = refused_by (OfCall (Spent number)) (refuses_by leaf linked before.host mid h before.drawn now.drawn ro ro merge (refusal.Spent number) refl cause (OfCall (Spent number)) refl tt) counts rests same sent
+            by_refusal (refusal.IdUnfit id) counts cause rests same sent = refused_by (IdUnfit id) (refuses_by leaf linked before.host mid h before.drawn now.drawn ro ro merge (refusal.IdUnfit id) refl cause (IdUnfit id) refl tt) counts rests same sent
+            by_refusal refusal.ReadOnly counts cause rests same sent = refused_by (OfCall ReadOnly) (refuses_by leaf linked before.host mid h before.drawn now.drawn ro ro merge refusal.ReadOnly refl cause (OfCall ReadOnly) refl tt) counts rests same sent
+            by_refusal (refusal.NotInChain name) counts cause rests same sent = refused_by (NotInChain name) (refuses_by leaf linked before.host mid h before.drawn now.drawn ro ro merge (refusal.NotInChain name) refl cause (NotInChain name) refl tt) counts rests same sent
+            by_refusal (refusal.IsBase name) counts cause rests same sent = refused_by (IsBase name) (refuses_by leaf linked before.host mid h before.drawn now.drawn ro ro merge (refusal.IsBase name) refl cause (IsBase name) refl tt) counts rests same sent
+            by_refusal (refusal.LocatorTooLarge len) counts cause rests same sent = refused_by (LocatorTooLarge len) (refuses_by leaf linked before.host mid h before.drawn now.drawn ro ro merge (refusal.LocatorTooLarge len) refl cause (LocatorTooLarge len) refl tt) counts rests same sent
+            by_refusal (refusal.MetadataFull file) counts cause rests same sent = refused_by (MetadataFull file) (refuses_by leaf linked before.host mid h before.drawn now.drawn ro ro merge (refusal.MetadataFull file) refl cause (MetadataFull file) refl tt) counts rests same sent
 
         not_run_runs : RunsSteps leaf merge ro before now status
         not_run_runs = over_by ran_none 0 refl not_run_said (λ g is disk opens. none_left 1 [] (begun_course merge linked.files) None) n.stands (λ reading. n.undrawn (reading_is reading)) (λ g is. (tt, λ some. absurd (some refl refl)))
@@ -499,17 +357,7 @@ module _ (leaf : List ℕ) (merge : Option (List ℕ)) (ro : Bool) (before now :
 
     module _ (run : ScriptRun) (o : RunOver (mode_of ro) merge linked lines run mid now.host before.drawn now.drawn) where
       drawn_for : DrawsFor ro merge linked before.host.folder before.drawn now.drawn
-      drawn_for = by_mode merge ro o.drawn
-        where
-          by_mode : (k : Option (List ℕ)) (b : Bool) → DrawsFor (is_reading (mode_of b)) k linked mid.folder before.drawn now.drawn → DrawsFor b k linked before.host.folder before.drawn now.drawn
-          by_mode None true d = d
-          by_mode None false d = draws_for None d
-          by_mode (Some name) true d = absurd d
-          by_mode (Some name) false d = either_judges (is_leaf linked.files name) d
-            where
-              either_judges : (b : Bool) → JudgesMergeOf b linked name mid.folder before.drawn now.drawn None → JudgesMergeOf b linked name before.host.folder before.drawn now.drawn None
-              either_judges true d = leaf_judges None d
-              either_judges false d = judges_for name None d
+      drawn_for = drawn_before leaf linked before.host mid h before.drawn now.drawn ro merge ro o.drawn
 
       undrawn_for : ro ≡ true → now.drawn ≡ before.drawn
       undrawn_for reading = by_mode merge ro reading o.drawn
@@ -524,7 +372,7 @@ module _ (leaf : List ℕ) (merge : Option (List ℕ)) (ro : Bool) (before now :
         ran = record { lines = take o.many lines; told = o.told; history = history; course = course; broken = broken; ended = failed_by run.closed }
 
         -- what is printed of lines, by how the session ended
-        module _ (sent : Sent before.written now.written before.sink_faults now.sink_faults (run_said run).0 (run_said run).1 status)
+        module _ (sent : Sent before.written now.written before.sink_faults now.sink_faults (run_said Done run).0 (run_said Done run).1 status)
             (rests : OnOk run.closed (WhereTold mid.folder (λ g. Rests linked history g mid now.host))) (dropped : OnOk run.closed (course ≡ no_merge → WhereTold mid.folder (λ g. IfSome merge (IsDropped (leaf_name linked) linked now.host))))
             (stays : OnOk run.closed (course ≢ no_merge → WhereTold mid.folder (λ g. IfSome merge (LeadsStill (leaf_name linked))))) (no_log : OnOk run.closed (WhereTold mid.folder (λ g. LogsEnded))) where
           abbrev ran_by : Result (Unit {0}) StoreFault → Ran
@@ -545,7 +393,7 @@ module _ (leaf : List ℕ) (merge : Option (List ℕ)) (ro : Bool) (before now :
             quiet : said.0 ≢ Fault → (now.host.faults ≡ before.host.faults) × (met (ran_by closed) ≡ None)
 
           shown_by : {Z : Type 0} (t : Result (String Z) NoRoom) (fault : Option StoreFault) (closed : Result (Unit {0}) StoreFault) → IfOk t (λ text. (take o.many lines ≡ lines) × (string_bytes text ≡ transcript (names_of linked.files) lines o.told) × AllByRecursion HasMemory o.told)
-              → fault ≡ last_fault o.told → IfSome fault (IsCounted mid now.host) → IfErr closed (IsCounted mid now.host) → (fault ≡ None → OnOk closed (now.host.faults ≡ mid.faults)) → Shown closed (said_of t fault closed)
+              → fault ≡ last_fault o.told → IfSome fault (IsCounted mid now.host) → IfErr closed (IsCounted mid now.host) → (fault ≡ None → OnOk closed (now.host.faults ≡ mid.faults)) → Shown closed (said_of Done t fault closed)
           shown_by (Ok text) None (Ok done) w is counts ended quiet =
               record { so = transcript_is (Ok done) (string_bytes text) w; none = λ e. cc; rose = λ e. cc; quiet = λ other. (quiet refl ∙ h.replayed.quiet, sym is) }
           shown_by (Ok text) None (Err fault) w is counts ended quiet =
@@ -562,8 +410,8 @@ module _ (leaf : List ℕ) (merge : Option (List ℕ)) (ro : Bool) (before now :
           said_all =
               let shown = shown_by run.transcript run.fault run.closed o.whole o.fault_is o.counted o.ended o.quiet in
               record {
-                meant = (run_said run).0;
-                text = (run_said run).1;
+                meant = (run_said Done run).0;
+                text = (run_said Done run).1;
                 said = shown.so;
                 sent = sent;
                 rests = λ rested. ended_well run.closed rests rested.sound.0;
@@ -576,7 +424,7 @@ module _ (leaf : List ℕ) (merge : Option (List ℕ)) (ro : Bool) (before now :
               }
 
       -- where no fault was meant the session ended
-      closed_well : {Z : Type 0} (t : Result (String Z) NoRoom) (fault : Option StoreFault) (closed : Result (Unit {0}) StoreFault) {P : Type 0} → Sent before.written now.written before.sink_faults now.sink_faults (said_of t fault closed).0 (said_of t fault closed).1 status
+      closed_well : {Z : Type 0} (t : Result (String Z) NoRoom) (fault : Option StoreFault) (closed : Result (Unit {0}) StoreFault) {P : Type 0} → Sent before.written now.written before.sink_faults now.sink_faults (said_of Done t fault closed).0 (said_of Done t fault closed).1 status
           → OnOk closed P → status ≢ Fault → P
       closed_well (Ok text) None (Ok done) sent p none = p
       closed_well (Ok text) None (Err fault) sent p none = absurd (none (is_fault _ _ _ _ _ status sent))
@@ -585,7 +433,7 @@ module _ (leaf : List ℕ) (merge : Option (List ℕ)) (ro : Bool) (before now :
       closed_well (Err e) (Some fault) (Ok done) sent p none = p
       closed_well (Err e) None (Ok done) sent p none = p
 
-      module _ (sent : Sent before.written now.written before.sink_faults now.sink_faults (run_said run).0 (run_said run).1 status) where
+      module _ (sent : Sent before.written now.written before.sink_faults now.sink_faults (run_said Done run).0 (run_said Done run).1 status) where
         rests_all : (g : List Held) (is : mid.folder ≡ Some g) → status ≢ Fault → Rests linked (o.ran g is).history g mid now.host
         rests_all g is none = closed_well run.transcript run.fault run.closed sent (o.ran g is).rests none
 
@@ -641,7 +489,7 @@ module _ (leaf : List ℕ) (merge : Option (List ℕ)) (ro : Bool) (before now :
             ends_all run.transcript run.fault run.closed o.counted o.ended o.quiet sent (home_all (λ g is. (o.ran g is).stands.home)) (λ none memory. idle_all (λ g is. (rests_all g is none).idle g is))
           where
             ends_all : {Z : Type 0} (t : Result (String Z) NoRoom) (fault : Option StoreFault) (closed : Result (Unit {0}) StoreFault) → IfSome fault (IsCounted mid now.host) → IfErr closed (IsCounted mid now.host) → (fault ≡ None → OnOk closed (now.host.faults ≡ mid.faults))
-                → Sent before.written now.written before.sink_faults now.sink_faults (said_of t fault closed).0 (said_of t fault closed).1 status → StaysHome before.host.folder now.host.folder
+                → Sent before.written now.written before.sink_faults now.sink_faults (said_of Done t fault closed).0 (said_of Done t fault closed).1 status → StaysHome before.host.folder now.host.folder
                 → (status ≢ Fault → (status ≡ NoMemory → ¬ HasMerge merge) → WhereTold before.host.folder (λ f. WhereTold now.host.folder AllIdle)) → Ends (HasMerge merge) before now status
             ends_all (Ok text) None (Ok done) counts ended quiet sent home idles = ends_by (HasMerge merge) before now Done status _ sent (λ e. cc) (λ e. (quiet refl ∙ h.replayed.quiet, unread)) home idles
             ends_all (Ok text) None (Err last) counts ended quiet sent home idles = ends_by (HasMerge merge) before now Fault status _ sent (λ e. inl (rose_all ended.rose)) (λ e. absurd (e refl)) home idles

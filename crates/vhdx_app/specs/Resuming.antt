@@ -7,7 +7,7 @@ use Rattle.store_model.specs.Trace.{NamedBytes}
 use Rattle.vhdx_format.specs.Fields.{sector_size}
 use Rattle.file_open.specs.Effects.{IsLongEnough}
 use Rattle.guest_model.specs.Calls.{Disk}
-use Rattle.guest_model.specs.History.{AgreesOutside, replay}
+use Rattle.guest_model.specs.History.{AgreesOutside, History, replay}
 use Rattle.chain_model.specs.Files.{OpensTo}
 use Rattle.chain_model.specs.Moments.{is_open}
 use Rattle.link_rules.specs.Chains.{Links, is_among, names_of}
@@ -16,13 +16,15 @@ use Rattle.link_rules.specs.Folders.{AllIdle, contents}
 use Rattle.link_rules.specs.Touches.{IsOnWay, TouchesSafely}
 use Rattle.link_rules.specs.declared.linked.Linked.{Linked}
 use Rattle.script.specs.declared.form.ScriptKind.{ScriptKind}
+use Rattle.script_session.specs.Histories.{Break}
 use Rattle.script_session.specs.Running.{open_by, open_last}
 use Rattle.printing.specs.declared.status.Status.{Status}
 use Rattle.vhdx_app.specs.Crashes.{IsCleanFolderImage}
 use Rattle.vhdx_app.specs.Folders.{files_of}
 use Rattle.vhdx_app.specs.Printed.{RefusesLeaf}
 use Rattle.vhdx_app.specs.Refusals.{Refusal}
-use Rattle.vhdx_app.specs.Steps.{Opened, Ran, RunsOver, way_by}
+use Rattle.vhdx_app.specs.Serves.{ServesOver}
+use Rattle.vhdx_app.specs.Steps.{Opened, RunsOver, way_by}
 use Rattle.vhdx_app.specs.Worlds.{World}
 use Rattle.chain_model.specs.Members.{LeadsBy, Way}
 
@@ -53,19 +55,27 @@ abbrev pub EachResumes : Way → (ℕ → Bool) → Disk → List Held → Type 
 EachResumes leaf among disk folder = (image : List NamedBytes) → IsCleanFolderImage folder image → ResumesWithin leaf among disk image
 
 -- with the disk of the first m calls that ran, for some m, outside the sectors that are dirty then and those that the next call names
-pub record ResumesFirst (leaf : Way) (opening : Disk) (ran : Ran) (folder : List Held) : Type 0 where
+pub record ResumesFirst (leaf : Way) (opening : Disk) (h : History) (broken : Option Break) (folder : List Held) : Type 0 where
   pub m : ℕ
-  pub within : m ≤ length ran.history
-  pub resumes : EachResumes leaf (λ s. is_open sector_size ran.history (open_by ran.broken) m s) (replay sector_size opening (take m ran.history)) folder
+  pub within : m ≤ length h
+  pub resumes : EachResumes leaf (λ s. is_open sector_size h (open_by broken) m s) (replay sector_size opening (take m h)) folder
 
 -- A run that a crash cuts off can be resumed, at each moment since its chain was opened, by the chain's files, or by these without the one
 -- that is merged; behind its end with the disk of all calls.
 pub record RunResumes {leaf : List ℕ} {merge : Option (List ℕ)} {read_only : Bool} {before now : World} {status : Status} (run : RunsOver leaf merge read_only before now status) : Type 0 where
-  pub moments : WhereTold before.host.folder (λ folder. Throughout (ResumesFirst (way_by leaf run.begun.linked merge) run.begun.disk run.ran) run.opened now.host)
+  pub moments : WhereTold before.host.folder (λ folder. Throughout (ResumesFirst (way_by leaf run.begun.linked merge) run.begun.disk run.ran.history run.ran.broken) run.opened now.host)
   pub last : WhereTold before.host.folder (λ folder. WhereTold now.host.folder (EachResumes (way_by leaf run.begun.linked merge) (open_last run.ran.history run.ran.broken) (replay sector_size run.begun.disk run.ran.history)))
 
 abbrev pub RunsResume : Type 0
 RunsResume = (leaf : List ℕ) (merge : Option (List ℕ)) (read_only : Bool) (before now : World) (status : Status) (run : RunsOver leaf merge read_only before now status) → RunResumes run
+
+-- So can one of `serve`.
+pub record ServiceResumes {leaf : List ℕ} {merge : Option (List ℕ)} {before now : World} {status : Status} (run : ServesOver leaf merge before now status) : Type 0 where
+  pub moments : WhereTold before.host.folder (λ folder. Throughout (ResumesFirst (way_by leaf run.begun.linked merge) run.begun.disk run.service.history run.service.broken) run.opened now.host)
+  pub last : WhereTold before.host.folder (λ folder. WhereTold now.host.folder (EachResumes (way_by leaf run.begun.linked merge) (open_last run.service.history run.service.broken) (replay sector_size run.begun.disk run.service.history)))
+
+abbrev pub ServicesResume : Type 0
+ServicesResume = (leaf : List ℕ) (merge : Option (List ℕ)) (before now : World) (status : Status) (run : ServesOver leaf merge before now status) → ServiceResumes run
 
 -- What can be resumed still can where a crash cuts off its opening, in which files on the way alone are touched, and these safely; and
 -- so however often: by files of the same names, with the same disk.

@@ -1,5 +1,5 @@
 -- What a run does, by what the words ask for; and, at the end, all that is promised of one (`IsRun`).
-use Rattle.std.specs.Prelude.{◌≡◌, ◌≢◌, ◌⊎◌, ⊤, ℕ, List, Option, Some, None, codes}
+use Rattle.std.specs.Prelude.{◌≡◌, ◌≢◌, ◌⊎◌, ⊤, ℕ, List, Option, Some, None, codes, option_map}
 use Rattle.command_line.specs.Requests.{File as NewFile, Wish, check, dump, help, info, make, repair, serve, steps, version}
 use Rattle.command_line.specs.Words.{Asks, AsksNothing, help_text, version_text}
 use Rattle.make_file.specs.Makes.{Outside, outside}
@@ -16,6 +16,7 @@ use Rattle.vhdx_app.specs.Repairs.{RunsRepair}
 use Rattle.vhdx_app.specs.Serves.{RunsServe}
 use Rattle.vhdx_app.specs.Steps.{RunsSteps}
 use Rattle.vhdx_app.specs.Worlds.{World}
+use Rattle.vhdx_app.specs.declared.program.ServeWish.{ServeWish}
 use Rattle.printing.specs.declared.status.Status.{Status}
 use Rattle.printing.specs.declared.status.Status.TheVariants.{Done, Refused, Usage, Fault, NoMemory}
 
@@ -59,7 +60,7 @@ Runs (dump leaf first count) before now status = RunsShowing leaf (IsDumpText be
 Runs (info leaf) before now status = RunsShowing leaf (IsInfoText before.host now.host leaf) before now status
 Runs (make name file) before now status = RunsMake name file before now status
 Runs (steps leaf merge read_only) before now status = RunsSteps leaf merge read_only before now status
-Runs (serve leaf workers) before now status = RunsServe leaf before now status
+Runs (serve leaf workers merge) before now status = RunsServe leaf merge before now status
 Runs (check name) before now status = RunsCheck name before now status
 Runs (repair name) before now status = RunsRepair name before now status
 Runs help before now status = RunsText help_text before now status
@@ -76,12 +77,9 @@ abbrev pub HasMerge : Option (List ℕ) → Type 0
 HasMerge None = ⊥
 HasMerge (Some name) = ⊤
 
--- none is
-abbrev pub NoMerge : Type 0
-NoMerge = HasMerge None
-
 abbrev pub IsMerging : Wish → Type 0
 IsMerging (steps leaf merge read_only) = HasMerge merge
+IsMerging (serve leaf workers merge) = HasMerge merge
 IsMerging other = ⊥
 
 abbrev pub AskMerge : List (List ℕ) → Type 0
@@ -113,17 +111,21 @@ pub record IsRun (words : List (List ℕ)) (before now : World) (status : Status
 
 -- ---- without threads
 
--- the leaf whose guests are to be served
-abbrev pub served_leaf : Option Wish → Option (List ℕ)
-served_leaf (Some (serve leaf workers)) = Some leaf
-served_leaf other = None
+-- the wish, if guests are to be served
+abbrev pub serving : Option Wish → Option Wish
+serving (Some (serve leaf workers merge)) = Some (serve leaf workers merge)
+serving other = None
+
+-- the same of the code's value
+abbrev pub wish_of : ServeWish → Wish
+wish_of g = serve g.leaf.now g.workers (option_map (λ s. s.now) g.merge)
 
 -- no thread is asked for
 abbrev pub StartsNoThread : List (List ℕ) → Type 0
-StartsNoThread words = (leaf : List ℕ) (workers : ℕ) → Asks words (serve leaf workers) → ⊥
+StartsNoThread words = (leaf : List ℕ) (workers : ℕ) (merge : Option (List ℕ)) → Asks words (serve leaf workers merge) → ⊥
 
 -- A run without threads is one of the command that the words ask for, if it starts none; and if it does, nothing is done: the status says so, or
 -- it is told that memory ran out.
 pub record IsRunAlone (words : List (List ℕ)) (before now : World) (status : Status) : Type 0 where
   pub alone : StartsNoThread words → IsRun words before now status
-  pub other : (leaf : List ℕ) (workers : ℕ) → Asks words (serve leaf workers) → RunsNothing before now status
+  pub other : (leaf : List ℕ) (workers : ℕ) (merge : Option (List ℕ)) → Asks words (serve leaf workers merge) → RunsNothing before now status

@@ -466,11 +466,11 @@ pub data LeafIsRun (leaf : List ℕ) (mode : Mode) (merge : Option (List ℕ)) (
 abbrev pub Said : Type 0
 Said = Status × List ℕ
 
--- of a transcript, with the last fault that refused a line and how the session ended
-abbrev pub lines_said : List ℕ → Option StoreFault → Result (Unit {0}) StoreFault → Said
-lines_said text None (Ok done) = (Done, text)
-lines_said text None (Err fault) = (Fault, text)
-lines_said text (Some refused) closed = (Fault, text)
+-- of a transcript, with the last fault that refused a line and how the session ended; without a fault the status is this
+abbrev pub lines_said : Status → List ℕ → Option StoreFault → Result (Unit {0}) StoreFault → Said
+lines_said end text None (Ok done) = (end, text)
+lines_said end text None (Err fault) = (Fault, text)
+lines_said end text (Some refused) closed = (Fault, text)
 
 -- and where there is none
 abbrev pub none_said : Option StoreFault → Result (Unit {0}) StoreFault → Said
@@ -478,16 +478,16 @@ none_said refused (Err fault) = (Fault, fault_line (codes "store") fault.count)
 none_said (Some fault) (Ok done) = (Fault, fault_line (codes "store") fault.count)
 none_said None (Ok done) = (NoMemory, codes "no memory\n")
 
-abbrev pub said_of : {Z : Type 0} → Result (String Z) NoRoom → Option StoreFault → Result (Unit {0}) StoreFault → Said
-said_of (Ok text) refused closed = lines_said (string_bytes text) refused closed
-said_of (Err e) refused closed = none_said refused closed
+abbrev pub said_of : {Z : Type 0} → Status → Result (String Z) NoRoom → Option StoreFault → Result (Unit {0}) StoreFault → Said
+said_of end (Ok text) refused closed = lines_said end (string_bytes text) refused closed
+said_of end (Err e) refused closed = none_said refused closed
 
-abbrev pub run_said : ScriptRun → Said
-run_said run = said_of run.transcript run.fault run.closed
+abbrev pub run_said : Status → ScriptRun → Said
+run_said end run = said_of end run.transcript run.fault run.closed
 
 -- what became of a script was said
 abbrev pub ReportsRun : Result ScriptRun StepsRefusal → Option (List ℕ) → Option (List ℕ) → ℕ → ℕ → Status → Type 0
-ReportsRun (Ok run) before after old new status = Sent before after old new (run_said run).0 (run_said run).1 status
+ReportsRun (Ok run) before after old new status = Sent before after old new (run_said Done run).0 (run_said Done run).1 status
 ReportsRun (Err refusal) before after old new status = Reports (meaning_of_steps refusal) before after old new status
 
 -- and why none was read

@@ -59,8 +59,8 @@ fn run_lent<S: Store, I: Ids>(
     }
 }
 
-// Whether the first of these files, the leaf, has this name and a parent.
-fn is_leaf(files: &[LinkedFile], name: &Name) -> bool
+/// Whether the first of these files, the leaf, has this name and a parent.
+pub fn is_leaf(files: &[LinkedFile], name: &Name) -> bool
     ensures { result ≡ is_leaf files.now name.now }
 {
     match files {
@@ -281,8 +281,8 @@ fn mode_of(read_only: bool) -> Mode
     }
 }
 
-// The names of the leaf and of the file that is merged, if one is.
-fn names_in(
+/// The names of the leaf and of the file that is merged, if one is.
+pub fn names_in(
     alloc: Global,
     leaf: &str,
     merge: Option<&str>,

@@ -1,29 +1,35 @@
 //! Printing what became of a script.
 
 ghost use Rattle.printing.specs.Sent.{Sent};
+ghost use Rattle.std.specs.Prelude.{◌≡◌};
+ghost use Rattle.vhdx_app.specs.Guests.{ReportsServed};
+ghost use Rattle.vhdx_app.specs.Guests as guests;
 ghost use Rattle.vhdx_app.specs.Sessions.{ReportsRun};
 ghost use Rattle.vhdx_app.specs.Sessions as spec;
 
 use crate::refusal::StepsRefusal;
 use crate::refusing::{fail, refuse_steps};
+use guest_model::ChainRefusal;
 use printing::{Status, deliver, out_of_memory};
 use script_session::ScriptRun;
+use serve_session::MergeRun;
 use std::alloc::Global;
 use store_model::{Sink, StoreFault};
 use vx_base::NoRoom;
 
-// Prints the transcript of a script of which all lines were run.
+// Prints the transcript of a script of which all lines were run, under this status where no fault was met.
 fn say_lines<K: Sink>(
     out: &mut K,
+    end: Status,
     text: &[u8],
     fault: Option<StoreFault>,
     closed: Result<(), StoreFault>,
 ) -> Status
-    ensures { let said = spec.lines_said text.now fault closed in Sent (K.written out.old) (K.written out.new) (K.faults out.old)
+    ensures { let said = spec.lines_said end text.now fault closed in Sent (K.written out.old) (K.written out.new) (K.faults out.old)
         (K.faults out.new) said.0 said.1 result }
 {
     match (fault, closed) {
-        (None, Ok(())) => deliver(out, Status::Done, text),
+        (None, Ok(())) => deliver(out, end, text),
         (None, Err(_)) => deliver(out, Status::Fault, text),
         (Some(_), _) => deliver(out, Status::Fault, text),
     }
@@ -45,9 +51,9 @@ fn say_none<K: Sink>(
     }
 }
 
-// Prints what a script's session gave.
-fn show_ran<K: Sink>(out: &mut K, run: ScriptRun) -> Status
-    ensures { let said = spec.run_said run in Sent (K.written out.old) (K.written out.new) (K.faults out.old) (K.faults out.new) said.0 said.1 result }
+// Prints what a script's session gave, under this status where the whole script was run and no fault was met.
+fn show_ran<K: Sink>(out: &mut K, end: Status, run: ScriptRun) -> Status
+    ensures { let said = spec.run_said end run in Sent (K.written out.old) (K.written out.new) (K.faults out.old) (K.faults out.new) said.0 said.1 result }
 {
     let ScriptRun {
         transcript,
@@ -55,7 +61,7 @@ fn show_ran<K: Sink>(out: &mut K, run: ScriptRun) -> Status
         closed,
     } = run;
     match transcript {
-        Ok(text) => say_lines(out, text.as_bytes(), fault, closed),
+        Ok(text) => say_lines(out, end, text.as_bytes(), fault, closed),
         Err(NoRoom) => say_none(out, fault, closed),
     }
 }
@@ -65,7 +71,39 @@ pub fn show_run<K: Sink>(alloc: Global, out: &mut K, run: Result<ScriptRun, Step
     ensures { ReportsRun run (K.written out.old) (K.written out.new) (K.faults out.old) (K.faults out.new) result }
 {
     match run {
-        Ok(run) => show_ran(out, run),
+        Ok(run) => show_ran(out, Status::Done, run),
+        Err(refusal) => refuse_steps(alloc, out, refusal),
+    }
+}
+
+// The status of a whole transcript: a merge that isn't finished is one that was refused.
+fn end_of(merged: Result<(), ChainRefusal>) -> Status
+    ensures { result ≡ guests.end_of merged }
+{
+    match merged {
+        Ok(()) => Status::Done,
+        Err(_) => Status::Refused,
+    }
+}
+
+// Prints what a session with guests gave.
+fn show_merge_run<K: Sink>(out: &mut K, run: MergeRun) -> Status
+    ensures { let said = spec.run_said (guests.end_of run.merged) run.run in Sent (K.written out.old) (K.written out.new) (K.faults out.old) (K.faults out.new) said.0 said.1 result }
+{
+    let MergeRun { run, merged } = run;
+    show_ran(out, end_of(merged), run)
+}
+
+/// Prints what became of a script's guests: the transcript, or why they weren't served.
+pub fn show_served<K: Sink>(
+    alloc: Global,
+    out: &mut K,
+    run: Result<MergeRun, StepsRefusal>,
+) -> Status
+    ensures { ReportsServed run (K.written out.old) (K.written out.new) (K.faults out.old) (K.faults out.new) result }
+{
+    match run {
+        Ok(run) => show_merge_run(out, run),
         Err(refusal) => refuse_steps(alloc, out, refusal),
     }
 }

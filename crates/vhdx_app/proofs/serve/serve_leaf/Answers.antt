@@ -1,11 +1,12 @@
 use Rattle.link_rules.specs.Effects.{linked_names}
 use Rattle.link_rules.proofs.Composing.{still_idle}
 use Rattle.std.proofs.Common.{refl}
-use Rattle.vhdx_app.specs.Guests.{over, unlinked}
+use Rattle.vhdx_app.specs.Guests.{over, source_of, unlinked}
 use Rattle.vhdx_app.specs.declared.refusal.ChainRefusal.TheVariants as chain
 use Rattle.vhdx_app.specs.declared.refusal.StepsRefusal.TheVariants as steps
 use Rattle.vhdx_app.proofs.Behind.{chain_in}
 use Rattle.vhdx_app.proofs.Said.{err_is}
+use Rattle.vhdx_app.proofs.ServedRuns.{serve_told}
 use Rattle.vhdx_app.proofs.serve.serve_leaf.Goals as goal
 
 pub returns-in_err-linked : goal.returns-in_err-linked
@@ -28,4 +29,5 @@ serve_linked-requires-clause-chain g c κs within =
 pub returns : goal.returns
 returns g c =
     let e = c.in_ok-linked.ensures in
-    over _ c.in_ok-linked.linked (record { links = e.answer; up = e.linked; moments = e.moments; replayed = e.leaves }) c.serve_linked.ensures.ran c.serve_linked.ensures.err
+    serve_told c.args.leaf.now c.args.leaf.now (source_of c.in_ok-merging.merging) c.args.source.now c.args.lines.now c.args.lines.now _ _ _ _ c.serve_linked.result refl c.in_ok-merging.ensures.source refl
+    (over _ c.in_ok-linked.linked (record { links = e.answer; up = e.linked; moments = e.moments; replayed = e.leaves }) c.serve_linked.ensures.ran c.serve_linked.ensures.err)

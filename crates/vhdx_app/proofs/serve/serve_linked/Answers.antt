@@ -1,4 +1,4 @@
-use Rattle.std.proofs.Common.{List, None, refl, subst, sym, ◌∙◌}
+use Rattle.std.proofs.Common.{List, refl, subst, sym, ◌∙◌}
 use Rattle.vhdx_app.proofs.Followed.{last_once}
 use Rattle.chain_core.specs.declared.starting.Mode.TheVariants.{Guests}
 use Rattle.chain_model.specs.Members.{NoneTwice}
@@ -6,6 +6,7 @@ use Rattle.link_rules.specs.Chains.{names_of}
 use Rattle.link_rules.specs.Folders.{contents}
 use Rattle.link_rules.specs.declared.linked.LinkedFile.{LinkedFile}
 use Rattle.vhdx_app.specs.Commands.{AreOpened}
+use Rattle.vhdx_app.specs.Guests.{source_of}
 use Rattle.vhdx_app.specs.Sessions.{NotRunOver}
 use Rattle.vhdx_app.specs.declared.refusal.ChainRefusal.TheVariants as chain
 use Rattle.vhdx_app.specs.declared.refusal.StepsRefusal.TheVariants as steps
@@ -17,7 +18,7 @@ use Rattle.vhdx_app.proofs.serve.serve_linked.Goals as goal
 
 pub returns-in_err-names-clause-err : goal.returns-in_err-names-clause-err
 returns-in_err-names-clause-err g c =
-    err_as (NotRunOver Guests None c.args.linked.now _ _ _ _) c.from_residual.result (steps.Chain chain.NoRoom) c.from_residual.ensures.1 (not_lent Guests None c.args.linked.now _ _ _ chain.NoRoom c.requires.chain.idle c.requires.chain.chain refl)
+    err_as (NotRunOver Guests (source_of c.args.merging) c.args.linked.now _ _ _ _) c.from_residual.result (steps.Chain chain.NoRoom) c.from_residual.ensures.1 (not_lent Guests (source_of c.args.merging) c.args.linked.now _ _ _ chain.NoRoom c.requires.chain.idle c.requires.chain.chain refl)
 
 pub attach-requires-clause-once : goal.attach-requires-clause-once
 attach-requires-clause-once g c = subst (λ (fs : List LinkedFile). NoneTwice (names_of fs)) (sym c.as_slice-files.ensures) (last_once c.args.linked.now.retired (names_of c.args.linked.now.files) c.requires.chain.once)
@@ -27,26 +28,26 @@ attach-requires-clause-opened g c t told = subst (AreOpened (contents t)) (sym c
 
 pub returns-in_err-store-clause-err : goal.returns-in_err-store-clause-err
 returns-in_err-store-clause-err g c =
-    err_as (NotRunOver Guests None c.args.linked.now _ _ _ _) c.from_residual-in_err-store.result (steps.Chain c.in_err-store.field-0.0) c.from_residual-in_err-store.ensures.1
-    (not_lent Guests None c.args.linked.now _ _ _ c.in_err-store.field-0.0 c.requires.chain.idle c.requires.chain.chain c.in_err-store.ensures.err)
+    err_as (NotRunOver Guests (source_of c.args.merging) c.args.linked.now _ _ _ _) c.from_residual-in_err-store.result (steps.Chain c.in_err-store.field-0.0) c.from_residual-in_err-store.ensures.1
+    (not_lent Guests (source_of c.args.merging) c.args.linked.now _ _ _ c.in_err-store.field-0.0 c.requires.chain.idle c.requires.chain.chain c.in_err-store.ensures.err)
 
 pub serve_lent-store-requires-clause-chain : goal.serve_lent-store-requires-clause-chain
 serve_lent-store-requires-clause-chain g c κs within = lent_chain c.args.linked.now c.as_slice-files.result.now (g.H.Host.hosted c.args.host.now) (g.H.Host.hosted c.attach.new.host) (g.H.S.Store.disk c.in_ok-store.store) c.as_slice-files.ensures c.requires.chain c.in_ok-store.ensures.ok
 
 pub give_back-requires : goal.give_back-requires
 give_back-requires g c =
-    served_back c.args.linked.now c.args.lines.now c.serve_lent-store.result.1 (g.H.Host.hosted c.args.host.now) (g.H.Host.hosted c.attach.new.host) (g.H.S.Store.disk c.in_ok-store.store) (g.H.S.Store.disk c.serve_lent-store.result.0)
-    (g.I.Ids.drawn c.args.ids.now) (g.I.Ids.drawn c.serve_lent-store.new.ids) c.requires.chain c.as_slice-files.result.now c.as_slice.result.now c.as_slice-files.ensures
-    (c.as_slice.ensures ∙ c.in_ok-names.ensures) c.in_ok-store.ensures.ok c.serve_lent-store.ensures.ran c.serve_lent-store.ensures.err
+    served_back (source_of c.args.merging) c.args.linked.now c.as_slice-files.result.now c.as_slice.result.now c.args.lines.now (g.H.Host.hosted c.args.host.now) (g.H.Host.hosted c.attach.new.host) (g.H.S.Store.disk c.in_ok-store.store) (g.H.S.Store.disk c.serve_lent-store.result.0)
+    (g.I.Ids.drawn c.args.ids.now) (g.I.Ids.drawn c.serve_lent-store.new.ids) c.as_slice-files.ensures (c.as_slice.ensures ∙ c.in_ok-names.ensures) c.requires.chain c.in_ok-store.ensures.ok
+    c.serve_lent-store.result.1 c.serve_lent-store.ensures.ran c.serve_lent-store.ensures.err
 
 pub returns-clause-ran : goal.returns-clause-ran
 returns-clause-ran g c =
-    served_ran c.args.linked.now c.args.lines.now c.serve_lent-store.result.1 (g.H.Host.hosted c.args.host.now) (g.H.Host.hosted c.attach.new.host) (g.H.S.Store.disk c.in_ok-store.store) (g.H.S.Store.disk c.serve_lent-store.result.0)
-    (g.I.Ids.drawn c.args.ids.now) (g.I.Ids.drawn c.serve_lent-store.new.ids) c.requires.chain c.as_slice-files.result.now c.as_slice.result.now c.as_slice-files.ensures
-    (c.as_slice.ensures ∙ c.in_ok-names.ensures) c.in_ok-store.ensures.ok c.serve_lent-store.ensures.ran c.serve_lent-store.ensures.err (g.H.Host.hosted c.give_back.new.self) c.give_back.ensures.folder c.give_back.ensures.past c.give_back.ensures.count
+    served_ran (source_of c.args.merging) c.args.linked.now c.as_slice-files.result.now c.as_slice.result.now c.args.lines.now (g.H.Host.hosted c.args.host.now) (g.H.Host.hosted c.attach.new.host) (g.H.S.Store.disk c.in_ok-store.store) (g.H.S.Store.disk c.serve_lent-store.result.0)
+    (g.I.Ids.drawn c.args.ids.now) (g.I.Ids.drawn c.serve_lent-store.new.ids) c.as_slice-files.ensures (c.as_slice.ensures ∙ c.in_ok-names.ensures) c.requires.chain c.in_ok-store.ensures.ok
+    (g.H.Host.hosted c.give_back.new.self) c.give_back.ensures.folder c.give_back.ensures.past c.give_back.ensures.count c.serve_lent-store.result.1 c.serve_lent-store.ensures.ran
 
 pub returns-clause-err : goal.returns-clause-err
 returns-clause-err g c =
-    served_not_run c.args.linked.now c.args.lines.now c.serve_lent-store.result.1 (g.H.Host.hosted c.args.host.now) (g.H.Host.hosted c.attach.new.host) (g.H.S.Store.disk c.in_ok-store.store) (g.H.S.Store.disk c.serve_lent-store.result.0)
-    (g.I.Ids.drawn c.args.ids.now) (g.I.Ids.drawn c.serve_lent-store.new.ids) c.requires.chain c.as_slice-files.result.now c.as_slice.result.now c.as_slice-files.ensures
-    (c.as_slice.ensures ∙ c.in_ok-names.ensures) c.in_ok-store.ensures.ok c.serve_lent-store.ensures.ran c.serve_lent-store.ensures.err (g.H.Host.hosted c.give_back.new.self) c.give_back.ensures.folder c.give_back.ensures.past c.give_back.ensures.count
+    served_not_run (source_of c.args.merging) c.args.linked.now c.as_slice-files.result.now c.as_slice.result.now c.args.lines.now (g.H.Host.hosted c.args.host.now) (g.H.Host.hosted c.attach.new.host) (g.H.S.Store.disk c.in_ok-store.store) (g.H.S.Store.disk c.serve_lent-store.result.0)
+    (g.I.Ids.drawn c.args.ids.now) (g.I.Ids.drawn c.serve_lent-store.new.ids) c.as_slice-files.ensures (c.as_slice.ensures ∙ c.in_ok-names.ensures) c.requires.chain c.in_ok-store.ensures.ok
+    (g.H.Host.hosted c.give_back.new.self) c.give_back.ensures.folder c.give_back.ensures.past c.give_back.ensures.count c.serve_lent-store.result.1 c.serve_lent-store.ensures.err

@@ -1,5 +1,5 @@
 use Rattle.vhdx_app.proofs.Lending.{can_start}
-use Rattle.vhdx_app.proofs.serve.serve_lent.Goals as goal
+use Rattle.vhdx_app.proofs.serve.serve_alone.Goals as goal
 
 pub run_serve-store-requires-clause-files : goal.run_serve-store-requires-clause-files
 run_serve-store-requires-clause-files g c κs within =
