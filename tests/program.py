@@ -184,20 +184,36 @@ def check_full_disk(folder):
 # ---- stops, and two runs at once
 
 
-def check_stops(folder):
+def check_stops(folder, words, script):
     """A merge that is killed somewhere, again and again, until it comes to its end: the disk is the same each time."""
     folder.chain("".join(f"write {2048 * i} 8 {i:02x}\n" for i in range(1, 256)))
     for i in range(8):
-        run = folder.start("steps", "c.vhdx", "--merge", "m.vhdx")
+        run = folder.start(*words, "--merge", "m.vhdx")
         timer = threading.Timer(random.uniform(0.001, 0.02), run.kill)
         timer.start()
-        run.communicate("copy\nfinish\n")
+        run.communicate(script)
         timer.cancel()
         found = [folder.byte("c.vhdx", sector) for sector in (5, 2048, 2048 * 255)]
-        tell(f"behind stop {i}", found == ["22", "01", "ff"], repr(found))
-    status = folder.run("steps", "c.vhdx", "--merge", "m.vhdx", script="copy\nfinish\n")
-    tell("the merge's end", status[0] == 0 or "refused 40" in status[1], repr(status))
+        tell(f"{words[0]}, behind stop {i}", found == ["22", "01", "ff"], repr(found))
+    status = folder.run(*words, "--merge", "m.vhdx", script=script)
+    tell(f"{words[0]}, the merge's end", status[0] == 0 or "refused 40" in status[1], repr(status))
     tell("and its disk", folder.byte("c.vhdx", 2048 * 255) == "ff")
+
+
+def check_workers(folder, workers):
+    """Guests that write a part each of a disk whose middle file, or leaf, workers copy meanwhile: each part has its last writes."""
+    for source in ("m.vhdx", "c.vhdx"):
+        folder.chain("".join(f"write {2048 * i} 8 {i:02x}\n" for i in range(1, 256)))
+        script = "".join(f"{i % 4 + 1} write {2048 * (i % 128) + 8 * (i % 4)} 8 {i % 251:02x}\n" for i in range(512))
+        status, out, err = folder.run("serve", "c.vhdx", "--workers", str(workers), "--merge", source, script=script)
+        places = sorted(int(line.split(" ")[0]) for line in out.split("\n")[:-1])
+        name = f"{workers} workers over {source}"
+        tell(f"{name}: all calls are done", status == 0 and places == list(range(1, 513)), f"{status} {out[:200]}{err}")
+        found = [folder.byte("c.vhdx", 2048 * (i % 128) + 8 * (i % 4)) for i in range(384, 512, 7)]
+        tell(f"{name}: each guest's last writes", found == [f"{i % 251:02x}" for i in range(384, 512, 7)], repr(found))
+        tell(f"{name}: what no guest wrote", folder.byte("c.vhdx", 2048 * 255) == "ff")
+        chain = folder.run("info", "c.vhdx")[1]
+        tell(f"{name}: the source has left the chain", "retired c.vhdx" in chain if source == "c.vhdx" else "m.vhdx" not in chain, chain)
 
 
 def both(folder, one, other):
@@ -283,7 +299,10 @@ def main():
         check_faults(folder)
         check_denied(program, room)
         check_full_disk(folder)
-        check_stops(folder)
+        check_stops(folder, ["steps", "c.vhdx"], "copy\nfinish\n")
+        check_stops(folder, ["serve", "c.vhdx", "--workers", "2"], "1 read 5 1\n2 read 2048 1\n")
+        for workers in (0, 1, 4):
+            check_workers(folder, workers)
         check_pairs(folder)
         check_child(folder)
     print(f"{sum(results)} passed, {len(results) - sum(results)} failed")
