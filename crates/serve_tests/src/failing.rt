@@ -5,7 +5,7 @@ ghost use Rattle.mem_store.specs.HostTold.{hosted_by};
 ghost use Rattle.store_model.specs.Disk.{WhereTold};
 
 use crate::common::{
-    ask, ask_at, bytes_of, empty_host, host_with, ids_of, run_script, script_done,
+    ask, ask_at, bytes_of, empty_host, host_with, ids_of, lines_of, run_script, script_done,
 };
 use mem_file::Pick;
 use mem_store::{Crash, MemHost, MemSink};
@@ -22,22 +22,6 @@ const SERVE: &str = "serve d.vhdx --workers 0";
 // Guest 1's second write is only made once its first one is flushed; guest 2 writes elsewhere.
 const SCRIPT: &str =
     "1 write 0 1 aa\n2 write 4096 1 cc\n1 flush\n2 read 4096 1\n1 write 1 1 bb\n2 flush\n";
-
-// The lines of a transcript that a guest's calls have.
-fn lines_of(text: &str, guest: u64) -> u64 {
-    let mut lines = 0u64;
-    for line in text.lines() {
-        let mut words = line.split(' ');
-        words.next();
-        if words
-            .next()
-            .is_some_and(|word| word.parse::<u64>() == Ok(guest))
-        {
-            lines = lines.saturating_add(1);
-        }
-    }
-    lines
-}
 
 // A host after a script over d.vhdx in which this call of a store fails, and what was printed.
 fn failed<R: Abort + Threads + Wait + Sync>(
