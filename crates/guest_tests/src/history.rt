@@ -1,8 +1,8 @@
 //! Ranges at their edges, and entries that are kept.
 
-use crate::asking::{are_bytes, ask, done};
+use crate::asking::{ask, done};
 use crate::questions::Question;
-use guest_model::{Call, CallRef, Caller, ChainRefusal, KeepAll, KeepMarks, Recorder};
+use guest_model::{CallRef, Caller, ChainRefusal, KeepAll, KeepMarks, Recorder};
 use std::process::Abort;
 
 /// A disk of 1 GB, in sectors.
@@ -67,26 +67,16 @@ fn note_some<R: Abort, K: Recorder>(rt: &R, recorder: &mut K) {
     ask(rt, 2, recorder.len() == 2);
 }
 
-fn is_the_write(call: &Call) -> bool {
-    match call {
-        Call::Write { first: 3, bytes } => are_bytes(bytes.as_slice(), b"abcd"),
-        _ => false,
-    }
-}
-
-fn is_the_trim(call: &Call) -> bool {
-    matches!(call, Call::Trim { first: 5, count: 6 })
-}
-
 #[test]
 fn calls_are_kept(rt: HostRuntime) {
     let mut all = KeepAll::new(rt.alloc());
     note_some(&rt, &mut all);
     let entries = all.into_entries();
     assert!(rt; entries.len() == 2);
-    ask(&rt, 3, is_the_write(&entries[0].call));
-    ask(&rt, 4, is_the_trim(&entries[1].call));
-    ask(&rt, 5, entries[1].guest == 7);
-    ask(&rt, 6, entries[1].no == 2);
+    let (first, second) = (entries[0].caller(), entries[1].caller());
+    ask(&rt, 3, first.guest == 7);
+    ask(&rt, 4, first.no == 1);
+    ask(&rt, 5, second.guest == 7);
+    ask(&rt, 6, second.no == 2);
     note_some(&rt, &mut KeepMarks::new());
 }

@@ -1,13 +1,13 @@
 //! Transcripts, of steps and of guests, with the texts of what refuses a call.
 
-ghost use Rattle.std.specs.Prelude.{◌≡◌, length};
+ghost use Rattle.std.specs.Prelude.{◌≡◌, ◌++◌, ◌∷◌, [], length};
+ghost use Rattle.guest_model.specs.Calls.{entry_of};
 
 use crate::asking::{ask, done, is_text};
-use guest_model::{Call, ChainRefusal, Entry};
+use guest_model::{CallRef, Caller, ChainRefusal, KeepAll, Recorder};
 use script::{Answer, Form, Text, ToldCall, ToldCalls, push_answered, serve_text, steps_text};
 use std::alloc::Global;
 use std::process::Abort;
-use vx_base::Bytes;
 
 static NAMES: [&str; 2] = ["c.vhdx", "b.vhdx"];
 
@@ -152,6 +152,13 @@ static THIRD: [Row; 2] = [
     (Some(1), READ, Answer::Bytes(&[0; 512])),
 ];
 
+// Keeps a call of a guest, of this number.
+fn note<R: Abort>(rt: &R, history: &mut KeepAll, guest: u32, no: u64, call: CallRef<'_>)
+    ensures { history.new ≡ history.old ++ entry_of (record { guest = guest; no = no }) call.entry ∷ [] }
+{
+    done(rt, history.note(Caller { guest, no }, call));
+}
+
 #[test]
 fn a_transcript_of_guests(rt: HostRuntime) {
     let alloc = rt.alloc();
@@ -160,23 +167,15 @@ fn a_transcript_of_guests(rt: HostRuntime) {
         ToldCalls::new(alloc),
         calls(&rt, alloc, &THIRD),
     ];
-    let bytes = done(&rt, Bytes::from_slice(alloc, &[0xaa]));
-    let history = [
-        Entry {
-            guest: 3,
-            no: 2,
-            call: Call::Read { first: 0, count: 1 },
-        },
-        Entry {
-            guest: 1,
-            no: 1,
-            call: Call::Write { first: 0, bytes },
-        },
-    ];
+    let mut history = KeepAll::new(alloc);
+    let read = CallRef::Read { first: 0, count: 1 };
+    note(&rt, &mut history, 3, 2, read);
+    let bytes = &[0xaa];
+    note(&rt, &mut history, 1, 1, CallRef::Write { first: 0, bytes });
     let wanted = "1 3 2 read 0 1 = 512*00\n\
         2 1 1 write 0 1 aa = done\n\
         - 1 2 read 0 0 = refused 31 EmptyRange\n\
         - 3 1 read 9 0 = refused 31 EmptyRange\n";
-    let text = done(&rt, serve_text(alloc, &history, &guests));
+    let text = done(&rt, serve_text(alloc, history.entries(), &guests));
     ask(&rt, 1, is_text(&text, wanted));
 }
