@@ -56,3 +56,9 @@ pub mod Noting
 pub mod Called
 pub mod Stopped
 pub mod Later
+pub mod SealedTraces
+pub mod SealedServing
+pub mod SealedReady
+pub mod SealedSteps
+pub mod SealedReaders
+pub mod SealedPlans

@@ -14,3 +14,4 @@ pub mod Finished
 pub mod MergeStarting
 pub mod LeafStarting
 pub mod Planned
+pub mod Sealed

@@ -59,8 +59,8 @@ pub record State : Type 0 where
   pub opening : Disk
   pub history : History
   pub began : Trace
-  -- the files that it may change, by their numbers, and the moment since which no other file was changed: when it began, or when its
-  -- merge was prepared
+  -- the files that it may change, by their numbers, and the moment since which no other file was changed: when it began, when its merge
+  -- was prepared, or when files that it only reads were sealed
   pub writes : ℕ → Bool
   pub since : Trace
 

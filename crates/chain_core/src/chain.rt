@@ -1,6 +1,6 @@
 //! The session of a chain.
 
-ghost use Rattle.std.specs.Prelude.{ℕ, Bool, ◌≡◌, ◌+◌, ◌-◌, ◌*◌, ◌/◌, ◌%◌, ◌^◌, ◌<◌, ◌≤◌, ◌++◌, ◌∷◌, ◌||◌, if◌then◌else◌, [], Ok, Err, true, false, None, Some, length, take, is_some, option_map, IfErr, IfNone, IfOk, IfSome, IsTrue, OnErr, OnOk};
+ghost use Rattle.std.specs.Prelude.{ℕ, Bool, ◌≡◌, ◌+◌, ◌-◌, ◌*◌, ◌/◌, ◌%◌, ◌^◌, ◌<◌, ◌≤◌, ◌++◌, ◌∷◌, ◌||◌, if◌then◌else◌, [], Ok, Err, true, false, None, Some, length, replicate, take, is_some, option_map, IfErr, IfNone, IfOk, IfSome, IsTrue, OnErr, OnOk};
 ghost use Rattle.guest_model.specs.declared.call.Call.TheVariants as calls;
 ghost use Rattle.guest_model.specs.Calls.{call_of, entry_of};
 ghost use Rattle.chain_core.specs.Answering.{AnswersTold, ClosesTold, EndsTold, HasCause, HasReadCause, HasRoom, IsDurable, Notes, answer_of, as_read, breaking, breaks, refusal_of};
@@ -12,11 +12,13 @@ ghost use Rattle.chain_core.specs.Planned.{FindsPlanned};
 ghost use Rattle.chain_core.specs.Reading.{Finds};
 ghost use Rattle.sealed_layer.specs.Planned.{AreNamedRead, AreOfFiles, EndsBy, LieInStore};
 ghost use Rattle.std.specs.List.{AllByRecursion};
+ghost use Rattle.store_model.specs.Disk.{WhereBothTold, WhereTold};
 ghost use Rattle.chain_core.specs.Refusing.{IfRefused, counted, is_read, misplaced, range_of, fill, refused, unfit};
 ghost use Rattle.merge_plan.specs.Attached.{CanStart};
 ghost use Rattle.chain_core.specs.LeafStarting.{HasStartedLeafMerge, RefusesLeafMerge};
 ghost use Rattle.chain_core.specs.MergeStarting.{HasStartedMerge, RefusesMerge};
 ghost use Rattle.chain_core.specs.Starting.{EachOpensAlike, HasStarted, IsOfDisk, LeavesOthersFrom, RefusesStart};
+ghost use Rattle.chain_core.specs.Sealed.{AreSynced, GoesOnSealed, ReadForSession, StopsSealing, read_numbers, readers_of, sealed_in};
 ghost use Rattle.chain_core.specs.Sessions.{AreReady, IsCounted, IsLow, IsSound, KeepsMerge, kept_marks, leaf_number, seen};
 
 use crate::answer::Answer;
@@ -27,9 +29,9 @@ use guest_model::{Call, CallRef, Caller, ChainRefusal, Recorder, Reply, check_ra
 use layer_session::LayerFault;
 use link_rules::LinkedFile;
 use merge_core::Piece;
-use read_plan::Plan;
+use read_plan::{Plan, Readers};
 use std::alloc::Global;
-use store_model::{Ids, Store, StoreFault};
+use store_model::{Ids, SealFault, Store, StoreFault};
 use vx_base::{Bytes, Geometry, Name, NoRoom};
 
 /// The greatest count of events.
@@ -643,6 +645,26 @@ impl<S: Store, R: Recorder> Chain<S, R> {
             return Err(ChainRefusal::NoMerge);
         }
         Ok(())
+    }
+
+    /// Seals each file that the session only reads, in order, and makes so many sets of readers, each with one reader of each of these files.
+    /// The session goes on as it was, wherever it is in its history, and changes none of them from then on. Nothing of them may be unsynced,
+    /// and nothing is where the leaf is in a session. Where it fails, the files that were sealed by then stay sealed, and there are no readers.
+    pub fn seal(&mut self, alloc: Global, sets: u32) -> Result<Readers<S::R>, SealFault>
+    where
+        S::R: Drop,
+        requires sound { IsSound (seen S.disk R.noted R.told self.old) }
+        requires whole { self.old.broken ≡ None }
+        requires synced { WhereTold (S.disk self.old.store).told (AreSynced (read_numbers self.old.layers.below.items)) }
+        ensures sound { IsSound (seen S.disk R.noted R.told self.new) }
+        ensures only { self.new ≡ record self.old { store = self.new.store } }
+        ensures told { WhereBothTold (GoesOnSealed self.old.layers) (S.disk self.old.store).told (S.disk self.new.store).told }
+        ensures ok { OnOk result (S.disk self.new.store ≡ sealed_in (read_numbers self.old.layers.below.items) (S.disk self.old.store)) }
+        ensures made { IfOk result (λ readers. readers ≡ replicate sets (readers_of (read_numbers self.old.layers.below.items) (S.disk self.old.store))) }
+        ensures readers { IfOk result (λ readers. WhereBothTold (ReadForSession self.old.layers readers) (S.disk self.old.store).told (S.disk self.new.store).told) }
+        ensures err { IfErr result (StopsSealing (read_numbers self.old.layers.below.items) (S.disk self.old.store) (S.disk self.new.store)) }
+    {
+        self.layers.seal(alloc, &mut self.store, sets)
     }
 
     /// How many entries its history has.

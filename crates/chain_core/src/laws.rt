@@ -2,6 +2,7 @@
 
 ghost use Rattle.chain_core.specs.Laws.{LeavesAreLeft, ReadingsAreHeld, SessionsAreHeld, SessionsLinkAlike};
 ghost use Rattle.chain_core.specs.Planned.{PlansAnswer, PlansCanBeFilled};
+ghost use Rattle.chain_core.specs.Sealed.{ReadFilesAreSynced, ReadersSucceed, SessionsWriteTheirs, SetsServePlans};
 
 /// Between any two calls the files, as a session holds them, open to the disk of its history, behind a merge of its leaf too; and so
 /// do those that are only read.
@@ -25,4 +26,16 @@ pub fn plans_answer()
 /// What is planned can be filled by the session's readers.
 pub fn plans_can_be_filled()
     ensures { PlansCanBeFilled }
+{}
+
+/// What a session only reads can be sealed at any time: nothing of it is unsynced.
+pub fn files_can_be_sealed()
+    ensures written { SessionsWriteTheirs }
+    ensures synced { ReadFilesAreSynced }
+{}
+
+/// Whatever a session plans of a read finds its readers: those of the files that are only read. Behind a merge of its leaf too.
+pub fn sets_serve_plans()
+    ensures plans { SetsServePlans }
+    ensures later { ReadersSucceed }
 {}

@@ -9,11 +9,15 @@ mod laws;
 mod layers;
 mod leaf_start;
 mod merge_start;
+mod sealing;
 mod starting;
 
 pub use answer::Answer;
 pub use chain::Chain;
-pub use laws::{plans_answer, plans_can_be_filled, sessions_are_held, sessions_link_alike};
+pub use laws::{
+    files_can_be_sealed, plans_answer, plans_can_be_filled, sessions_are_held, sessions_link_alike,
+    sets_serve_plans,
+};
 pub use layers::Layers;
 pub use merge_start::MergeStartRefusal;
 pub use starting::{Mode, StartRefusal};

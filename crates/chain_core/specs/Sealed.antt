@@ -1,0 +1,106 @@
+-- Sealing the files that a session only reads.
+use Rattle.std.specs.Prelude.{◌≡◌, ◌≢◌, ◌<◌, ◌==◌, ◌||◌, ℕ, Bool, true, false, is_some, All, List, [], ◌∷◌, ◌++◌, length, map}
+use Rattle.std.specs.List.{AllByRecursion}
+use Rattle.store_model.specs.Disk.{Disk, ReadFailed, Sealed, WhereTold, changed, reader_of}
+use Rattle.store_model.specs.File.{Seal, is_synced, seen}
+use Rattle.store_model.specs.Trace.{Trace, file_of}
+use Rattle.store_model.specs.declared.fault.SealFault.{SealFault}
+use Rattle.store_model.specs.declared.fault.SealFault.TheVariants.{NoRoom, Store}
+use Rattle.layer_session.specs.declared.file_layer.FileLayer.{FileLayer}
+use Rattle.layer_session.specs.declared.file_layer.FileLayer.TheVariants.{Read, Session}
+use Rattle.read_plan.specs.Reading.{AreThere}
+use Rattle.read_plan.specs.declared.plan.Extent.{Extent}
+use Rattle.sealed_layer.specs.Planned.{AreNamedRead, AreOfFiles}
+use Rattle.chain_model.specs.Images.{Placed}
+use Rattle.chain_core.specs.Finished.{IsSucceeded, succeeded_by}
+use Rattle.chain_core.specs.Laws.{AllLeftBehind}
+use Rattle.chain_core.specs.Planned.{AreReadersOf}
+use Rattle.chain_core.specs.States.{AreWritten, IsServing, State}
+use Rattle.chain_core.specs.declared.layers.Layers.{Layers}
+
+-- ---- which files
+
+-- the numbers of those files that are only read, in order
+abbrev pub read_numbers : List FileLayer → List ℕ
+read_numbers [] = []
+read_numbers (Session l ∷ layers) = read_numbers layers
+read_numbers (Read l ∷ layers) = l.tables.parts.file ∷ read_numbers layers
+
+-- nothing of these files is unsynced
+abbrev pub AreSynced : List ℕ → Trace → Type 0
+AreSynced numbers trace = AllByRecursion (λ n. is_synced (file_of trace n) ≡ true) numbers
+
+-- A file can be sealed: it is in the store, and nothing of it is unsynced.
+pub record CanSeal (disk : Disk) (n : ℕ) : Type 0 where
+  pub there : n < disk.files
+  pub within : WhereTold disk.told (λ trace. n < length trace.attached)
+  pub synced : WhereTold disk.told (λ trace. is_synced (file_of trace n) ≡ true)
+
+-- ---- what is done
+
+-- the store once these files were sealed, one after the other
+abbrev pub sealed_in : List ℕ → Disk → Disk
+sealed_in [] disk = disk
+sealed_in (n ∷ numbers) disk = sealed_in numbers (changed n Seal disk)
+
+-- one reader of each of these files as they are now
+abbrev pub readers_of : List ℕ → Disk → List Sealed
+readers_of numbers disk = map (λ n. reader_of n disk) numbers
+
+-- Why no more was sealed while these files were left: memory ran out, or a read of the first of them failed.
+abbrev pub StopsAt : List ℕ → Disk → Disk → SealFault → Type 0
+StopsAt left old new NoRoom = new ≡ old
+StopsAt [] old new (Store fault) = ⊥
+StopsAt (n ∷ left) old new (Store fault) = ReadFailed n old new fault
+
+-- Of these files the first ones were sealed, or none was, and then it stopped.
+pub record StopsSealing (numbers : List ℕ) (old new : Disk) (fault : SealFault) : Type 0 where
+  pub sealed : List ℕ
+  pub left : List ℕ
+  pub each : numbers ≡ sealed ++ left
+  pub stops : StopsAt left (sealed_in sealed old) new fault
+
+-- ---- what stays
+
+-- The session goes on: each state that it served it serves, and what it doesn't change stays from now on; what it left behind is left
+-- behind, and readers that it had are its readers. Each file has the bytes that it had, and is synced where it was; and none is changed but
+-- those that are only read.
+pub record GoesOnSealed (layers : Layers) (old new : Trace) : Type 0 where
+  pub serves : (v : State) → IsServing layers v old → IsServing layers (record v { since = new }) new
+  pub left : (v : State) → IsServing layers v old → AllLeftBehind v → AllLeftBehind (record v { since = new })
+  pub readers : (v : State) (set : List Sealed) → IsServing layers v old → AreReadersOf v set → AreReadersOf (record v { since = new }) set
+  pub bytes : (n : ℕ) → seen (file_of new n) ≡ seen (file_of old n)
+  pub synced : (n : ℕ) → is_synced (file_of new n) ≡ is_synced (file_of old n)
+  pub others : (n : ℕ) → AllByRecursion (λ read. read ≢ n) (read_numbers layers.below.items) → file_of new n ≡ file_of old n
+
+-- Of each state that it served, and by which it changes just the files in sessions, each set has readers of that state as it is now.
+pub record ReadForSession (layers : Layers) (sets : List (List Sealed)) (old new : Trace) : Type 0 where
+  pub readers : (v : State) → IsServing layers v old → AreWritten v.writes layers.below.items → All (AreReadersOf (record v { since = new })) sets
+
+-- ---- what can be sealed
+
+-- A session whose leaf is in one changes just the files that are in sessions,
+abbrev pub SessionsWriteTheirs : Type 0
+SessionsWriteTheirs = (layers : Layers) (v : State) (trace : Trace) → IsServing layers v trace → is_some layers.leaf ≡ true → AreWritten v.writes layers.below.items
+
+-- and nothing of the others is unsynced.
+abbrev pub ReadFilesAreSynced : Type 0
+ReadFilesAreSynced = (layers : Layers) (v : State) (trace : Trace) → IsServing layers v trace → AreWritten v.writes layers.below.items → AreSynced (read_numbers layers.below.items) trace
+
+-- ---- readers later
+
+-- Readers of a state are those of the state behind the merge of its leaf.
+abbrev pub ReadersSucceed : Type 0
+ReadersSucceed =
+    (id : List ℕ) (v : State) (target : Placed) (below : List Placed) (layers : Layers) (now : Trace) (readers : List Sealed)
+    → AreReadersOf v readers → (done : IsSucceeded id v target below layers now) → AreReadersOf (succeeded_by v done.top done.others done.leaf now) readers
+
+-- a number is one of these
+abbrev pub is_among : List ℕ → ℕ → Bool
+is_among [] n = false
+is_among (m ∷ numbers) n = (m == n) || is_among numbers n
+
+-- The files that are only read are those of these numbers; and of a plan that names no others each set has the readers.
+pub record SetsServePlans : Type 0 where
+  pub named : (layers : List FileLayer) → AreNamedRead (is_among (read_numbers layers)) layers
+  pub there : (numbers : List ℕ) (disk : Disk) (plan : List Extent) → AreOfFiles (is_among numbers) plan → AreThere (readers_of numbers disk) plan
