@@ -11,7 +11,7 @@ use Rattle.turn_lock.specs.Steps.{after_value, places_after, with_stage}
 use Rattle.turn_lock.proofs.Fronts.{starts-length}
 use Rattle.turn_lock.proofs.Resting.{Turned, resting-turn}
 
-module _ {V E G : Type 0} (history : V → List E) (basis : V → G) (contains : G → G → Type 0) where
+module _ {V E G : Type 0} (history : V → List E) (basis : V → G) (contains : G → G → Type 0) (work : G → ℕ) where
   -- what is seen of a seat
   abbrev pub shown : TableId → Me (Option V) (View E G) → Family → Option ℕ → Known E G
   shown lock me family refused = record {
@@ -25,10 +25,11 @@ module _ {V E G : Type 0} (history : V → List E) (basis : V → G) (contains :
     family = family;
     first_ticket = me.0.first_ticket;
     drawn = me.0.drawn;
+    refusals = me.0.refusals;
   }
 
   module _ (lock : TableId) (me : Me (Option V) (View E G)) (family : Family) (refused : Option ℕ) (count len : ℕ) (value : V) (k locked : Known E G) (now : List E) (g : G)
-      (seated : IsSeated me family refused count) (is : shown lock me family refused ≡ k) (may : MayUnlock contains k locked now g) (now_is : history value ≡ now) (g_is : basis value ≡ g) (len_is : len ≡ length (history value)) where
+      (seated : IsSeated me family refused count) (is : shown lock me family refused ≡ k) (may : MayUnlock contains work k locked now g) (now_is : history value ≡ now) (g_is : basis value ≡ g) (len_is : len ≡ length (history value)) where
     has : turn_of me.0.stage ≡ Some may.turn
     has = ap (λ (k : Known E G). k.turn) is ∙ may.has_turn
 
@@ -41,7 +42,7 @@ module _ {V E G : Type 0} (history : V → List E) (basis : V → G) (contains :
     pub counts : count ≤ len
     counts = omega (arith, len_now, turned.counted, starts-length now may.turn.history may.history)
 
-    pub served : ((t : ℕ) × (h : List E) × (f : G) × (me.0.stage ≡ Served t h f) × (length (history value) ≡ length h + (len - count)) × StartsWith (history value) h × contains (basis value) f) × (len - count ≤ 1) × (me.1 ≡ (0, None) ∷ [])
+    pub served : ((t : ℕ) × (h : List E) × (f : G) × (me.0.stage ≡ Served t h f) × (length (history value) ≡ length h + (len - count)) × StartsWith (history value) h × contains (basis value) f × (work (basis value) ≤ work f + 2)) × (len - count ≤ 1) × (me.1 ≡ (0, None) ∷ [])
     served = (
       (
         may.turn.ticket,
@@ -51,6 +52,7 @@ module _ {V E G : Type 0} (history : V → List E) (basis : V → G) (contains :
         omega (arith, len_is, turned.counted, counts),
         subst (λ (xs : List E). StartsWith xs may.turn.history) (sym now_is) may.history,
         subst (λ (f : G). contains f may.turn.basis) (sym g_is) may.basis_kept,
+        subst (λ (f : G). work f ≤ work may.turn.basis + 2) (sym g_is) may.little_work,
       ),
       omega (arith, len_now, turned.counted, may.one_entry),
       turned.slot,
@@ -58,7 +60,7 @@ module _ {V E G : Type 0} (history : V → List E) (basis : V → G) (contains :
 
     module _ (new_lock : TableId) (new : Me (Option V) (View E G)) (same : new_lock ≡ lock) (given : new ≡ (with_stage (after_value history basis me.0 (len - count) (Some value)) Idle, [])) where
       pub still : IsSeated new family refused count
-      still = subst (λ (m : Me (Option V) (View E G)). IsSeated m family refused count) (sym given) (record { resting = (refl, turned.not_refused); live = seated.live; family_same = seated.family_same })
+      still = subst (λ (m : Me (Option V) (View E G)). IsSeated m family refused count) (sym given) (record { resting = (refl, turned.not_refused); live = seated.live; family_same = seated.family_same; counted = seated.counted })
 
       grown : len - count ≡ growth (turn_of me.0.stage) (history value)
       grown = (let e : len - count ≡ length (history value) - length may.turn.history = omega (arith, len_is, turned.counted) in e) ∙ ap (λ (t : Option (Turn E G)). growth t (history value)) (sym has)
