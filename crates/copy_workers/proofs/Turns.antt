@@ -1,5 +1,5 @@
 -- A worker's turn, from its beginning to its end.
-use Rattle.std.proofs.Common.{◌≡◌, ◌⊎◌, ◌+◌, ◌-◌, ◌<◌, ◌==◌, ◌++◌, ◌∷◌, ℕ, Bool, true, false, List, [], length, inl, inr, ap₂, Some, None, Result, Ok, Err, refl, sym, ap, subst, ◌∙◌, arith, length-append, take_at}
+use Rattle.std.proofs.Common.{◌≡◌, ◌⊎◌, ◌+◌, ◌-◌, ◌<◌, ◌≤◌, ◌==◌, ◌++◌, ◌∷◌, ℕ, Bool, true, false, List, [], length, inl, inr, ap₂, Some, None, Result, Ok, Err, refl, sym, ap, subst, ◌∙◌, arith, length-append, take_at}
 use Rattle.std.specs.Prelude.{Option, if◌then◌else◌}
 use Rattle.std.proofs.lemmas.Bool.{eqb-true}
 use Rattle.std.proofs.lemmas.List.{append-nil, length-map}
@@ -30,13 +30,17 @@ module _ {S T : Type 0} where
   abbrev told_of : Shared (Chain S KeepAll T) → List Step
   told_of s = steps_of s.chain.recorder s.broke
 
+  -- how much is done to the chain: its events
+  abbrev work : Basis S T → ℕ
+  work b = b.events
+
   -- the steps stay, or the merge breaks the session
   data Gained (old new : Shared (Chain S KeepAll T)) : Type 0 where
     is_same : told_of new ≡ told_of old → Gained old new
     has_broken : old.broke ≡ None → told_of new ≡ done_steps old.chain.recorder ++ Broke merge_breach ∷ [] → Gained old new
 
-  gained : (disk : S → Disk) (old new : Shared (Chain S KeepAll T)) (answer : Result (Unit {0}) ChainRefusal) → IsStepped disk old new answer → Gained old new
-  gained disk old new answer k = go answer k.broke
+  gained : (disk : S → Disk) (old new : Shared (Chain S KeepAll T)) (most : ℕ) (answer : Result (Unit {0}) ChainRefusal) → IsStepped disk most old new answer → Gained old new
+  gained disk old new most answer k = go answer k.broke
     where
       still : new.broke ≡ old.broke → Gained old new
       still e = is_same (ap₂ steps_of k.history e)
@@ -63,10 +67,13 @@ module _ {S T : Type 0} where
       go (Err NoPiece) e = still e
       go (Err NoRoom) e = still e
 
-  module _ (disk : S → Disk) (before after locked : Known Step (Basis S T)) (old new : Shared (Chain S KeepAll T)) (answer : Result (Unit {0}) ChainRefusal)
-      (turn : HasTurn Contains before after locked (told_of old) (basis_of disk old)) (k : IsStepped disk old new answer) where
+  module _ (disk : S → Disk) (before after locked : Known Step (Basis S T)) (old new : Shared (Chain S KeepAll T)) (most : ℕ) (two : most ≤ 2) (answer : Result (Unit {0}) ChainRefusal)
+      (turn : HasTurn Contains before after locked (told_of old) (basis_of disk old)) (k : IsStepped disk most old new answer) where
     covers : Contains (basis_of disk new) (basis_of disk old)
-    covers = record { first = ap Some k.first; notes = λ n h. (k.noted n).1 (inr h) }
+    covers = record { first = ap Some k.first; notes = λ n h. (k.noted n).1 (inr h); events = k.later }
+
+    little : new.chain.events ≤ old.chain.events + 2
+    little = omega (arith, k.few, two)
 
     was : old.broke ≡ None → told_of old ≡ done_steps old.chain.recorder
     was none = ap (λ b. steps_of old.chain.recorder b) none ∙ append-nil (done_steps old.chain.recorder)
@@ -75,15 +82,15 @@ module _ {S T : Type 0} where
     one_more none is = is ∙ ap (λ xs. xs ++ Broke merge_breach ∷ []) (sym (was none))
 
     -- what `unlock` asks
-    may_end : MayUnlock Contains after locked (told_of new) (basis_of disk new)
-    may_end = go (gained disk old new answer k)
+    may_end : MayUnlock Contains work after locked (told_of new) (basis_of disk new)
+    may_end = go (gained disk old new most answer k)
       where
-        go : Gained old new → MayUnlock Contains after locked (told_of new) (basis_of disk new)
-        go (is_same e) = may_unlock-same Contains before after locked (told_of old) (basis_of disk old) turn (told_of new) (basis_of disk new) e covers
-        go (has_broken none e) = may_unlock-entry Contains before after locked (told_of old) (basis_of disk old) turn (told_of new) (basis_of disk new) (Broke merge_breach) (one_more none e) covers
+        go : Gained old new → MayUnlock Contains work after locked (told_of new) (basis_of disk new)
+        go (is_same e) = may_unlock-same Contains work before after locked (told_of old) (basis_of disk old) turn (told_of new) (basis_of disk new) e covers little
+        go (has_broken none e) = may_unlock-entry Contains work before after locked (told_of old) (basis_of disk old) turn (told_of new) (basis_of disk new) (Broke merge_breach) (one_more none e) covers little
 
     goes_on : StartsWith (told_of new) (told_of old)
-    goes_on = go (gained disk old new answer k)
+    goes_on = go (gained disk old new most answer k)
       where
         go : Gained old new → StartsWith (told_of new) (told_of old)
         go (is_same e) = subst (λ h. StartsWith h (told_of old)) (sym e) (starts-itself (told_of old))
@@ -102,6 +109,7 @@ module _ {S T : Type 0} where
       family = before.family;
       first_ticket = before.first_ticket;
       drawn = before.drawn + 1;
+      refusals = before.refusals;
     }
 
     keeps : KeepsSeat before ended
@@ -111,13 +119,14 @@ module _ {S T : Type 0} where
       family = refl;
       first_ticket = refl;
       known = refl;
+      refusals = omega arith;
       seen = starts-through (told_of new) (told_of old) before.seen goes_on turn.history;
       basis = contains_through (basis_of disk new) (basis_of disk old) before.basis covers turn.covers;
     }
 
     -- the places of its own
     own : (p : ℕ) → 0 < times p ended.mine → (0 < times p before.mine) ⊎ MergeBreaksAt ended.seen p
-    own p some = go (gained disk old new answer k)
+    own p some = go (gained disk old new most answer k)
       where
         stays : told_of new ≡ told_of old → ended.mine ≡ before.mine
         stays e =
@@ -142,49 +151,53 @@ module _ {S T : Type 0} where
             let breaks : MergeBreaksAt ended.seen (length (told_of new)) = record { before = old.chain.recorder; begins = subst (λ xs. StartsWith (told_of new) xs) e (starts-itself (told_of new)); place_is = size } in
             by_place (length (told_of new)) breaks (length (told_of new) == p) refl (subst (λ ms. 0 < times p ms) mine some)
 
-    worked : (last : Known Step (Basis S T)) → last ≡ after_turn after (told_of new) (basis_of disk new) → HasWorked before last
+    worked : (last : Known Step (Basis S T)) → last ≡ after_turn after (told_of new) (basis_of disk new) → HasWorked 1 before last
     worked last is =
-        subst (HasWorked before) (sym (turn_ended Contains before after locked (told_of old) (basis_of disk old) turn last (told_of new) (basis_of disk new) is)) (record { keeps = keeps; own = own })
+        subst (HasWorked 1 before) (sym (turn_ended Contains work before after locked (told_of old) (basis_of disk old) turn last (told_of new) (basis_of disk new) is)) (record { keeps = keeps; drawn = omega arith; own = own })
 
   -- ---- as a worker's turn has them
 
-  module _ (disk : S → Disk) (before after : Known Step (Basis S T)) (held : Out (Shared (Chain S KeepAll T)) Step (Basis S T)) (old new : Shared (Chain S KeepAll T)) (answer : Result (Unit {0}) ChainRefusal)
-      (is : old ≡ held.value) (turn : HasTurn Contains before after held.seat (told_of held.value) (basis_of disk held.value)) (k : IsStepped disk old new answer) where
+  module _ (disk : S → Disk) (before after : Known Step (Basis S T)) (held : Out (Shared (Chain S KeepAll T)) Step (Basis S T)) (old new : Shared (Chain S KeepAll T)) (most : ℕ) (two : most ≤ 2) (answer : Result (Unit {0}) ChainRefusal)
+      (is : old ≡ held.value) (turn : HasTurn Contains before after held.seat (told_of held.value) (basis_of disk held.value)) (k : IsStepped disk most old new answer) where
     has_turn : HasTurn Contains before after held.seat (told_of old) (basis_of disk old)
     has_turn = subst (λ (v : Shared (Chain S KeepAll T)). HasTurn Contains before after held.seat (told_of v) (basis_of disk v)) (sym is) turn
 
-    pub may_turn : MayUnlock Contains after held.seat (told_of new) (basis_of disk new)
-    may_turn = may_end disk before after held.seat old new answer has_turn k
+    pub may_turn : MayUnlock Contains work after held.seat (told_of new) (basis_of disk new)
+    may_turn = may_end disk before after held.seat old new most two answer has_turn k
 
-    pub has_worked : (last : Known Step (Basis S T)) → last ≡ after_turn after (told_of new) (basis_of disk new) → HasWorked before last
-    has_worked last is_last = worked disk before after held.seat old new answer has_turn k last is_last
+    pub has_worked : (last : Known Step (Basis S T)) → last ≡ after_turn after (told_of new) (basis_of disk new) → HasWorked 1 before last
+    has_worked last is_last = worked disk before after held.seat old new most two answer has_turn k last is_last
 
   -- ---- turns, one after the other
 
   -- a seat that was refused a turn
-  pub refused_worked : (before : Known Step (Basis S T)) (t : ℕ) → before.turn ≡ None → HasWorked before (with_refusal before t)
+  pub refused_worked : (before : Known Step (Basis S T)) (t : ℕ) → before.turn ≡ None → HasWorked 1 before (with_refusal before t)
   refused_worked before t free = record {
-    keeps = record { lock = refl; free = free; family = refl; first_ticket = refl; known = refl; seen = starts-itself before.seen; basis = contains_itself before.basis };
+    keeps = record { lock = refl; free = free; family = refl; first_ticket = refl; known = refl; refusals = omega arith; seen = starts-itself before.seen; basis = contains_itself before.basis };
+    drawn = omega arith;
     own = λ p some. inl some;
   }
 
-  pub none_worked : (before : Known Step (Basis S T)) → before.turn ≡ None → HasWorked before before
-  none_worked before free = record {
-    keeps = record { lock = refl; free = free; family = refl; first_ticket = refl; known = refl; seen = starts-itself before.seen; basis = contains_itself before.basis };
+  pub none_worked : (before : Known Step (Basis S T)) (turns : ℕ) → before.turn ≡ None → HasWorked turns before before
+  none_worked before turns free = record {
+    keeps = record { lock = refl; free = free; family = refl; first_ticket = refl; known = refl; refusals = omega arith; seen = starts-itself before.seen; basis = contains_itself before.basis };
+    drawn = omega arith;
     own = λ p some. inl some;
   }
 
-  pub worked_twice : (a b c : Known Step (Basis S T)) → HasWorked a b → HasWorked b c → HasWorked a c
-  worked_twice a b c one more = record {
+  pub worked_twice : (m n : ℕ) (a b c : Known Step (Basis S T)) → HasWorked m a b → HasWorked n b c → HasWorked (m + n) a c
+  worked_twice m n a b c one more = record {
     keeps = record {
       lock = more.keeps.lock ∙ one.keeps.lock;
       free = more.keeps.free;
       family = more.keeps.family ∙ one.keeps.family;
       first_ticket = more.keeps.first_ticket ∙ one.keeps.first_ticket;
       known = more.keeps.known ∙ one.keeps.known;
+      refusals = omega (arith, one.keeps.refusals, more.keeps.refusals);
       seen = starts-through c.seen b.seen a.seen more.keeps.seen one.keeps.seen;
       basis = contains_through c.basis b.basis a.basis more.keeps.basis one.keeps.basis;
     };
+    drawn = omega (arith, one.drawn, more.drawn);
     own = λ p some. go p (more.own p some);
   }
     where

@@ -1,6 +1,6 @@
 //! A worker of a merge.
 
-ghost use Rattle.std.specs.Prelude.{◌≡◌, true, None};
+ghost use Rattle.std.specs.Prelude.{◌≡◌, ◌+◌, true, None};
 ghost use Rattle.shared_chain.specs.Seats.{HasWorked, IsFree};
 
 use claims::{ClaimSeat, Claims};
@@ -34,7 +34,7 @@ impl<S: Store> Worker<S> {
         stripe: u32,
     ) -> Result<(), ChainRefusal>
         requires own { IsFree lock.now self.old.seat }
-        ensures worked { HasWorked self.old.seat self.new.seat }
+        ensures worked { HasWorked 1 self.old.seat self.new.seat }
         ensures claim { self.new.claim ≡ self.old.claim }
     {
         let mut held = match lock.lock(rt, &mut self.seat) {
@@ -53,7 +53,7 @@ impl<S: Store> Worker<S> {
         lock: &TurnLock<SharedChain<S>>,
     ) -> Result<(), ChainRefusal>
         requires own { IsFree lock.now self.old.seat }
-        ensures worked { HasWorked self.old.seat self.new.seat }
+        ensures worked { HasWorked 1 self.old.seat self.new.seat }
         ensures claim { self.new.claim ≡ self.old.claim }
     {
         let mut held = match lock.lock(rt, &mut self.seat) {
@@ -66,7 +66,7 @@ impl<S: Store> Worker<S> {
     }
 
     /// Claims stripes until none is left, and copies each once; a stripe that is refused is left. Then it finishes the merge, and answers what
-    /// that answered.
+    /// that answered. It draws a ticket for each stripe that it claims, and one to finish.
     pub fn sweep<T: Wait, G: Gate>(
         &mut self,
         rt: &T,
@@ -76,7 +76,7 @@ impl<S: Store> Worker<S> {
     ) -> Result<(), ChainRefusal>
         requires own { IsFree lock.now self.old.seat }
         requires counter { self.old.claim.counter ≡ claims.now }
-        ensures worked { HasWorked self.old.seat self.new.seat }
+        ensures worked { HasWorked (claims.now.limit + 1) self.old.seat self.new.seat }
         ensures closed { self.new.claim.is_closed ≡ true }
         ensures family { self.new.claim.family ≡ self.old.claim.family }
         ensures counter { self.new.claim.counter ≡ self.old.claim.counter }

@@ -1,5 +1,5 @@
 -- A guest's turn, from its beginning to its end.
-use Rattle.std.proofs.Common.{◌≡◌, ◌⊎◌, ◌+◌, ◌-◌, ◌==◌, ◌++◌, ◌∷◌, ℕ, List, [], length, inl, ap₂, Some, None, Result, Ok, Err, inr, refl, sym, ap, subst, ◌∙◌, arith, length-append, take_at}
+use Rattle.std.proofs.Common.{◌≡◌, ◌⊎◌, ◌+◌, ◌-◌, ◌≤◌, ◌==◌, ◌++◌, ◌∷◌, ℕ, List, [], length, inl, ap₂, Some, None, Result, Ok, Err, inr, refl, sym, ap, subst, ◌∙◌, arith, length-append, take_at}
 use Rattle.std.specs.Prelude.{Option, OnOk, if◌then◌else◌}
 use Rattle.std.proofs.lemmas.List.{append-nil, length-map, map-append}
 use Rattle.store_model.specs.Disk.{Disk}
@@ -23,7 +23,6 @@ use Rattle.shared_chain.specs.declared.basis.Step.TheVariants.{Broke, Done}
 use Rattle.shared_chain.specs.Answers.{IsBroke, IsCalled, IsCausedIn, IsEntered, RepliesBehind}
 use Rattle.shared_chain.specs.Bases.{Contains, basis_of}
 use Rattle.shared_chain.specs.Laws.{contains_through}
-use Rattle.shared_chain.specs.Notes.{HasNote}
 use Rattle.shared_chain.specs.Shared.{Shared}
 use Rattle.shared_chain.specs.Steps.{breach_of, broke_after, done_steps, first_breach, steps_of}
 use Rattle.turn_lock.specs.Histories.{StartsWith}
@@ -32,6 +31,7 @@ use Rattle.vx_base.proofs.Handed.{on_ok_any}
 use Rattle.turn_lock.specs.Steps.{places_after}
 use Rattle.turn_lock.proofs.Fronts.{starts-itself, starts-through}
 use Rattle.turn_lock.proofs.Using.{may_unlock-entry, may_unlock-same, turn_ended}
+use Rattle.script_session.proofs.Moving.{counted_high, counted_low}
 use Rattle.guest_io.specs.Guests.{AddsNothing, Answers, HasBroken, IsCall, IsShown}
 use Rattle.shared_chain.specs.Seats.{KeepsSeat}
 
@@ -83,6 +83,10 @@ module _ {S T : Type 0} where
   abbrev told_of : Shared (Chain S KeepAll T) → List Step
   told_of s = steps_of s.chain.recorder s.broke
 
+  -- how much is done to the chain: its events
+  abbrev work : Basis S T → ℕ
+  work b = b.events
+
   -- what the seat knew, the value knew before the call
   shown : (disk : S → Disk) (call : Call) (known before after : Basis S T) (x : ChainRefusal) → Contains before known → IsCausedIn disk call before after (Err x)
       → (seat last : Known Step (Basis S T)) → seat.basis ≡ known → last.basis ≡ after → IsShown disk call x seat last
@@ -98,7 +102,7 @@ module _ {S T : Type 0} where
       go (TooLong a b) h = whole (TooLong a b) h
       go ReadOnly h = whole ReadOnly h
       go (Broken file count) h = whole (Broken file count) h
-      go (Spent t) h = (h.0, inr (subst (λ (b : Basis S T). HasNote b.notes (notes.Spent t)) (sym is) h.1))
+      go (Spent t) h = (h.0, inr (subst (λ (b : Basis S T). t ≤ b.events) (sym is) h.1))
       go (FileFull next) h = whole (FileFull next) h
       go (ReadFault file count) h = whole (ReadFault file count) (h.0, h.1, λ k. h.2 (covers.notes (notes.ReadFailed file count) k))
       go NoMerge h = absurd h
@@ -112,18 +116,21 @@ module _ {S T : Type 0} where
   module _ (disk : S → Disk) (who : Caller) (call : Call) (r : Reply) (before after locked : Known Step (Basis S T)) (old new : Shared (Chain S KeepAll T)) (answer : Result ℕ ChainRefusal)
       (turn : HasTurn Contains before after locked (told_of old) (basis_of disk old)) (k : IsCalled disk who call old new answer) where
     covers : Contains (basis_of disk new) (basis_of disk old)
-    covers = record { first = ap Some k.first; notes = λ n h. (k.noted n).1 (inr h) }
+    covers = record { first = ap Some k.first; notes = λ n h. (k.noted n).1 (inr h); events = omega (arith, k.answered.events, counted_high old.chain.events) }
+
+    little : new.chain.events ≤ old.chain.events + 2
+    little = omega (arith, k.answered.events, counted_low old.chain.events)
 
     gained_step : Gained (told_of old) (told_of new)
     gained_step = steps_gained who call old.chain.recorder new.chain.recorder old.broke new.broke answer k.entered k.broke
 
     -- what `unlock` asks
-    pub may_end : MayUnlock Contains after locked (told_of new) (basis_of disk new)
+    pub may_end : MayUnlock Contains work after locked (told_of new) (basis_of disk new)
     may_end = go gained_step
       where
-        go : Gained (told_of old) (told_of new) → MayUnlock Contains after locked (told_of new) (basis_of disk new)
-        go (is_same e) = may_unlock-same Contains before after locked (told_of old) (basis_of disk old) turn (told_of new) (basis_of disk new) e covers
-        go (has_one step e) = may_unlock-entry Contains before after locked (told_of old) (basis_of disk old) turn (told_of new) (basis_of disk new) step e covers
+        go : Gained (told_of old) (told_of new) → MayUnlock Contains work after locked (told_of new) (basis_of disk new)
+        go (is_same e) = may_unlock-same Contains work before after locked (told_of old) (basis_of disk old) turn (told_of new) (basis_of disk new) e covers little
+        go (has_one step e) = may_unlock-entry Contains work before after locked (told_of old) (basis_of disk old) turn (told_of new) (basis_of disk new) step e covers little
 
     -- the seat behind the turn
     abbrev ended : Known Step (Basis S T)
@@ -138,6 +145,7 @@ module _ {S T : Type 0} where
       family = before.family;
       first_ticket = before.first_ticket;
       drawn = before.drawn + 1;
+      refusals = before.refusals;
     }
 
     goes_on : StartsWith (told_of new) (told_of old)
@@ -154,6 +162,7 @@ module _ {S T : Type 0} where
       family = refl;
       first_ticket = refl;
       known = refl;
+      refusals = omega arith;
       seen = starts-through (told_of new) (told_of old) before.seen goes_on turn.history;
       basis = contains_through (basis_of disk new) (basis_of disk old) before.basis covers turn.covers;
     }
@@ -236,8 +245,8 @@ module _ {S T : Type 0} where
 
     pub turn_called : (last : Known Step (Basis S T)) → last ≡ after_turn after (told_of new) (basis_of disk new) → OnOk answer (RepliesBehind disk old.first old.chain.recorder call r) → IsCall disk who call r before last answer
     turn_called last is behind =
-        subst (λ s. IsCall disk who call r before s answer) (sym (turn_ended Contains before after locked (told_of old) (basis_of disk old) turn last (told_of new) (basis_of disk new) is))
-        (record { keeps = keeps; answers = by_answer answer k.entered k.broke k.cause behind })
+        subst (λ s. IsCall disk who call r before s answer) (sym (turn_ended Contains work before after locked (told_of old) (basis_of disk old) turn last (told_of new) (basis_of disk new) is))
+        (record { keeps = keeps; drawn = omega arith; answers = by_answer answer k.entered k.broke k.cause behind })
 
   -- ---- as a guest's call has them
 
@@ -246,7 +255,7 @@ module _ {S T : Type 0} where
     has_turn : HasTurn Contains before after held.seat (told_of old) (basis_of disk old)
     has_turn = subst (λ (v : Shared (Chain S KeepAll T)). HasTurn Contains before after held.seat (told_of v) (basis_of disk v)) (sym is) turn
 
-    pub may_turn : MayUnlock Contains after held.seat (told_of new) (basis_of disk new)
+    pub may_turn : MayUnlock Contains work after held.seat (told_of new) (basis_of disk new)
     may_turn = may_end disk who call replies.Done before after held.seat old new answer has_turn k
 
     pub ended_turn : (want : Caller) (r : Reply) (was last : Known Step (Basis S T)) → who ≡ want → before ≡ was → last ≡ after_turn after (told_of new) (basis_of disk new) → OnOk answer (RepliesBehind disk old.first old.chain.recorder call r)

@@ -1,5 +1,5 @@
 -- What a guest's call tells it, by what its seat knew before and knows behind it.
-use Rattle.std.specs.Prelude.{◌≡◌, ◌⊎◌, ◌+◌, ◌^◌, ◌≤◌, ℕ, [], ◌∷◌, ◌++◌, length, None, Some, Result, Ok, Err, IfSome}
+use Rattle.std.specs.Prelude.{◌≡◌, ◌⊎◌, ◌+◌, ◌^◌, ◌<◌, ◌≤◌, ℕ, [], ◌∷◌, ◌++◌, length, None, Some, Result, Ok, Err, IfSome}
 use Rattle.store_model.specs.Disk.{Disk}
 use Rattle.guest_model.specs.declared.call.Call.{Call}
 use Rattle.guest_model.specs.declared.call.Caller.{Caller}
@@ -9,12 +9,10 @@ use Rattle.guest_model.specs.declared.refusal.ChainRefusal.TheVariants as refusa
 use Rattle.guest_model.specs.History.{History}
 use Rattle.chain_core.specs.States.{entry}
 use Rattle.shared_chain.specs.declared.basis.Basis.{Basis}
-use Rattle.shared_chain.specs.declared.basis.Note.TheVariants as notes
 use Rattle.shared_chain.specs.declared.basis.Step.{Step}
 use Rattle.shared_chain.specs.declared.basis.Step.TheVariants.{Broke, Done}
 use Rattle.shared_chain.specs.Answers.{IsCausedIn, RepliesBehind, misplaced_in}
 use Rattle.shared_chain.specs.Bases.{Contains}
-use Rattle.shared_chain.specs.Notes.{HasNote}
 use Rattle.shared_chain.specs.Seats.{KeepsSeat}
 use Rattle.shared_chain.specs.Steps.{breach_of, done_steps}
 use Rattle.turn_lock.specs.Histories.{StartsWith}
@@ -49,17 +47,17 @@ module _ {S T : Type 0} where
   AddsNothing who call (refusals.Broken file count) old new = (new.mine ≡ old.mine) ⊎ HasBroken who call old new
   AddsNothing who call refusal old new = new.mine ≡ old.mine
 
-  -- What shows a refusal: that of the events' count is noted, or it is the lock's, of the seat for good; any other has its cause in what the seat
-  -- knew before and knows now.
+  -- What shows a refusal: so many events or turns there were; any other has its cause in what the seat knew before and knows now.
   abbrev pub IsShown : (S → Disk) → Call → ChainRefusal → Known Step (Basis S T) → Known Step (Basis S T) → Type 0
-  IsShown disk call (refusals.Spent t) old new = (2 ^ 63 ≤ t) × ((new.refused ≡ Some t) ⊎ HasNote new.basis.notes (notes.Spent t))
+  IsShown disk call (refusals.Spent t) old new = (2 ^ 63 ≤ t) × ((0 < new.refusals) ⊎ (t ≤ new.basis.events))
   IsShown disk call refusal old new = IsCausedIn disk call old.basis new.basis (Err refusal)
 
   abbrev pub Answers : (S → Disk) → Caller → Call → Reply → Known Step (Basis S T) → Known Step (Basis S T) → Result ℕ ChainRefusal → Type 0
   Answers disk who call r old new (Ok place) = IsDone disk who call r old new place
   Answers disk who call r old new (Err refusal) = AddsNothing who call refusal old new × IsShown disk call refusal old new
 
-  -- A guest's call.
+  -- A guest's call, which draws one ticket at most.
   pub record IsCall (disk : S → Disk) (who : Caller) (call : Call) (r : Reply) (old new : Known Step (Basis S T)) (answer : Result ℕ ChainRefusal) : Type 0 where
     pub keeps : KeepsSeat old new
+    pub drawn : new.drawn ≤ old.drawn + 1
     pub answers : Answers disk who call r old new answer

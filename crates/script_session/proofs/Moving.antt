@@ -32,6 +32,13 @@ counted_low n = go (nat_lt n (2 ^ 63))
     go true = omega arith
     go false = omega arith
 
+pub counted_high : (n : ℕ) → n ≤ counted n
+counted_high n = go (nat_lt n (2 ^ 63))
+  where
+    go : (b : Bool) → n ≤ (if b then n + 1 else n)
+    go true = omega arith
+    go false = omega arith
+
 pub first_of : (u m x : Option ChainRefusal) (e : ChainRefusal) → or_else u m ≡ Some e → or_else u (or_else m x) ≡ Some e
 first_of None None x e h = cc
 first_of None (Some y) x e h = h
@@ -85,6 +92,7 @@ put_refused_so piece s e sound is = record {
   told = λ none. not_none _ e is none;
   keeps = record { noted = refl; told = refl; geometry = refl; session = refl };
   events = omega arith;
+  later = omega arith;
 }
   where
     by_cause : (o : Option ChainRefusal) → o ≡ Some e → IfStopped {T = Unit {0}} o (Err e) (IsUnchanged s s)
@@ -107,6 +115,9 @@ module _ {S R T : Type 0} (disk : S → Disk) (noted : R → ℕ) (told : R → 
   events_by : new.events ≡ counted old.events → after.events ≤ before.events + 1
   events_by e = omega (arith, e, counted_low old.events)
 
+  later_by : new.events ≡ counted old.events → before.events ≤ after.events
+  later_by e = omega (arith, e, counted_high old.events)
+
   fetch_early : (P : Type 0) (o : Option ChainRefusal) (answer : Result ℕ ChainRefusal) → IfStopped o answer (IsCounted old new × P) → IfStopped o answer (IsUnchanged before after)
   fetch_early P None answer h = tt
   fetch_early P (Some e) answer h = (h.0, ap (seen disk noted told) h.1.0)
@@ -128,6 +139,7 @@ module _ {S R T : Type 0} (disk : S → Disk) (noted : R → ℕ) (told : R → 
     keeps = keeps_by geometry session history;
     merge = merge;
     events = events_by events;
+    later = later_by events;
   }
 
   pub fetch_failed : (P : Type 0) (stripe : ℕ) (x : ChainRefusal) (piece left : Piece) → left ≡ record piece { filled = false } → IsSound before → IfStopped {T = ℕ} (fetch_refused stripe before) (Err x) (IsCounted old new × P)
@@ -146,6 +158,7 @@ module _ {S R T : Type 0} (disk : S → Disk) (noted : R → ℕ) (told : R → 
         keeps = keeps_by geometry session history;
         merge = merge;
         events = events_by events;
+        later = later_by events;
       }
 
   pub put_answers : (piece : Piece) (answer : Result (Unit {0}) ChainRefusal) → IsSound before → IfStopped (put_refused piece before) answer (IsCounted old new) → (put_refused piece before ≡ None → PutCause piece before after answer)
@@ -159,6 +172,7 @@ module _ {S R T : Type 0} (disk : S → Disk) (noted : R → ℕ) (told : R → 
     told = λ fit. answers;
     keeps = keeps_by geometry session history;
     events = events_by events;
+    later = later_by events;
   }
 
 -- what isn't done says, of one fact, what it says of another that follows from it
@@ -191,6 +205,7 @@ module _ {S R T : Type 0} (disk : S → Disk) (noted : R → ℕ) (told : R → 
     told = λ fit. answers;
     keeps = keeps_by disk noted told old new geometry session history;
     events = events_by disk noted told old new events;
+    later = later_by disk noted told old new events;
   }
 
 pub slot_stays : (g h : Geometry) (piece : Piece) → h ≡ g → IsSlot g piece → IsSlot h piece

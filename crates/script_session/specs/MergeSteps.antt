@@ -28,6 +28,7 @@ pub record AnswersFetch (stripe : ℕ) (answer : Result ℕ ChainRefusal) (old n
   pub keeps : KeepsHistory old new
   pub merge : KeepsMerge old.layers new.layers
   pub events : new.events ≤ old.events + 1
+  pub later : old.events ≤ new.events
 
 -- A piece was put, or the put was refused.
 pub record AnswersPut (piece : Piece) (answer : Result (Unit {0}) ChainRefusal) (old new : Session) : Type 0 where
@@ -38,6 +39,7 @@ pub record AnswersPut (piece : Piece) (answer : Result (Unit {0}) ChainRefusal) 
   pub told : put_refused piece old ≡ None → PieceTold piece old new answer
   pub keeps : KeepsHistory old new
   pub events : new.events ≤ old.events + 1
+  pub later : old.events ≤ new.events
 
 -- A turn of a copy: a stripe was fetched and put, or the first of both that was refused ended it.
 pub data AnswersTurn (stripe : ℕ) : Result (Unit {0}) ChainRefusal → Session → Session → Type 0 where
@@ -76,3 +78,4 @@ pub record AnswersFinish (answer : Result (Unit {0}) ChainRefusal) (old new : Se
   pub told : merge_refused old ≡ None → FinishTold old new answer
   pub keeps : KeepsHistory old new
   pub events : new.events ≤ old.events + 1
+  pub later : old.events ≤ new.events

@@ -39,7 +39,7 @@ use Rattle.shared_chain.specs.declared.basis.Note.{Note}
 use Rattle.shared_chain.specs.declared.basis.Note.TheVariants as notes
 use Rattle.shared_chain.specs.declared.basis.Step.{Step}
 use Rattle.shared_chain.specs.declared.basis.Step.TheVariants.{Broke, Done}
-use Rattle.shared_chain.specs.Bases.{Contains, basis_of, fault_notes, full_notes, notes_in, read_notes, spent_notes}
+use Rattle.shared_chain.specs.Bases.{Contains, basis_of, fault_notes, full_notes, notes_in, read_notes}
 use Rattle.script_session.specs.Running.{IsEnded, open_by}
 use Rattle.shared_chain.specs.Faults.{CountsChange, EndsCounted}
 use Rattle.shared_chain.specs.Homes.{session_of}
@@ -49,7 +49,7 @@ use Rattle.shared_chain.specs.Shared.{Shared}
 use Rattle.shared_chain.specs.Steps.{broke_step, done_steps, merge_breach, open_by as opens_by, steps_of}
 use Rattle.shared_chain.specs.Seats.{MergeBreaksAt}
 use Rattle.serve_session.specs.Actors.{AreHeard, AreJoined, HasBreach, HasBreacher, IsHeard, IsHeardOf, IsOwned, OwnsAt, first_notes}
-use Rattle.serve_session.specs.Served.{AreOutcomes, AreServed, EachGuest, Has, HasBreaker, HasBroken, IsBreakOf, IsOutcome, IsRefused, IsTranscript, Outcome, SomeGuest, all_told, as_told, call_of, entry_of, forms_of, is_broken, is_full, is_misplaced, is_spent, is_unread, places_in, told_guests}
+use Rattle.serve_session.specs.Served.{AreOutcomes, AreServed, EachGuest, Has, HasBreaker, HasBroken, IsBreakOf, IsOutcome, IsRefused, IsTranscript, Outcome, SomeGuest, all_told, as_told, call_of, entry_of, forms_of, is_broken, is_full, is_misplaced, is_unread, places_in, told_guests}
 use Rattle.serve_session.specs.Serving.{drive_from}
 use Rattle.serve_session.proofs.Hearing.{nothing}
 use Rattle.serve_session.proofs.Guests.{all_told_are, each_map, some_and, told_count, told_guests_count}
@@ -102,11 +102,6 @@ module _ (f c : ℕ) where
   no_full (Some n) (inl h) = absurd h
   no_full (Some n) (inr h) = absurd h
 
-  no_spent : (o : Option ℕ) → HasNote (spent_notes o) (notes.ChangeFailed f c) → ⊥
-  no_spent None h = absurd h
-  no_spent (Some n) (inl h) = absurd h
-  no_spent (Some n) (inr h) = absurd h
-
   no_reads : (failed : ℕ → ℕ) (files : ℕ) → HasNote (read_notes failed files) (notes.ChangeFailed f c) → ⊥
   no_reads failed zero h = absurd h
   no_reads failed (suc i) (inl h) = absurd h
@@ -117,8 +112,8 @@ module _ (f c : ℕ) where
   in_fault (Some x) (inl h) = ap₂ (λ file count. Some (fault_of file count)) h.0 (sym h.1)
   in_fault (Some x) (inr h) = absurd h
 
-  pub change_noted : (disk : Disk) (broken : Option StoreFault) (full spent : Option ℕ) → HasNote (notes_in disk broken full spent) (notes.ChangeFailed f c) → broken ≡ Some (fault_of f c)
-  change_noted disk broken full spent h = one (of_both (full_notes full) (spent_notes spent ++ (fault_notes broken ++ reads)) n h)
+  pub change_noted : (disk : Disk) (broken : Option StoreFault) (full : Option ℕ) → HasNote (notes_in disk broken full) (notes.ChangeFailed f c) → broken ≡ Some (fault_of f c)
+  change_noted disk broken full h = one (of_both (full_notes full) (fault_notes broken ++ reads) n h)
     where
       n : Note
       n = notes.ChangeFailed f c
@@ -130,23 +125,14 @@ module _ (f c : ℕ) where
       three (inl k) = in_fault broken k
       three (inr k) = absurd (no_reads disk.failed_reads disk.files k)
 
-      two : HasNote (spent_notes spent) n ⊎ HasNote (fault_notes broken ++ reads) n → broken ≡ Some (fault_of f c)
-      two (inl k) = absurd (no_spent spent k)
-      two (inr k) = three (of_both (fault_notes broken) reads n k)
-
-      one : HasNote (full_notes full) n ⊎ HasNote (spent_notes spent ++ (fault_notes broken ++ reads)) n → broken ≡ Some (fault_of f c)
+      one : HasNote (full_notes full) n ⊎ HasNote (fault_notes broken ++ reads) n → broken ≡ Some (fault_of f c)
       one (inl k) = absurd (no_full full k)
-      one (inr k) = two (of_both (spent_notes spent) (fault_notes broken ++ reads) n k)
+      one (inr k) = three (of_both (fault_notes broken) reads n k)
 
   read_full : (o : Option ℕ) → HasNote (full_notes o) (notes.ReadFailed f c) → ⊥
   read_full None h = absurd h
   read_full (Some n) (inl h) = absurd h
   read_full (Some n) (inr h) = absurd h
-
-  read_spent : (o : Option ℕ) → HasNote (spent_notes o) (notes.ReadFailed f c) → ⊥
-  read_spent None h = absurd h
-  read_spent (Some n) (inl h) = absurd h
-  read_spent (Some n) (inr h) = absurd h
 
   read_fault : (o : Option StoreFault) → HasNote (fault_notes o) (notes.ReadFailed f c) → ⊥
   read_fault None h = absurd h
@@ -158,8 +144,8 @@ module _ (f c : ℕ) where
   in_reads failed (suc i) (inl h) = (omega (arith, h.0), subst (λ k. c ≤ failed k) h.0 h.1)
   in_reads failed (suc i) (inr h) = let k = in_reads failed i h in (omega (arith, k.0), k.1)
 
-  pub read_noted : (disk : Disk) (broken : Option StoreFault) (full spent : Option ℕ) → HasNote (notes_in disk broken full spent) (notes.ReadFailed f c) → (f < disk.files) × (c ≤ disk.failed_reads f)
-  read_noted disk broken full spent h = one (of_both (full_notes full) (spent_notes spent ++ (fault_notes broken ++ reads)) n h)
+  pub read_noted : (disk : Disk) (broken : Option StoreFault) (full : Option ℕ) → HasNote (notes_in disk broken full) (notes.ReadFailed f c) → (f < disk.files) × (c ≤ disk.failed_reads f)
+  read_noted disk broken full h = one (of_both (full_notes full) (fault_notes broken ++ reads) n h)
     where
       n : Note
       n = notes.ReadFailed f c
@@ -171,13 +157,9 @@ module _ (f c : ℕ) where
       three (inl k) = absurd (read_fault broken k)
       three (inr k) = in_reads disk.failed_reads disk.files k
 
-      two : HasNote (spent_notes spent) n ⊎ HasNote (fault_notes broken ++ reads) n → (f < disk.files) × (c ≤ disk.failed_reads f)
-      two (inl k) = absurd (read_spent spent k)
-      two (inr k) = three (of_both (fault_notes broken) reads n k)
-
-      one : HasNote (full_notes full) n ⊎ HasNote (spent_notes spent ++ (fault_notes broken ++ reads)) n → (f < disk.files) × (c ≤ disk.failed_reads f)
+      one : HasNote (full_notes full) n ⊎ HasNote (fault_notes broken ++ reads) n → (f < disk.files) × (c ≤ disk.failed_reads f)
       one (inl k) = absurd (read_full full k)
-      one (inr k) = two (of_both (spent_notes spent) (fault_notes broken ++ reads) n k)
+      one (inr k) = three (of_both (fault_notes broken) reads n k)
 
 -- each file has had no fewer than no failed reads
 none_noted : (failed : ℕ → ℕ) (files f : ℕ) → f < files → HasNote (read_notes failed files) (notes.ReadFailed f 0)
@@ -200,7 +182,7 @@ none_noted failed (suc i) f less = go (λ l. none_noted failed i f l) (cases i f
     go below (inr (inl l)) = inr (below l)
     go below (inr (inr l)) = absurd (omega (arith, l, less))
 
-pub begins_noted : (disk : Disk) (f : ℕ) → f < disk.files → HasNote (notes_in disk None None None) (notes.ReadFailed f 0)
+pub begins_noted : (disk : Disk) (f : ℕ) → f < disk.files → HasNote (notes_in disk None None) (notes.ReadFailed f 0)
 begins_noted disk f less = none_noted disk.failed_reads disk.files f less
 
 -- ---- the end of a session
@@ -279,20 +261,20 @@ module _ {S T : Type 0} (disk : S → Disk) (first : Chain S KeepAll T) where
     begins : StartsWith seen (done_steps before ++ Done (entry_of guest no call) ∷ [])
     place_is : p ≡ length before + 1
 
-  heard_at : (seen : List Step) (noted : List Note) (guest number p : ℕ) (forms : List Form) (outcomes : List Outcome) → AreHeard disk first seen noted guest number forms outcomes → Has p (places_in outcomes) → At seen guest number outcomes p
-  heard_at seen noted guest number p forms [] h has = absurd has
-  heard_at seen noted guest number p [] (o ∷ outcomes) h has = absurd h
-  heard_at seen noted guest number p (f ∷ forms) (Err x ∷ outcomes) h has =
-      let a = heard_at seen noted guest (number + 1) p forms outcomes h.1 has in
+  heard_at : (seat : Known Step (Basis S T)) (guest number p : ℕ) (forms : List Form) (outcomes : List Outcome) → AreHeard disk first seat guest number forms outcomes → Has p (places_in outcomes) → At seat.seen guest number outcomes p
+  heard_at seat guest number p forms [] h has = absurd has
+  heard_at seat guest number p [] (o ∷ outcomes) h has = absurd h
+  heard_at seat guest number p (f ∷ forms) (Err x ∷ outcomes) h has =
+      let a = heard_at seat guest (number + 1) p forms outcomes h.1 has in
       record { no = a.no; call = a.call; before = a.before; low = omega (arith, a.low); high = omega (arith, a.high); begins = a.begins; place_is = a.place_is }
-  heard_at seen noted guest number p (f ∷ forms) (Ok done ∷ outcomes) h (inl e) =
+  heard_at seat guest number p (f ∷ forms) (Ok done ∷ outcomes) h (inl e) =
       record { no = number; call = call_of f; before = h.0.before; low = omega arith; high = omega arith; begins = h.0.begins; place_is = e ∙ h.0.place_is }
-  heard_at seen noted guest number p (f ∷ forms) (Ok done ∷ outcomes) h (inr has) =
-      let a = heard_at seen noted guest (number + 1) p forms outcomes h.1 has in
+  heard_at seat guest number p (f ∷ forms) (Ok done ∷ outcomes) h (inr has) =
+      let a = heard_at seat guest (number + 1) p forms outcomes h.1 has in
       record { no = a.no; call = a.call; before = a.before; low = omega (arith, a.low); high = omega (arith, a.high); begins = a.begins; place_is = a.place_is }
 
   module _ (merges : Bool) (lock : TableId) (names : List (List ℕ)) (lines : List Line) (seat : Known Step (Basis S T)) (told : List (List ToldCall)) (short : Bool) (guests : List (List Outcome)) (j : AreJoined disk first merges lock names lines seat told short guests)
-      (v : Shared (Chain S KeepAll T)) (broke : Option Breach) (seen_is : steps_of v.chain.recorder broke ≡ seat.seen) (basis : Contains (basis_of disk v) seat.basis) (places : (p : ℕ) → times p seat.mine ≡ once_between p 1 (length seat.seen + 1)) where
+      (v : Shared (Chain S KeepAll T)) (broke : Option Breach) (seen_is : steps_of v.chain.recorder broke ≡ seat.seen) (basis : Contains (basis_of disk v) seat.basis) (places : (p : ℕ) → times p seat.mine ≡ once_between p 1 (length seat.seen + 1)) (refusals : seat.refusals ≡ 0) (few : v.chain.events < 2 ^ 63) where
     abbrev h : History
     h = v.chain.recorder
 
@@ -313,7 +295,7 @@ module _ {S T : Type 0} (disk : S → Disk) (first : Chain S KeepAll T) where
     Owned p guest outcomes = OwnsAt seat.seen p guest (forms_of guest lines) outcomes
 
     abbrev Heard : ℕ → List Outcome → Type 0
-    Heard guest outcomes = AreHeard disk first seat.seen seat.basis.notes guest 1 (forms_of guest lines) outcomes
+    Heard guest outcomes = AreHeard disk first seat guest 1 (forms_of guest lines) outcomes
 
     owner : (p : ℕ) → 1 ≤ p → p ≤ length seat.seen → IsOwned merges seat.seen p lines guests
     owner p low high = j.owns p (own p low high)
@@ -356,7 +338,7 @@ module _ {S T : Type 0} (disk : S → Disk) (first : Chain S KeepAll T) where
 
       by_owner : (g : ℕ) (os : List Outcome) → Heard g os → Owned (length h + 1) g os → HasBreacher b g 1 (forms_of g lines) os
       by_owner g os heard (inl has) =
-          let a = heard_at seat.seen seat.basis.notes g 1 (length h + 1) (forms_of g lines) os heard has in
+          let a = heard_at seat g 1 (length h + 1) (forms_of g lines) os heard has in
           let starts = starts-length h (a.before ++ entry_of g a.no a.call ∷ []) (starts_more h a.before broke (entry_of g a.no a.call) (as_history a.begins)) in
           absurd (omega (arith, a.place_is, starts, length-append a.before (entry_of g a.no a.call ∷ [])))
       by_owner g os heard (inr x) =
@@ -425,7 +407,7 @@ module _ {S T : Type 0} (disk : S → Disk) (first : Chain S KeepAll T) where
     all_called memory i d within =
         let k = j.kept memory in
         let o = some_told (λ g os. Has (i + 1) (places_in os) × Heard g os) names lines 1 guests (some_and Heard (λ g os. Has (i + 1) (places_in os)) (λ g os. Has (i + 1) (places_in os) × Heard g os) 1 guests (λ g os a b. (b, a)) j.heard (all_places (i + 1) (omega arith) (omega (arith, within)))) k.0 in
-        let a = heard_at seat.seen seat.basis.notes o.0 1 (i + 1) (forms_of o.0 lines) o.1 o.2.1 o.2.0 in
+        let a = heard_at seat o.0 1 (i + 1) (forms_of o.0 lines) o.1 o.2.1 o.2.0 in
         let is : get_or h i d ≡ entry_of o.0 a.no a.call = ap (λ n. get_or h n d) {x = i} {y = length a.before} (omega (arith, a.place_is)) ∙ entry_at h a.before (entry_of o.0 a.no a.call) d (starts_more h a.before broke (entry_of o.0 a.no a.call) (as_history a.begins)) in
         subst (IsTold told) (sym is) (subst (λ ts. IsTold ts (entry_of o.0 a.no a.call)) (sym k.1) (record {
           lowest_guest = o.3;
@@ -443,16 +425,24 @@ module _ {S T : Type 0} (disk : S → Disk) (first : Chain S KeepAll T) where
     module _ (after : Disk) (closed : Result (Unit {0}) StoreFault) (ended : IsEnded (session_of disk v.chain) after closed) (w : Which closed) where
       broken_is : (f c : ℕ) → HasNote seat.basis.notes (notes.ChangeFailed f c) → failed_by closed ≡ Some (fault_of f c)
       broken_is f c noted =
-          broken_tells (session_of disk v.chain) after closed (fault_of f c) ended (change_noted f c (disk v.chain.store) v.chain.broken v.full v.spent (basis.notes (notes.ChangeFailed f c) noted))
+          broken_tells (session_of disk v.chain) after closed (fault_of f c) ended (change_noted f c (disk v.chain.store) v.chain.broken v.full (basis.notes (notes.ChangeFailed f c) noted))
+
+      -- there were too few turns and events for that
+      never_spent : (t : ℕ) → (2 ^ 63 ≤ t) × ((0 < seat.refusals) ⊎ (t ≤ seat.basis.events)) → ⊥
+      never_spent t k = by_count k.1
+        where
+          by_count : (0 < seat.refusals) ⊎ (t ≤ seat.basis.events) → ⊥
+          by_count (inl some) = absurd (omega (arith, some, refusals))
+          by_count (inr many) = absurd (omega (arith, many, k.0, basis.events, few))
 
       module _ (from : State) (size : sector_of from ≡ 512) (trace : Trace) (store_told : (disk first.store).told ≡ Some trace) (serving : IsServing first.layers from trace) (empty : from.history ≡ []) where
-        refused_by : (noted_call : Call) (x : ChainRefusal) → IsHeardOf disk first seat.basis.notes noted_call x → IsRefused (drive_from first from) (failed_by closed) noted_call x
+        refused_by : (noted_call : Call) (x : ChainRefusal) → IsHeardOf disk first seat noted_call x → IsRefused (drive_from first from) (failed_by closed) noted_call x
         refused_by call EmptyRange k = is_misplaced EmptyRange k
         refused_by call (OutOfRange a b c) k = is_misplaced (OutOfRange a b c) k
         refused_by call (TooLong a b) k = is_misplaced (TooLong a b) k
         refused_by call ReadOnly k = is_misplaced ReadOnly k
         refused_by call (Broken file count) k = is_broken (fault_of file count) (broken_is file count k)
-        refused_by call (Spent t) k = is_spent t k
+        refused_by call (Spent t) k = absurd (never_spent t k)
         refused_by call (FileFull next) k = is_full next k.0 (k.2 trace store_told from serving empty)
         refused_by call (ReadFault file count) k = is_unread file count k.0
         refused_by call NoMerge k = absurd k
@@ -463,7 +453,7 @@ module _ {S T : Type 0} (disk : S → Disk) (first : Chain S KeepAll T) where
         refused_by call NoPiece k = absurd k
         refused_by call NoRoom k = absurd k
 
-        outcome_is : (guest number : ℕ) (form : Form) (o : Outcome) → IsHeard disk first seat.seen seat.basis.notes guest number form o → IsOutcome (drive_from first from) h (failed_by closed) guest number (call_of form) o
+        outcome_is : (guest number : ℕ) (form : Form) (o : Outcome) → IsHeard disk first seat guest number form o → IsOutcome (drive_from first from) h (failed_by closed) guest number (call_of form) o
         outcome_is guest number form (Ok done) k = record {
           before = k.before;
           begins = starts_more h k.before broke (entry_of guest number (call_of form)) (as_history k.begins);
@@ -473,7 +463,7 @@ module _ {S T : Type 0} (disk : S → Disk) (first : Chain S KeepAll T) where
         }
         outcome_is guest number form (Err x) k = refused_by (call_of form) x k
 
-        outcomes_are : (guest number : ℕ) (forms : List Form) (outcomes : List Outcome) → AreHeard disk first seat.seen seat.basis.notes guest number forms outcomes → AreOutcomes (drive_from first from) h (failed_by closed) guest number forms outcomes
+        outcomes_are : (guest number : ℕ) (forms : List Form) (outcomes : List Outcome) → AreHeard disk first seat guest number forms outcomes → AreOutcomes (drive_from first from) h (failed_by closed) guest number forms outcomes
         outcomes_are guest number forms [] k = tt
         outcomes_are guest number [] (o ∷ outcomes) k = absurd k
         outcomes_are guest number (f ∷ forms) (o ∷ outcomes) k = (outcome_is guest number f o k.0, outcomes_are guest (number + 1) forms outcomes k.1)
@@ -498,9 +488,9 @@ module _ {S T : Type 0} (disk : S → Disk) (first : Chain S KeepAll T) where
         abbrev IsFault : Told → Type 0
         IsFault t = IfErr t (IsFaultOf (disk first.store).files after.failed_reads (failed_by closed))
 
-        read_told : (call : Call) (file count : ℕ) → (disk v.chain.store).files ≡ (disk first.store).files → IsHeardOf disk first seat.basis.notes call (ReadFault file count) → IsFault (Err (ReadFault file count))
+        read_told : (call : Call) (file count : ℕ) → (disk v.chain.store).files ≡ (disk first.store).files → IsHeardOf disk first seat call (ReadFault file count) → IsFault (Err (ReadFault file count))
         read_told call file count files k =
-            let n = read_noted file count (disk v.chain.store) v.chain.broken v.full v.spent (basis.notes (notes.ReadFailed file count) k.1) in
+            let n = read_noted file count (disk v.chain.store) v.chain.broken v.full (basis.notes (notes.ReadFailed file count) k.1) in
             let there : file < (disk first.store).files = subst (λ m. file < m) files n.0 in
             (there, some count k.2 there, subst (λ (r : ℕ → ℕ). count ≤ r file) (sym reads_are) n.1)
           where
@@ -511,7 +501,7 @@ module _ {S T : Type 0} (disk : S → Disk) (first : Chain S KeepAll T) where
         files : (disk v.chain.store).files ≡ (disk first.store).files
         files = sym (files_stay (session_of disk v.chain) after closed ended) ∙ counted.files
 
-        fault_told : (call : Call) (x : ChainRefusal) → IsHeardOf disk first seat.basis.notes call x → IsFault (Err x)
+        fault_told : (call : Call) (x : ChainRefusal) → IsHeardOf disk first seat call x → IsFault (Err x)
         fault_told call EmptyRange k = tt
         fault_told call (OutOfRange a b c) k = tt
         fault_told call (TooLong a b) k = tt
@@ -528,7 +518,7 @@ module _ {S T : Type 0} (disk : S → Disk) (first : Chain S KeepAll T) where
         fault_told call NoPiece k = tt
         fault_told call NoRoom k = tt
 
-        faults_heard : (guest number : ℕ) (forms : List Form) (outcomes : List Outcome) → AreHeard disk first seat.seen seat.basis.notes guest number forms outcomes → AllByRecursion IsFault (map as_told outcomes)
+        faults_heard : (guest number : ℕ) (forms : List Form) (outcomes : List Outcome) → AreHeard disk first seat guest number forms outcomes → AllByRecursion IsFault (map as_told outcomes)
         faults_heard guest number forms [] k = tt
         faults_heard guest number [] (o ∷ outcomes) k = absurd k
         faults_heard guest number (f ∷ forms) (Ok done ∷ outcomes) k = (tt, faults_heard guest (number + 1) forms outcomes k.1)

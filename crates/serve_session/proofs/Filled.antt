@@ -16,9 +16,11 @@ use Rattle.script_session.specs.Histories.{IsEndTold, IsSoLong}
 use Rattle.shared_chain.specs.declared.basis.Note.{Note}
 use Rattle.shared_chain.specs.declared.basis.Note.TheVariants as notes
 use Rattle.shared_chain.specs.declared.basis.Step.{Step}
-use Rattle.shared_chain.specs.Bases.{fault_notes, full_notes, notes_in, read_notes, spent_notes}
+use Rattle.shared_chain.specs.Bases.{fault_notes, full_notes, notes_in, read_notes}
 use Rattle.shared_chain.specs.Laws.{of_both}
 use Rattle.shared_chain.specs.Notes.{HasNote}
+use Rattle.turn_lock.specs.Seats.{Known}
+use Rattle.shared_chain.specs.declared.basis.Basis.{Basis}
 use Rattle.serve_session.specs.Actors.{AreHeard, IsHeardOf}
 use Rattle.serve_session.specs.Served.{EachGuest, Outcome, all_told, as_told, call_of, forms_of}
 use Rattle.serve_session.specs.Serving.{IsUpTo}
@@ -32,11 +34,6 @@ module _ (next : ℕ) where
   in_full (Some most) (inl h) = h
   in_full (Some most) (inr h) = absurd h
 
-  none_spent : (o : Option ℕ) → HasNote (spent_notes o) (notes.Full next) → ⊥
-  none_spent None h = absurd h
-  none_spent (Some n) (inl h) = absurd h
-  none_spent (Some n) (inr h) = absurd h
-
   none_fault : (o : Option StoreFault) → HasNote (fault_notes o) (notes.Full next) → ⊥
   none_fault None h = absurd h
   none_fault (Some x) (inl h) = absurd h
@@ -47,8 +44,8 @@ module _ (next : ℕ) where
   none_reads failed (suc i) (inl h) = absurd h
   none_reads failed (suc i) (inr h) = none_reads failed i h
 
-  pub full_noted : (disk : Disk) (broken : Option StoreFault) (full spent : Option ℕ) → HasNote (notes_in disk broken full spent) (notes.Full next) → IsUpTo full next
-  full_noted disk broken full spent h = one (of_both (full_notes full) (spent_notes spent ++ (fault_notes broken ++ reads)) n h)
+  pub full_noted : (disk : Disk) (broken : Option StoreFault) (full : Option ℕ) → HasNote (notes_in disk broken full) (notes.Full next) → IsUpTo full next
+  full_noted disk broken full h = one (of_both (full_notes full) (fault_notes broken ++ reads) n h)
     where
       n : Note
       n = notes.Full next
@@ -56,25 +53,21 @@ module _ (next : ℕ) where
       reads : List Note
       reads = read_notes disk.failed_reads disk.files
 
-      three : HasNote (fault_notes broken) n ⊎ HasNote reads n → IsUpTo full next
-      three (inl k) = absurd (none_fault broken k)
-      three (inr k) = absurd (none_reads disk.failed_reads disk.files k)
+      two : HasNote (fault_notes broken) n ⊎ HasNote reads n → IsUpTo full next
+      two (inl k) = absurd (none_fault broken k)
+      two (inr k) = absurd (none_reads disk.failed_reads disk.files k)
 
-      two : HasNote (spent_notes spent) n ⊎ HasNote (fault_notes broken ++ reads) n → IsUpTo full next
-      two (inl k) = absurd (none_spent spent k)
-      two (inr k) = three (of_both (fault_notes broken) reads n k)
-
-      one : HasNote (full_notes full) n ⊎ HasNote (spent_notes spent ++ (fault_notes broken ++ reads)) n → IsUpTo full next
+      one : HasNote (full_notes full) n ⊎ HasNote (fault_notes broken ++ reads) n → IsUpTo full next
       one (inl k) = in_full full k
-      one (inr k) = two (of_both (spent_notes spent) (fault_notes broken ++ reads) n k)
+      one (inr k) = two (of_both (fault_notes broken) reads n k)
 
 -- ---- what guests are told
 
-module _ {S T : Type 0} (disk : S → Disk) (first : Chain S KeepAll T) (seen : List Step) (noted : List Note) (full : Option ℕ) (up : (next : ℕ) → HasNote noted (notes.Full next) → IsUpTo full next) where
+module _ {S T : Type 0} (disk : S → Disk) (first : Chain S KeepAll T) (seat : Known Step (Basis S T)) (full : Option ℕ) (up : (next : ℕ) → HasNote seat.basis.notes (notes.Full next) → IsUpTo full next) where
   abbrev IsEnd : Outcome → Type 0
   IsEnd o = IsEndTold (IsUpTo full) (as_told o)
 
-  end_heard : (call : Call) (x : ChainRefusal) → IsHeardOf disk first noted call x → IsEnd (Err x)
+  end_heard : (call : Call) (x : ChainRefusal) → IsHeardOf disk first seat call x → IsEnd (Err x)
   end_heard call EmptyRange k = tt
   end_heard call (OutOfRange a b c) k = tt
   end_heard call (TooLong a b) k = tt
@@ -91,16 +84,16 @@ module _ {S T : Type 0} (disk : S → Disk) (first : Chain S KeepAll T) (seen : 
   end_heard call NoPiece k = tt
   end_heard call NoRoom k = tt
 
-  ends_heard : (guest number : ℕ) (forms : List Form) (outcomes : List Outcome) → AreHeard disk first seen noted guest number forms outcomes → AllByRecursion (IsEndTold (IsUpTo full)) (map as_told outcomes)
+  ends_heard : (guest number : ℕ) (forms : List Form) (outcomes : List Outcome) → AreHeard disk first seat guest number forms outcomes → AllByRecursion (IsEndTold (IsUpTo full)) (map as_told outcomes)
   ends_heard guest number forms [] k = tt
   ends_heard guest number [] (o ∷ outcomes) k = absurd k
   ends_heard guest number (f ∷ forms) (Ok done ∷ outcomes) k = (tt, ends_heard guest (number + 1) forms outcomes k.1)
   ends_heard guest number (f ∷ forms) (Err x ∷ outcomes) k = (end_heard (call_of f) x k.0, ends_heard guest (number + 1) forms outcomes k.1)
 
-  pub ends_told : (lines : List Line) (guests : List (List Outcome)) → EachGuest (λ guest outcomes. AreHeard disk first seen noted guest 1 (forms_of guest lines) outcomes) 1 guests → AllByRecursion (IsEndTold (IsUpTo full)) (all_told guests)
+  pub ends_told : (lines : List Line) (guests : List (List Outcome)) → EachGuest (λ guest outcomes. AreHeard disk first seat guest 1 (forms_of guest lines) outcomes) 1 guests → AllByRecursion (IsEndTold (IsUpTo full)) (all_told guests)
   ends_told lines guests heard =
       all_told_are (IsEndTold (IsUpTo full)) 1 guests
-      (each_map (λ g os. AreHeard disk first seen noted g 1 (forms_of g lines) os) (λ g os. AllByRecursion (IsEndTold (IsUpTo full)) (map as_told os)) 1 guests (λ g os. ends_heard g 1 (forms_of g lines) os) heard)
+      (each_map (λ g os. AreHeard disk first seat g 1 (forms_of g lines) os) (λ g os. AllByRecursion (IsEndTold (IsUpTo full)) (map as_told os)) 1 guests (λ g os. ends_heard g 1 (forms_of g lines) os) heard)
 
 -- a file that is so long reaches each lower unit
 pub long_up : (full : Option ℕ) (may : ℕ → Bool) (now : Trace) → IfSome full (IsSoLong may now) → (next : ℕ) → IsUpTo full next → IsSoLong may now next

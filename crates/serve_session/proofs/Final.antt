@@ -1,5 +1,5 @@
 -- What serving guests leaves, with the end of the session.
-use Rattle.std.proofs.Common.{◌≡◌, ◌⊎◌, ◌+◌, ◌<◌, ◌≤◌, ℕ, zero, suc, Bool, true, false, [], List, length, min, replicate, Option, None, Some, Result, Ok, Err, inl, inr, refl, sym, ap, ap₂, subst, ◌∙◌, arith}
+use Rattle.std.proofs.Common.{◌≡◌, ◌⊎◌, ◌+◌, ◌-◌, ◌*◌, ◌^◌, ◌<◌, ◌≤◌, ℕ, zero, suc, Bool, true, false, [], List, length, min, replicate, Option, None, Some, Result, Ok, Err, inl, inr, refl, sym, ap, ap₂, subst, ◌∙◌, arith}
 use Rattle.std.specs.Prelude.{◌||◌, All, IfErr, IfOk, IfSome, IsErr, OnOk, String, is_some, string_bytes}
 use Rattle.std.proofs.lemmas.Result.{on_ok_weaker}
 use Rattle.std.specs.List.{AllByRecursion}
@@ -72,9 +72,9 @@ none_under layers none = ap₂ (λ (o : Option Underway) (r : Option Retiring). 
 
 module _ {S T : Type 0} (disk : S → Disk) where
   -- the first seat of a lock over a chain whose session has just begun
-  module _ (v : Shared (Chain S KeepAll T)) (fresh : v ≡ record { chain = v.first; first = v.first; full = None; spent = None; broke = None; fault = None }) (whole : v.first.broken ≡ None) (lock : TableId) (made : Known Step (Basis S T)) (is : made ≡ first_seat lock 0 (basis_of disk v)) where
+  module _ (v : Shared (Chain S KeepAll T)) (fresh : v ≡ record { chain = v.first; first = v.first; full = None; broke = None; fault = None }) (whole : v.first.broken ≡ None) (lock : TableId) (made : Known Step (Basis S T)) (is : made ≡ first_seat lock 0 (basis_of disk v)) where
     fresh_basis : basis_of disk v ≡ first_basis disk v.first
-    fresh_basis = ap (basis_of disk) fresh ∙ ap (λ (b : Option StoreFault). record { first = Some v.first; notes = notes_in (disk v.first.store) b None None }) whole
+    fresh_basis = ap (basis_of disk) fresh ∙ ap (λ (b : Option StoreFault). record { first = Some v.first; notes = notes_in (disk v.first.store) b None; events = v.first.events }) whole
 
     made_knows : Contains made.basis (first_basis disk v.first)
     made_knows = subst (λ (b : Basis S T). Contains b (first_basis disk v.first)) (sym (ap (λ (s : Known Step (Basis S T)). s.basis) is ∙ fresh_basis)) (contains_itself (first_basis disk v.first))
@@ -105,9 +105,21 @@ module _ {S T : Type 0} (disk : S → Disk) where
         let k_splits : k.family.splits ≡ j.family.splits = ap (λ (f : Family). f.splits) k_is in
         omega (arith, made_joins, made_splits, a_joins, a_splits, b_joins, b_splits, j_joins, j_splits, k_joins, k_splits, ns, ms)
 
+  -- no turn was refused, and few events there were
+  pub few_turns : (lock : TableId) (basis : Basis S T) (made a b j k : Known Step (Basis S T)) (splits others n m most events : ℕ) → made ≡ first_seat lock 0 basis → a ≡ with_splits made splits → b ≡ with_splits a others
+      → j.first_ticket ≡ b.first_ticket → j.drawn ≤ b.drawn + 2 ^ 20 * n → k.first_ticket ≡ j.first_ticket → k.drawn ≤ j.drawn + 2 ^ 32 * m → n ≡ min most 64 → m ≤ 64
+      → IfSome k.first_ticket (λ t. k.refusals ≡ t + k.drawn - 2 ^ 63) → IfSome k.first_ticket (λ t. events ≤ 2 * (t + k.drawn)) → (k.refusals ≡ 0) × (events ≤ 2 ^ 40)
+  few_turns lock basis made a b j k splits others n m most events is a_is b_is j_first j_drawn k_first k_drawn guests workers refused worked =
+      let first : k.first_ticket ≡ Some 0 =
+      k_first ∙ j_first ∙ ap (λ (s : Known Step (Basis S T)). s.first_ticket) b_is ∙ ap (λ (s : Known Step (Basis S T)). s.first_ticket) a_is ∙ ap (λ (s : Known Step (Basis S T)). s.first_ticket) is in
+      let none : b.drawn ≡ 0 = ap (λ (s : Known Step (Basis S T)). s.drawn) b_is ∙ ap (λ (s : Known Step (Basis S T)). s.drawn) a_is ∙ ap (λ (s : Known Step (Basis S T)). s.drawn) is in
+      let r = subst (λ o. IfSome o (λ t. k.refusals ≡ t + k.drawn - 2 ^ 63)) first refused in
+      let w = subst (λ o. IfSome o (λ t. events ≤ 2 * (t + k.drawn))) first worked in
+      (omega (arith, r, none, j_drawn, k_drawn, guests, workers), omega (arith, w, none, j_drawn, k_drawn, guests, workers))
+
   -- a chain that was just made to be shared
-  pub begun_is : (chain : Chain S KeepAll T) (s : Shared (Chain S KeepAll T)) → s ≡ record { chain = chain; first = chain; full = None; spent = None; broke = None; fault = None } → IsSound (session_of disk chain) → chain.recorder ≡ [] → chain.broken ≡ None → HasBegun disk s
-  begun_is chain s is sound empty whole = subst (HasBegun disk) (sym is) (record { sound = sound; fresh = refl; empty = empty; whole = whole })
+  pub begun_is : (chain : Chain S KeepAll T) (s : Shared (Chain S KeepAll T)) → s ≡ record { chain = chain; first = chain; full = None; broke = None; fault = None } → IsSound (session_of disk chain) → chain.recorder ≡ [] → chain.broken ≡ None → chain.events ≡ 0 → HasBegun disk s
+  begun_is chain s is sound empty whole none = subst (HasBegun disk) (sym is) (record { sound = sound; fresh = refl; empty = empty; whole = whole; none = none })
 
   -- ---- the end of a merge
 
@@ -119,6 +131,7 @@ module _ {S T : Type 0} (disk : S → Disk) where
     broke : (v.broke ≡ mid.broke) ⊎ ((merges ≡ true) × (mid.broke ≡ None) × (v.broke ≡ Some merge_breach))
     finished : merges ≡ true → OnOk merged (has_merge v.chain.layers ≡ false)
     stopped : IfErr merged (StopsEnd disk v)
+    few : v.chain.events ≤ mid.chain.events + 2 ^ 34
 
   merge_broke : (mid v : Shared (Chain S KeepAll T)) (merged : Result (Unit {0}) ChainRefusal) → v.broke ≡ broke_after mid.broke merge_breach (as_answer merged) → (v.broke ≡ mid.broke) ⊎ ((true ≡ true) × (mid.broke ≡ None) × (v.broke ≡ Some merge_breach))
   merge_broke mid v merged = go merged
@@ -153,35 +166,37 @@ module _ {S T : Type 0} (disk : S → Disk) where
     broke = inl (ap (λ (s : Shared (Chain S KeepAll T)). s.broke) e.0);
     finished = λ never. absurd (false_true never);
     stopped = subst (λ r. IfErr r (StopsEnd disk v)) (sym e.1) tt;
+    few = let same : v.chain.events ≡ mid.chain.events = ap (λ (s : Shared (Chain S KeepAll T)). s.chain.events) e.0 in omega (arith, same);
   }
   ended_so true mid v merged e = record {
     first = e.stepped.first;
     history = e.stepped.history;
-    basis = record { first = ap Some e.stepped.first; notes = λ n h. (e.stepped.noted n).1 (inr h) };
+    basis = record { first = ap Some e.stepped.first; notes = λ n h. (e.stepped.noted n).1 (inr h); events = e.stepped.later };
     broke = merge_broke mid v merged e.stepped.broke;
     finished = λ some. on_ok_weaker merged (none_under v.chain.layers) e.done;
     stopped = e.stopped;
+    few = e.stepped.few;
   }
 
   module _ (merges : Bool) (old mid v : Shared (Chain S KeepAll T)) (merged : Result (Unit {0}) ChainRefusal) (so : EndedSo merges mid v merged) (run : ScriptRun) (after : Disk) (ended : IsEnded (session_of disk v.chain) after run.closed) (fault : run.fault ≡ v.fault)
       (counted : EndsCounted (disk v.first.store) after v.fault run.closed) (errs : IfSome v.broke (λ b. IsErr run.closed)) (leaves : LeavesHistory (session_of disk v.first) v.chain.recorder v.full v.broke (has_merge v.chain.layers) run.closed after) where
     -- what was told at the end stands in what was run
-    stops_run : (x : ChainRefusal) → StopsEnd disk v x → StopsMerge run x
-    stops_run EmptyRange k = absurd k
-    stops_run (OutOfRange a b c) k = absurd k
-    stops_run (TooLong a b) k = absurd k
-    stops_run ReadOnly k = absurd k
-    stops_run (Broken file count) k = (subst (λ o. IfSome o (λ f. (run.closed ≡ Err f) × (after ≡ disk v.chain.store))) k ended.broken).0
-    stops_run (Spent t) k = k
-    stops_run (FileFull next) k = tt
-    stops_run (ReadFault file count) k = fault ∙ k
-    stops_run NoMerge k = absurd k
-    stops_run (Stale taken now) k = absurd k
-    stops_run (NotYet stripe) k = absurd k
-    stops_run (Abandoned file count) k = absurd k
-    stops_run (NoStripe stripe stripes) k = absurd k
-    stops_run NoPiece k = absurd k
-    stops_run NoMemory k = absurd k
+    stops_run : v.chain.events < 2 ^ 63 → (x : ChainRefusal) → StopsEnd disk v x → StopsMerge run x
+    stops_run small EmptyRange k = absurd k
+    stops_run small (OutOfRange a b c) k = absurd k
+    stops_run small (TooLong a b) k = absurd k
+    stops_run small ReadOnly k = absurd k
+    stops_run small (Broken file count) k = (subst (λ o. IfSome o (λ f. (run.closed ≡ Err f) × (after ≡ disk v.chain.store))) k ended.broken).0
+    stops_run small (Spent t) k = absurd (omega (arith, k.0, k.1, small))
+    stops_run small (FileFull next) k = tt
+    stops_run small (ReadFault file count) k = fault ∙ k
+    stops_run small NoMerge k = absurd k
+    stops_run small (Stale taken now) k = absurd k
+    stops_run small (NotYet stripe) k = absurd k
+    stops_run small (Abandoned file count) k = absurd k
+    stops_run small (NoStripe stripe stripes) k = absurd k
+    stops_run small NoPiece k = absurd k
+    stops_run small NoMemory k = absurd k
 
     near_run : (x : ChainRefusal) → StopsEnd disk v x → IsNearEnd disk v.first v.full x
     near_run EmptyRange k = absurd k
@@ -190,7 +205,7 @@ module _ {S T : Type 0} (disk : S → Disk) where
     near_run ReadOnly k = absurd k
     near_run (Broken file count) k = tt
     near_run (Spent t) k = tt
-    near_run (FileFull next) k = (full_noted next (disk v.chain.store) v.chain.broken v.full v.spent k.0, k.1)
+    near_run (FileFull next) k = (full_noted next (disk v.chain.store) v.chain.broken v.full k.0, k.1)
     near_run (ReadFault file count) k = tt
     near_run NoMerge k = absurd k
     near_run (Stale taken now) k = absurd k
@@ -208,10 +223,11 @@ module _ {S T : Type 0} (disk : S → Disk) where
     pub all_served : (names : List (List ℕ)) (lines : List Line) (told : List (List ToldCall)) (short : Bool) → WasShared disk merges old names lines mid told short → old.first.layers.geometry.sector ≡ 512
         → IfOk run.transcript (λ text. (short ≡ false) × (string_bytes text ≡ serve_text v.chain.recorder told)) → HasServed disk merges old.first names lines (record { run = run; merged = merged }) after
     all_served names lines told short s sector text =
+        let small : v.chain.events < 2 ^ 63 = omega (arith, so.few, s.few) in
         let history : steps_of v.chain.recorder mid.broke ≡ s.seat.seen = ap (λ k. steps_of k mid.broke) so.history ∙ s.history in
         let basis : Contains (basis_of disk v) s.seat.basis = contains_through (basis_of disk v) (basis_of disk mid) s.seat.basis so.basis s.basis in
-        let same : v.first ≡ old.first = first_is disk old.first merges s.lock names lines s.seat told short s.guests s.joined v mid.broke history basis s.places in
-        let w = which disk old.first merges s.lock names lines s.seat told short s.guests s.joined v mid.broke history basis s.places run.closed errs so.broke in
+        let same : v.first ≡ old.first = first_is disk old.first merges s.lock names lines s.seat told short s.guests s.joined v mid.broke history basis s.places s.refusals small in
+        let w = which disk old.first merges s.lock names lines s.seat told short s.guests s.joined v mid.broke history basis s.places s.refusals small run.closed errs so.broke in
         let counted_first : EndsCounted (disk old.first.store) after v.fault run.closed = subst (λ (c : Chain S KeepAll T). EndsCounted (disk c.store) after v.fault run.closed) same counted in
         record {
           guests = s.guests;
@@ -220,16 +236,16 @@ module _ {S T : Type 0} (disk : S → Disk) where
           breach = v.broke;
           opens = w.opens;
           count = s.count;
-          served = served_all disk old.first merges s.lock names lines s.seat told short s.guests s.joined v mid.broke history basis s.places after run.closed ended w sector;
-          transcript = transcript_is disk old.first merges s.lock names lines s.seat told short s.guests s.joined v mid.broke history basis s.places run.transcript text;
+          served = served_all disk old.first merges s.lock names lines s.seat told short s.guests s.joined v mid.broke history basis s.places s.refusals small after run.closed ended w sector;
+          transcript = transcript_is disk old.first merges s.lock names lines s.seat told short s.guests s.joined v mid.broke history basis s.places s.refusals small run.transcript text;
           counted = subst (λ f. EndsCounted (disk old.first.store) after f run.closed) (sym fault) counted_first;
-          faults = faults_told disk old.first merges s.lock names lines s.seat told short s.guests s.joined v mid.broke history basis s.places after run.closed ended w counted_first;
+          faults = faults_told disk old.first merges s.lock names lines s.seat told short s.guests s.joined v mid.broke history basis s.places s.refusals small after run.closed ended w counted_first;
           full = v.full;
-          ends = ends_told disk old.first s.seat.seen s.seat.basis.notes v.full (λ next h. full_noted next (disk v.chain.store) v.chain.broken v.full v.spent (basis.notes (notes.Full next) h)) lines s.guests s.joined.heard;
+          ends = ends_told disk old.first s.seat v.full (λ next h. full_noted next (disk v.chain.store) v.chain.broken v.full (basis.notes (notes.Full next) h)) lines s.guests s.joined.heard;
           under_way = has_merge v.chain.layers;
           leaves = subst (λ (c : Chain S KeepAll T). LeavesHistory (session_of disk c) v.chain.recorder v.full v.broke (has_merge v.chain.layers) run.closed after) same leaves;
           finished = so.finished;
-          stopped = each_err (StopsEnd disk v) (StopsMerge run) stops_run merged so.stopped;
+          stopped = each_err (StopsEnd disk v) (StopsMerge run) (stops_run small) merged so.stopped;
           near = subst (λ (c : Chain S KeepAll T). IfErr merged (IsNearEnd disk c v.full)) same (each_err (StopsEnd disk v) (IsNearEnd disk v.first v.full) near_run merged so.stopped);
         }
 
@@ -239,6 +255,8 @@ module _ {S T : Type 0} (disk : S → Disk) where
         let same : v.first ≡ old.first = so.first ∙ ap (λ (s : Shared (Chain S KeepAll T)). s.first) same_mid in
         let empty : v.chain.recorder ≡ [] = so.history ∙ ap (λ (s : Shared (Chain S KeepAll T)). s.chain.recorder) same_mid ∙ ap (λ (s : Shared (Chain S KeepAll T)). s.chain.recorder) begun.fresh ∙ begun.empty in
         let whole : mid.broke ≡ None = ap (λ (s : Shared (Chain S KeepAll T)). s.broke) same_mid ∙ ap (λ (s : Shared (Chain S KeepAll T)). s.broke) begun.fresh in
+        let none_yet : mid.chain.events ≡ 0 = ap (λ (s : Shared (Chain S KeepAll T)). s.chain.events) same_mid ∙ ap (λ (s : Shared (Chain S KeepAll T)). s.chain.events) begun.fresh ∙ begun.none in
+        let small : v.chain.events < 2 ^ 63 = omega (arith, so.few, none_yet) in
         let w = broke_none so.broke whole in
         let counted_first : EndsCounted (disk old.first.store) after v.fault run.closed = subst (λ (c : Chain S KeepAll T). EndsCounted (disk c.store) after v.fault run.closed) same counted in
         record {
@@ -267,7 +285,7 @@ module _ {S T : Type 0} (disk : S → Disk) where
           leaves = subst (λ h. LeavesHistory (session_of disk old.first) h v.full v.broke (has_merge v.chain.layers) run.closed after) empty
               (subst (λ (c : Chain S KeepAll T). LeavesHistory (session_of disk c) v.chain.recorder v.full v.broke (has_merge v.chain.layers) run.closed after) same leaves);
           finished = so.finished;
-          stopped = each_err (StopsEnd disk v) (StopsMerge run) stops_run merged so.stopped;
+          stopped = each_err (StopsEnd disk v) (StopsMerge run) (stops_run small) merged so.stopped;
           near = subst (λ (c : Chain S KeepAll T). IfErr merged (IsNearEnd disk c v.full)) same (each_err (StopsEnd disk v) (IsNearEnd disk v.first v.full) near_run merged so.stopped);
         }
       where
@@ -307,7 +325,7 @@ module _ {S T : Type 0} (disk : S → Disk) where
       → short ≡ false → All (IsTold told) v.chain.recorder
   called merges old mid v merged e names lines told short (IsShared.was_shared s) =
       let so = ended_so merges mid v merged e in
-      all_called disk old.first merges s.lock names lines s.seat told short s.guests s.joined v mid.broke (ap (λ k. steps_of k mid.broke) so.history ∙ s.history) (contains_through (basis_of disk v) (basis_of disk mid) s.seat.basis so.basis s.basis) s.places
+      all_called disk old.first merges s.lock names lines s.seat told short s.guests s.joined v mid.broke (ap (λ k. steps_of k mid.broke) so.history ∙ s.history) (contains_through (basis_of disk v) (basis_of disk mid) s.seat.basis so.basis s.basis) s.places s.refusals (omega (arith, so.few, s.few))
   called merges old mid v merged e names lines told short (IsShared.no_memory same short_is none) = λ memory. absurd (false_true (sym memory ∙ short_is))
 
   pub served_so : (merges : Bool) (old mid v : Shared (Chain S KeepAll T)) (merged : Result (Unit {0}) ChainRefusal) → EndsAs disk merges mid v merged → (run : ScriptRun) (after : Disk) → IsEnded (session_of disk v.chain) after run.closed → run.fault ≡ v.fault

@@ -78,65 +78,75 @@ owns_still seen more p guest forms outcomes starts (inl h) = inl h
 owns_still seen more p guest forms outcomes starts (inr b) = inr (record { before = b.before; breach = b.breach; begins = starts-through more seen _ starts b.begins; place_is = b.place_is; breaker = b.breaker })
 
 module _ {S T : Type 0} (disk : S → Disk) (first : Chain S KeepAll T) where
-  abbrev Knows : List Note → List Note → Type 0
-  Knows more noted = (n : Note) → HasNote noted n → HasNote more n
+  -- a seat knows all that another does, of what refuses calls
+  pub record Knows (more seat : Known Step (Basis S T)) : Type 0 where
+    pub notes : (n : Note) → HasNote seat.basis.notes n → HasNote more.basis.notes n
+    pub events : seat.basis.events ≤ more.basis.events
+    pub refusals : seat.refusals ≤ more.refusals
 
-  heard_of_later : (noted more : List Note) (call : Call) (x : ChainRefusal) → Knows more noted → IsHeardOf disk first noted call x → IsHeardOf disk first more call x
-  heard_of_later noted more call EmptyRange k h = h
-  heard_of_later noted more call (OutOfRange a b c) k h = h
-  heard_of_later noted more call (TooLong a b) k h = h
-  heard_of_later noted more call ReadOnly k h = h
-  heard_of_later noted more call (Broken file count) k h = k (notes.ChangeFailed file count) h
-  heard_of_later noted more call (Spent t) k h = h
-  heard_of_later noted more call (FileFull next) k h = (h.0, k (notes.Full next) h.1, h.2)
-  heard_of_later noted more call (ReadFault file count) k h = (h.0, k (notes.ReadFailed file count) h.1, h.2)
-  heard_of_later noted more call NoMerge k h = absurd h
-  heard_of_later noted more call (Stale taken now) k h = absurd h
-  heard_of_later noted more call (NotYet stripe) k h = absurd h
-  heard_of_later noted more call (Abandoned file count) k h = absurd h
-  heard_of_later noted more call (NoStripe stripe stripes) k h = absurd h
-  heard_of_later noted more call NoPiece k h = absurd h
-  heard_of_later noted more call NoRoom k h = absurd h
+  pub knows_more : (more seat : Known Step (Basis S T)) → Contains more.basis seat.basis → seat.refusals ≤ more.refusals → Knows more seat
+  knows_more more seat basis refusals = record { notes = basis.notes; events = basis.events; refusals = refusals }
 
-  heard_later : (seen seen' : List Step) (noted more : List Note) (guest number : ℕ) (form : Form) (o : Outcome) → StartsWith seen' seen → Knows more noted → IsHeard disk first seen noted guest number form o → IsHeard disk first seen' more guest number form o
-  heard_later seen seen' noted more guest number form (Ok done) starts k h = record { before = h.before; begins = starts-through seen' seen _ starts h.begins; place_is = h.place_is; placed = h.placed; replies = h.replies }
-  heard_later seen seen' noted more guest number form (Err x) starts k h = heard_of_later noted more (call_of form) x k h
+  heard_of_later : (seat more : Known Step (Basis S T)) (call : Call) (x : ChainRefusal) → Knows more seat → IsHeardOf disk first seat call x → IsHeardOf disk first more call x
+  heard_of_later seat more call EmptyRange k h = h
+  heard_of_later seat more call (OutOfRange a b c) k h = h
+  heard_of_later seat more call (TooLong a b) k h = h
+  heard_of_later seat more call ReadOnly k h = h
+  heard_of_later seat more call (Broken file count) k h = k.notes (notes.ChangeFailed file count) h
+  heard_of_later seat more call (Spent t) k h = (h.0, by_count h.1)
+    where
+      by_count : (0 < seat.refusals) ⊎ (t ≤ seat.basis.events) → (0 < more.refusals) ⊎ (t ≤ more.basis.events)
+      by_count (inl some) = inl (omega (arith, some, k.refusals))
+      by_count (inr many) = inr (omega (arith, many, k.events))
+  heard_of_later seat more call (FileFull next) k h = (h.0, k.notes (notes.Full next) h.1, h.2)
+  heard_of_later seat more call (ReadFault file count) k h = (h.0, k.notes (notes.ReadFailed file count) h.1, h.2)
+  heard_of_later seat more call NoMerge k h = absurd h
+  heard_of_later seat more call (Stale taken now) k h = absurd h
+  heard_of_later seat more call (NotYet stripe) k h = absurd h
+  heard_of_later seat more call (Abandoned file count) k h = absurd h
+  heard_of_later seat more call (NoStripe stripe stripes) k h = absurd h
+  heard_of_later seat more call NoPiece k h = absurd h
+  heard_of_later seat more call NoRoom k h = absurd h
 
-  pub all_heard_later : (seen seen' : List Step) (noted more : List Note) (guest number : ℕ) (forms : List Form) (outcomes : List Outcome) → StartsWith seen' seen → Knows more noted → AreHeard disk first seen noted guest number forms outcomes
-      → AreHeard disk first seen' more guest number forms outcomes
-  all_heard_later seen seen' noted more guest number forms [] starts k h = tt
-  all_heard_later seen seen' noted more guest number [] (o ∷ outcomes) starts k h = absurd h
-  all_heard_later seen seen' noted more guest number (f ∷ forms) (o ∷ outcomes) starts k h =
-      (heard_later seen seen' noted more guest number f o starts k h.0, all_heard_later seen seen' noted more guest (number + 1) forms outcomes starts k h.1)
+  heard_later : (seat more : Known Step (Basis S T)) (guest number : ℕ) (form : Form) (o : Outcome) → StartsWith more.seen seat.seen → Knows more seat → IsHeard disk first seat guest number form o → IsHeard disk first more guest number form o
+  heard_later seat more guest number form (Ok done) starts k h = record { before = h.before; begins = starts-through more.seen seat.seen _ starts h.begins; place_is = h.place_is; placed = h.placed; replies = h.replies }
+  heard_later seat more guest number form (Err x) starts k h = heard_of_later seat more (call_of form) x k h
 
-  heard_more : (seen : List Step) (noted : List Note) (guest number : ℕ) (forms fs : List Form) (outcomes : List Outcome) → AreHeard disk first seen noted guest number forms outcomes → AreHeard disk first seen noted guest number (forms ++ fs) outcomes
-  heard_more seen noted guest number forms fs [] h = tt
-  heard_more seen noted guest number [] fs (o ∷ outcomes) h = absurd h
-  heard_more seen noted guest number (f ∷ forms) fs (o ∷ outcomes) h = (h.0, heard_more seen noted guest (number + 1) forms fs outcomes h.1)
+  pub all_heard_later : (seat more : Known Step (Basis S T)) (guest number : ℕ) (forms : List Form) (outcomes : List Outcome) → StartsWith more.seen seat.seen → Knows more seat → AreHeard disk first seat guest number forms outcomes
+      → AreHeard disk first more guest number forms outcomes
+  all_heard_later seat more guest number forms [] starts k h = tt
+  all_heard_later seat more guest number [] (o ∷ outcomes) starts k h = absurd h
+  all_heard_later seat more guest number (f ∷ forms) (o ∷ outcomes) starts k h =
+      (heard_later seat more guest number f o starts k h.0, all_heard_later seat more guest (number + 1) forms outcomes starts k h.1)
 
-  heard_snoc : (seen : List Step) (noted : List Note) (guest number : ℕ) (forms : List Form) (outcomes : List Outcome) (form : Form) (o : Outcome) → length outcomes ≡ length forms → AreHeard disk first seen noted guest number forms outcomes
-      → IsHeard disk first seen noted guest (number + length outcomes) form o → AreHeard disk first seen noted guest number (forms ++ form ∷ []) (outcomes ++ o ∷ [])
-  heard_snoc seen noted guest number [] [] form o same h last = (subst (λ n. IsHeard disk first seen noted guest n form o) {x = number + 0} (omega arith) last, tt)
-  heard_snoc seen noted guest number [] (x ∷ outcomes) form o same h last = absurd h
-  heard_snoc seen noted guest number (f ∷ forms) [] form o same h last = absurd (omega (arith, same))
-  heard_snoc seen noted guest number (f ∷ forms) (x ∷ outcomes) form o same h last = (
+  heard_more : (seat : Known Step (Basis S T)) (guest number : ℕ) (forms fs : List Form) (outcomes : List Outcome) → AreHeard disk first seat guest number forms outcomes → AreHeard disk first seat guest number (forms ++ fs) outcomes
+  heard_more seat guest number forms fs [] h = tt
+  heard_more seat guest number [] fs (o ∷ outcomes) h = absurd h
+  heard_more seat guest number (f ∷ forms) fs (o ∷ outcomes) h = (h.0, heard_more seat guest (number + 1) forms fs outcomes h.1)
+
+  heard_snoc : (seat : Known Step (Basis S T)) (guest number : ℕ) (forms : List Form) (outcomes : List Outcome) (form : Form) (o : Outcome) → length outcomes ≡ length forms → AreHeard disk first seat guest number forms outcomes
+      → IsHeard disk first seat guest (number + length outcomes) form o → AreHeard disk first seat guest number (forms ++ form ∷ []) (outcomes ++ o ∷ [])
+  heard_snoc seat guest number [] [] form o same h last = (subst (λ n. IsHeard disk first seat guest n form o) {x = number + 0} (omega arith) last, tt)
+  heard_snoc seat guest number [] (x ∷ outcomes) form o same h last = absurd h
+  heard_snoc seat guest number (f ∷ forms) [] form o same h last = absurd (omega (arith, same))
+  heard_snoc seat guest number (f ∷ forms) (x ∷ outcomes) form o same h last = (
     h.0,
-    heard_snoc seen noted guest (number + 1) forms outcomes form o (omega (arith, same)) h.1
-        (subst (λ n. IsHeard disk first seen noted guest n form o) {x = number + length (x ∷ outcomes)} {y = number + 1 + length outcomes} (omega arith) last),
+    heard_snoc seat guest (number + 1) forms outcomes form o (omega (arith, same)) h.1
+        (subst (λ n. IsHeard disk first seat guest n form o) {x = number + length (x ∷ outcomes)} {y = number + 1 + length outcomes} (omega arith) last),
   )
 
   -- a place is within what was seen
-  pub place_within : (seen : List Step) (noted : List Note) (guest number p : ℕ) (forms : List Form) (outcomes : List Outcome) → AreHeard disk first seen noted guest number forms outcomes → Has p (places_in outcomes) → (1 ≤ p) × (p ≤ length seen)
-  place_within seen noted guest number p forms [] h has = absurd has
-  place_within seen noted guest number p [] (o ∷ outcomes) h has = absurd h
-  place_within seen noted guest number p (f ∷ forms) (Err x ∷ outcomes) h has = place_within seen noted guest (number + 1) p forms outcomes h.1 has
-  place_within seen noted guest number p (f ∷ forms) (Ok done ∷ outcomes) h (inl e) =
+  pub place_within : (seat : Known Step (Basis S T)) (guest number p : ℕ) (forms : List Form) (outcomes : List Outcome) → AreHeard disk first seat guest number forms outcomes → Has p (places_in outcomes) → (1 ≤ p) × (p ≤ length seat.seen)
+  place_within seat guest number p forms [] h has = absurd has
+  place_within seat guest number p [] (o ∷ outcomes) h has = absurd h
+  place_within seat guest number p (f ∷ forms) (Err x ∷ outcomes) h has = place_within seat guest (number + 1) p forms outcomes h.1 has
+  place_within seat guest number p (f ∷ forms) (Ok done ∷ outcomes) h (inl e) =
       let at = h.0 in
-      let long = starts-length seen (done_steps at.before ++ Done (entry_of guest number (call_of f)) ∷ []) at.begins in
+      let long = starts-length seat.seen (done_steps at.before ++ Done (entry_of guest number (call_of f)) ∷ []) at.begins in
       let size : length (done_steps at.before ++ Done (entry_of guest number (call_of f)) ∷ []) ≡ length at.before + 1 =
       length-append (done_steps at.before) (Done (entry_of guest number (call_of f)) ∷ []) ∙ ap (λ n. n + 1) (length-map at.before (λ e. Done e)) in
       (omega (arith, e, at.place_is), omega (arith, e, at.place_is, long, size))
-  place_within seen noted guest number p (f ∷ forms) (Ok done ∷ outcomes) h (inr has) = place_within seen noted guest (number + 1) p forms outcomes h.1 has
+  place_within seat guest number p (f ∷ forms) (Ok done ∷ outcomes) h (inr has) = place_within seat guest (number + 1) p forms outcomes h.1 has
 
   -- ---- one more call
 
@@ -147,20 +157,21 @@ module _ {S T : Type 0} (disk : S → Disk) (first : Chain S KeepAll T) where
     abbrev who : Caller
     who = caller_of guest number
 
-    module _ (seen : StartsWith new.seen old.seen) (basis : Contains new.basis old.basis) where
+    module _ (seen : StartsWith new.seen old.seen) (basis : Contains new.basis old.basis) (refusals : old.refusals ≤ new.refusals) where
       knows_now : Contains new.basis (first_basis disk first)
       knows_now = contains_through new.basis old.basis (first_basis disk first) basis hears.knows
 
-      old_heard : (fs : List Form) → AreHeard disk first new.seen new.basis.notes guest 1 (forms ++ fs) outcomes
-      old_heard fs = heard_more new.seen new.basis.notes guest 1 forms fs outcomes (all_heard_later old.seen new.seen old.basis.notes new.basis.notes guest 1 forms outcomes seen basis.notes hears.heard)
+      old_heard : (fs : List Form) → AreHeard disk first new guest 1 (forms ++ fs) outcomes
+      old_heard fs = heard_more new guest 1 forms fs outcomes (all_heard_later old new guest 1 forms outcomes seen (knows_more new old basis refusals) hears.heard)
 
       -- nothing was told
-      pub nothing_more : (fs : List Form) → new.mine ≡ old.mine → HasHeard disk first guest (forms ++ fs) new outcomes
-      nothing_more fs same = record {
+      pub nothing_more : (fs : List Form) → new.mine ≡ old.mine → new.drawn ≤ old.drawn + length fs → HasHeard disk first guest (forms ++ fs) new outcomes
+      nothing_more fs same drew = record {
         knows = knows_now;
         heard = old_heard fs;
         order = hears.order;
         owns = λ p own. go p (hears.owns p (subst (λ ms. 0 < times p ms) same own));
+        drawn = omega (arith, drew, hears.drawn, length-append forms fs);
       }
         where
           go : (p : ℕ) → OwnsAt old.seen p guest forms outcomes → OwnsAt new.seen p guest (forms ++ fs) outcomes
@@ -173,19 +184,23 @@ module _ {S T : Type 0} (disk : S → Disk) (first : Chain S KeepAll T) where
               more_forms b n (x ∷ xs) (o ∷ os) (inl h) = inl h
               more_forms b n (x ∷ xs) (o ∷ os) (inr h) = inr (more_forms b (n + 1) xs os h)
 
-      module _ (all : length outcomes ≡ length forms) where
+      module _ (all : length outcomes ≡ length forms) (drew : new.drawn ≤ old.drawn + 1) where
+        drawn_on : new.drawn ≤ length (forms ++ form ∷ [])
+        drawn_on = omega (arith, drew, hears.drawn, length-append forms (form ∷ []))
+
         last_number : (P : ℕ → Type 0) → P number → P (1 + length outcomes)
         last_number P p = subst P {x = number} {y = 1 + length outcomes} (omega arith) p
 
         -- it was refused, and the seat has no more of its own
-        refused : (x : ChainRefusal) → IsHeardOf disk first new.basis.notes (call_of form) x → ((p : ℕ) → 0 < times p new.mine → (0 < times p old.mine) ⊎ BreaksAt new.seen p guest (forms ++ form ∷ []) (outcomes ++ Err x ∷ []))
+        refused : (x : ChainRefusal) → IsHeardOf disk first new (call_of form) x → ((p : ℕ) → 0 < times p new.mine → (0 < times p old.mine) ⊎ BreaksAt new.seen p guest (forms ++ form ∷ []) (outcomes ++ Err x ∷ []))
             → HasHeard disk first guest (forms ++ form ∷ []) new (outcomes ++ Err x ∷ [])
         refused x heard mine = record {
           knows = knows_now;
-          heard = heard_snoc new.seen new.basis.notes guest 1 forms outcomes form (Err x) all
-              (all_heard_later old.seen new.seen old.basis.notes new.basis.notes guest 1 forms outcomes seen basis.notes hears.heard) heard;
+          heard = heard_snoc new guest 1 forms outcomes form (Err x) all
+              (all_heard_later old new guest 1 forms outcomes seen (knows_more new old basis refusals) hears.heard) heard;
           order = subst IsRising (sym (places_snoc outcomes (Err x) ∙ append_nil (places_in outcomes))) hears.order;
           owns = λ p own. go p (mine p own);
+          drawn = drawn_on;
         }
           where
             append_nil : (ps : List ℕ) → ps ++ [] ≡ ps
@@ -200,11 +215,12 @@ module _ {S T : Type 0} (disk : S → Disk) (first : Chain S KeepAll T) where
         done : (place : ℕ) (r : Reply) → IsDone disk who (call_of form) r old new place → HasHeard disk first guest (forms ++ form ∷ []) new (outcomes ++ Ok (place, r) ∷ [])
         done place r d = record {
           knows = knows_now;
-          heard = heard_snoc new.seen new.basis.notes guest 1 forms outcomes form (Ok (place, r)) all
-              (all_heard_later old.seen new.seen old.basis.notes new.basis.notes guest 1 forms outcomes seen basis.notes hears.heard)
+          heard = heard_snoc new guest 1 forms outcomes form (Ok (place, r)) all
+              (all_heard_later old new guest 1 forms outcomes seen (knows_more new old basis refusals) hears.heard)
               (last_number (λ n. HasPlace disk first new.seen guest n (call_of form) (place, r)) here);
           order = subst IsRising (sym (places_snoc outcomes (Ok (place, r)))) (rising_snoc (places_in outcomes) place hears.order (all_below (places_in outcomes) place earlier));
           owns = λ p own. by_place p (place == p) refl (subst (λ ms. 0 < times p ms) d.mine own);
+          drawn = drawn_on;
         }
           where
             starts : StartsWith new.seen (done_steps d.before ++ Done (entry_of guest number (call_of form)) ∷ [])
@@ -221,7 +237,7 @@ module _ {S T : Type 0} (disk : S → Disk) (first : Chain S KeepAll T) where
 
             earlier : (p : ℕ) → Has p (places_in outcomes) → p < place
             earlier p has =
-                let low = place_within old.seen old.basis.notes guest 1 p forms outcomes hears.heard has in
+                let low = place_within old guest 1 p forms outcomes hears.heard has in
                 let long = starts-length (done_steps d.before) old.seen d.begins in
                 omega (arith, low.1, long, d.place_is, length-map d.before (λ e. Done e))
 
@@ -256,7 +272,7 @@ module _ {S T : Type 0} (disk : S → Disk) (first : Chain S KeepAll T) where
 
         -- ---- as the line asks for it
 
-        stays : (x : ChainRefusal) → IsHeardOf disk first new.basis.notes (call_of form) x → new.mine ≡ old.mine → HasHeard disk first guest (forms ++ form ∷ []) new (outcomes ++ Err x ∷ [])
+        stays : (x : ChainRefusal) → IsHeardOf disk first new (call_of form) x → new.mine ≡ old.mine → HasHeard disk first guest (forms ++ form ∷ []) new (outcomes ++ Err x ∷ [])
         stays x heard same = refused x heard (λ p own. inl (subst (λ ms. 0 < times p ms) same own))
 
         at_place : (x : Option ChainRefusal) (call : Call) → IfSome new.basis.first (λ (chain : Chain S KeepAll T). misplaced call chain.layers ≡ x) → misplaced call first.layers ≡ x
@@ -289,7 +305,7 @@ module _ {S T : Type 0} (disk : S → Disk) (first : Chain S KeepAll T) where
         by_call r (Err (TooLong x y)) a = stays (TooLong x y) (at_place (Some (TooLong x y)) (call_of form) a.1) a.0
         by_call r (Err ReadOnly) a = stays ReadOnly (at_place (Some ReadOnly) (call_of form) a.1) a.0
         by_call r (Err (Broken file count)) a = broken (call_of form) own_opens file count a.1 a.0
-        by_call r (Err (Spent t)) a = stays (Spent t) a.1.0 a.0
+        by_call r (Err (Spent t)) a = stays (Spent t) a.1 a.0
         by_call r (Err (FileFull next)) a =
             stays (FileFull next) (at_place None (call_of form) a.1.0, a.1.1, subst (λ o. IfSome o (λ (chain : Chain S KeepAll T). StopsOver disk chain (call_of form) (FileFull next))) knows_now.first a.1.2) a.0
         by_call r (Err (ReadFault file count)) a =
@@ -300,7 +316,7 @@ module _ {S T : Type 0} (disk : S → Disk) (first : Chain S KeepAll T) where
         by_call r (Err (Abandoned file count)) a = absurd a.1
         by_call r (Err (NoStripe stripe stripes)) a = absurd a.1
         by_call r (Err NoPiece) a = absurd a.1
-        by_call r (Err NoRoom) a = nothing_more (form ∷ []) a.0
+        by_call r (Err NoRoom) a = nothing_more (form ∷ []) a.0 drew
 
         module _ (sector : first.layers.geometry.sector ≡ 512) (many : asks_too_many form ≡ true) where
           -- without sectors it is an empty range
@@ -369,7 +385,7 @@ module _ {S T : Type 0} (disk : S → Disk) (first : Chain S KeepAll T) where
           by_empty r kept (Err (TooLong x y)) a = let e = never (TooLong x y) (at_place (Some (TooLong x y)) (emptied form) a.1) in cc
           by_empty r kept (Err ReadOnly) a = let e = never ReadOnly (at_place (Some ReadOnly) (emptied form) a.1) in cc
           by_empty r kept (Err (Broken file count)) a = broken (emptied form) no_opens file count a.1 a.0
-          by_empty r kept (Err (Spent t)) a = stays (Spent t) a.1.0 a.0
+          by_empty r kept (Err (Spent t)) a = stays (Spent t) a.1 a.0
           by_empty r kept (Err (FileFull next)) a = never_placed (at_place None (emptied form) a.1.0)
           by_empty r kept (Err (ReadFault file count)) a = never_placed (at_place None (emptied form) a.1.0)
           by_empty r kept (Err NoMerge) a = absurd a.1
@@ -378,7 +394,7 @@ module _ {S T : Type 0} (disk : S → Disk) (first : Chain S KeepAll T) where
           by_empty r kept (Err (Abandoned file count)) a = absurd a.1
           by_empty r kept (Err (NoStripe stripe stripes)) a = absurd a.1
           by_empty r kept (Err NoPiece) a = absurd a.1
-          by_empty r kept (Err NoRoom) a = nothing_more (form ∷ []) a.0
+          by_empty r kept (Err NoRoom) a = nothing_more (form ∷ []) a.0 drew
 
         -- whichever it asks for
         pub asked_kept : first.layers.geometry.sector ≡ 512 → (room : List ℕ) (answer : Result ℕ ChainRefusal) → IsAsked disk who form room old new answer → Kept answer (shown_in room form)

@@ -1,5 +1,5 @@
 -- Guests' seats are split from the first, and joined into it again.
-use Rattle.std.proofs.Common.{◌≡◌, ◌≢◌, ◌⊎◌, ◌+◌, ◌-◌, ◌<◌, ◌++◌, ◌∷◌, ℕ, zero, suc, Bool, true, false, [], List, length, inl, inr, refl, sym, ap, ap₂, subst, ◌∙◌, arith, length-append}
+use Rattle.std.proofs.Common.{◌≡◌, ◌≤◌, ◌^◌, ◌≢◌, ◌⊎◌, ◌+◌, ◌-◌, ◌<◌, ◌++◌, ◌∷◌, ℕ, zero, suc, Bool, true, false, [], List, length, inl, inr, refl, sym, ap, ap₂, subst, ◌∙◌, arith, length-append}
 use Rattle.std.specs.Prelude.{◌||◌, All, slice_index_or}
 use Rattle.std.proofs.lemmas.Bool.{cases_eq, or_parts}
 use Rattle.std.proofs.lemmas.List.Elements.{All-cons}
@@ -29,7 +29,7 @@ use Rattle.claims.specs.Seats.{Counter}
 use Rattle.serve_session.specs.Lists.{AreActors, AreFresh, HasDone, IsFresh, IsFreshWorker, IsReady, RunsEach, WorksEach, with_splits}
 use Rattle.serve_session.specs.Served.{EachGuest, IsRising, Outcome, SomeGuest, forms_of, places_in, told_calls, told_guests}
 use Rattle.serve_session.proofs.Guests.{each_map, each_snoc, some_last, some_left, some_map, told_guests_snoc}
-use Rattle.serve_session.proofs.Hearing.{all_heard_later, owns_still}
+use Rattle.serve_session.proofs.Hearing.{all_heard_later, knows_more, owns_still}
 
 -- one more was joined
 pub join_more : (f now new : Family) (n m : ℕ) → now ≡ record f { joins = f.joins + n } → new ≡ with_join now → m ≡ n + 1 → new ≡ record f { joins = f.joins + m }
@@ -57,12 +57,16 @@ module _ {S T : Type 0} where
       All-cons (IsReady lock) a actors ((ap (λ (s : Known Step (Basis S T)). s.lock) h.0.seat ∙ of_lock, ap (λ (s : Known Step (Basis S T)). s.turn) h.0.seat), h.0.room) (fresh_ready seat lock (n - 1) actors of_lock h.1)
 
   -- workers that had made no turn have none of their own now but one that broke the session
-  pub all_done : (lock : TableId) (seat : Known Step (Basis S T)) (claims : Counter) (old new : List (Worker S T)) → seat.lock ≡ lock → All (IsFreshWorker seat claims) old → WorksEach old new → All (HasDone lock) new
-  all_done lock seat claims old new of_lock fresh works i d within =
+  pub all_done : (lock : TableId) (seat : Known Step (Basis S T)) (claims : Counter) (turns : ℕ) (old new : List (Worker S T)) → turns ≤ 2 ^ 32 → seat.lock ≡ lock → All (IsFreshWorker seat claims) old → WorksEach turns old new → All (HasDone lock) new
+  all_done lock seat claims turns old new few of_lock fresh works i d within =
       let before : i < length old = omega (arith, within, works.count) in
       let f = fresh i d before in
       let w = works.each i d before in
-      ((w.keeps.lock ∙ ap (λ (s : Known Step (Basis S T)). s.lock) f.seat ∙ of_lock, w.keeps.free), λ p own. go p (slice_index_or old i d) (ap (λ (s : Known Step (Basis S T)). s.mine) f.seat) (w.own p own))
+      let nothing : (slice_index_or old i d).seat.drawn ≡ 0 = ap (λ (s : Known Step (Basis S T)). s.drawn) f.seat in (
+        (w.keeps.lock ∙ ap (λ (s : Known Step (Basis S T)). s.lock) f.seat ∙ of_lock, w.keeps.free),
+        λ p own. go p (slice_index_or old i d) (ap (λ (s : Known Step (Basis S T)). s.mine) f.seat) (w.own p own),
+        omega (arith, w.drawn, nothing, few),
+      )
     where
       go : (p : ℕ) (a : Worker S T) {Q : Type 0} → a.seat.mine ≡ [] → (0 < times p a.seat.mine) ⊎ Q → Q
       go p a none (inl own) = absurd (nothing_own p (subst (λ ms. 0 < times p ms) none own))
@@ -81,6 +85,7 @@ module _ {S T : Type 0} where
         heard = tt;
         order = tt;
         owns = λ p own. absurd (none p (subst (λ ms. 0 < times p ms) (ap (λ (s : Known Step (Basis S T)). s.mine) h.seat) own));
+        drawn = let nothing : a.guest.seat.drawn ≡ 0 = ap (λ (s : Known Step (Basis S T)). s.drawn) h.seat in omega (arith, nothing);
       };
       kept = λ short. record { all = refl; next = h.next; told = h.told };
     }
@@ -128,6 +133,9 @@ module _ {S T : Type 0} where
 
     module _ (seat new : Known Step (Basis S T)) (told : List (List ToldCall)) (short : Bool) (guests : List (List Outcome)) (j : AreJoined disk first false lock names lines seat told short guests) (a : Actor S T) (run : HasRun disk first lock names lines a)
         (number : a.number ≡ length guests + 1) (both : new ≡ together_of together seat a.guest.seat) (seen : StartsWith new.seen seat.seen × StartsWith new.seen a.guest.seat.seen) (basis : Contains new.basis seat.basis × Contains new.basis a.guest.seat.basis) where
+      refused : (seat.refusals ≤ new.refusals) × (a.guest.seat.refusals ≤ new.refusals)
+      refused = let both_of : new.refusals ≡ seat.refusals + a.guest.seat.refusals = ap (λ (s : Known Step (Basis S T)). s.refusals) both in (omega (arith, both_of), omega (arith, both_of))
+
       abbrev number_is : a.number ≡ 1 + length guests
       number_is = omega (arith, number)
 
@@ -135,7 +143,7 @@ module _ {S T : Type 0} where
       hears = subst (λ n. HasHeard disk first n (forms_of n lines) a.guest.seat run.outcomes) number_is run.hears
 
       abbrev Heard : Known Step (Basis S T) → ℕ → List Outcome → Type 0
-      Heard s guest outcomes = AreHeard disk first s.seen s.basis.notes guest 1 (forms_of guest lines) outcomes
+      Heard s guest outcomes = AreHeard disk first s guest 1 (forms_of guest lines) outcomes
 
       abbrev Owns : Known Step (Basis S T) → ℕ → ℕ → List Outcome → Type 0
       Owns s p guest outcomes = OwnsAt s.seen p guest (forms_of guest lines) outcomes
@@ -162,8 +170,8 @@ module _ {S T : Type 0} where
         leads = ap (λ (s : Known Step (Basis S T)). s.family.is_first) both ∙ j.leads;
         knows = contains_through new.basis seat.basis (first_basis disk first) basis.0 j.knows;
         heard = each_snoc (Heard new) 1 guests run.outcomes
-            (each_map (Heard seat) (Heard new) 1 guests (λ g os. all_heard_later disk first seat.seen new.seen seat.basis.notes new.basis.notes g 1 (forms_of g lines) os seen.0 basis.0.notes) j.heard)
-            (all_heard_later disk first a.guest.seat.seen new.seen a.guest.seat.basis.notes new.basis.notes (1 + length guests) 1 (forms_of (1 + length guests) lines) run.outcomes seen.1 basis.1.notes hears.heard);
+            (each_map (Heard seat) (Heard new) 1 guests (λ g os. all_heard_later disk first seat new g 1 (forms_of g lines) os seen.0 (knows_more disk first new seat basis.0 refused.0)) j.heard)
+            (all_heard_later disk first a.guest.seat new (1 + length guests) 1 (forms_of (1 + length guests) lines) run.outcomes seen.1 (knows_more disk first new a.guest.seat basis.1 refused.1) hears.heard);
         order = each_snoc (λ g os. IsRising (places_in os)) 1 guests run.outcomes j.order hears.order;
         owns = owns_now;
         count = length-append told (a.told.items ∷ []) ∙ ap (λ n. n + 1) j.count ∙ sym (length-append guests (run.outcomes ∷ []));
@@ -190,8 +198,11 @@ module _ {S T : Type 0} where
 
     module _ (seat new : Known Step (Basis S T)) (told : List (List ToldCall)) (short : Bool) (guests : List (List Outcome)) (j : AreJoined disk first true lock names lines seat told short guests) (w : Worker S T) (done : HasDone lock w)
         (both : new ≡ together_of together seat w.seat) (seen : StartsWith new.seen seat.seen × StartsWith new.seen w.seat.seen) (basis : Contains new.basis seat.basis × Contains new.basis w.seat.basis) where
+      refused_too : seat.refusals ≤ new.refusals
+      refused_too = let both_of : new.refusals ≡ seat.refusals + w.seat.refusals = ap (λ (s : Known Step (Basis S T)). s.refusals) both in omega (arith, both_of)
+
       abbrev Hears : Known Step (Basis S T) → ℕ → List Outcome → Type 0
-      Hears s guest outcomes = AreHeard disk first s.seen s.basis.notes guest 1 (forms_of guest lines) outcomes
+      Hears s guest outcomes = AreHeard disk first s guest 1 (forms_of guest lines) outcomes
 
       abbrev OwnsBy : Known Step (Basis S T) → ℕ → ℕ → List Outcome → Type 0
       OwnsBy s p guest outcomes = OwnsAt s.seen p guest (forms_of guest lines) outcomes
@@ -219,7 +230,7 @@ module _ {S T : Type 0} where
         free = (ap (λ (s : Known Step (Basis S T)). s.lock) both ∙ j.free.0, ap (λ (s : Known Step (Basis S T)). s.turn) both ∙ j.free.1);
         leads = ap (λ (s : Known Step (Basis S T)). s.family.is_first) both ∙ j.leads;
         knows = contains_through new.basis seat.basis (first_basis disk first) basis.0 j.knows;
-        heard = each_map (Hears seat) (Hears new) 1 guests (λ g os. all_heard_later disk first seat.seen new.seen seat.basis.notes new.basis.notes g 1 (forms_of g lines) os seen.0 basis.0.notes) j.heard;
+        heard = each_map (Hears seat) (Hears new) 1 guests (λ g os. all_heard_later disk first seat new g 1 (forms_of g lines) os seen.0 (knows_more disk first new seat basis.0 refused_too)) j.heard;
         order = j.order;
         owns = worker_owns;
         count = j.count;

@@ -1,5 +1,5 @@
 -- A guest of a script, behind one of its lines.
-use Rattle.std.proofs.Common.{◌≡◌, ◌+◌, ◌^◌, ◌<◌, ◌++◌, ◌∷◌, ℕ, Bool, true, false, [], List, length, Result, refl, sym, ap, subst, ◌∙◌, length-append}
+use Rattle.std.proofs.Common.{◌≡◌, ◌+◌, ◌^◌, ◌<◌, ◌≤◌, arith, ◌++◌, ◌∷◌, ℕ, Bool, true, false, [], List, length, Result, refl, sym, ap, subst, ◌∙◌, length-append}
 use Rattle.std.specs.Prelude.{◌||◌, MatchBool, if◌then◌else◌, not}
 use Rattle.std.proofs.lemmas.List.{append-nil}
 use Rattle.store_model.specs.Disk.{Disk}
@@ -36,13 +36,22 @@ module _ {S T : Type 0} where
       go true h = h.2.keeps
       go false h = h.keeps
 
+  -- and draws one ticket at most
+  asked_drawn : (disk : S → Disk) (who : Caller) (form : Form) (room : List ℕ) (old new : Known Step (Basis S T)) (answer : Result ℕ ChainRefusal) → IsAsked disk who form room old new answer → new.drawn ≤ old.drawn + 1
+  asked_drawn disk who form room old new answer = go (asks_too_many form)
+    where
+      go : (b : Bool) → MatchBool b ((made : Result ℕ ChainRefusal) × (r : Reply) × IsCall disk who (emptied form) r old new made × (answer ≡ too_long (count_of form) made)) (IsCall disk who (call_of form) (reply_in room form) old new answer)
+          → new.drawn ≤ old.drawn + 1
+      go true h = h.2.drawn
+      go false h = h.drawn
+
   pub asked_free : (disk : S → Disk) (who : Caller) (form : Form) (room : List ℕ) (lock : TableId) (old new : Known Step (Basis S T)) (answer : Result ℕ ChainRefusal) → IsAsked disk who form room old new answer → IsFree lock old → IsFree lock new
   asked_free disk who form room lock old new answer asked free = let k = asked_seat disk who form room old new answer asked in (k.lock ∙ free.0, k.free)
 
   module _ (disk : S → Disk) (first : Chain S KeepAll T) (lock : TableId) (names : List (List ℕ)) (forms : List Form) (form : Form) (old : Actor S T) (is : IsActor disk first lock names forms old) where
     more_heard : (fs : List Form) → HasHeard disk first old.number (forms ++ fs) old.guest.seat is.outcomes
     more_heard fs =
-        nothing_more disk first old.number forms is.outcomes form old.guest.seat old.guest.seat is.hears (starts-itself old.guest.seat.seen) (contains_itself old.guest.seat.basis) fs refl
+        nothing_more disk first old.number forms is.outcomes form old.guest.seat old.guest.seat is.hears (starts-itself old.guest.seat.seen) (contains_itself old.guest.seat.basis) (omega arith) fs refl (omega arith)
 
     -- memory has run out before
     pub short_passes : old.is_short ≡ true → IsActor disk first lock names (forms ++ called_form form) old
@@ -88,7 +97,7 @@ module _ {S T : Type 0} where
       heard : HasHeard disk first old.number (forms ++ form ∷ []) seat outcomes_after
       heard =
           let k = asked_seat disk (caller_of old.guest.number old.guest.next) form room old.guest.seat seat answer asked in
-          asked_kept disk first old.number forms is.outcomes form old.guest.seat seat is.hears k.seen k.basis kept.all is.sector room answer asked_by
+          asked_kept disk first old.number forms is.outcomes form old.guest.seat seat is.hears k.seen k.basis k.refusals kept.all (asked_drawn disk (caller_of old.guest.number old.guest.next) form room old.guest.seat seat answer asked) is.sector room answer asked_by
 
       pub called : (a : Actor S T) → a.guest.seat ≡ seat → a.guest.number ≡ old.guest.number → a.guest.next ≡ one_more old.guest.next → a.number ≡ old.number → length a.room.items ≡ 1048576
           → (a.is_short ≡ false → (is_want answer ≡ false) × (a.told.items ≡ old.told.items ++ told_call names form (outcome_of (shown_in room form) answer) ∷ [])) → IsActor disk first lock names (forms ++ called_form form) a

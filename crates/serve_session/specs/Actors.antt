@@ -49,10 +49,10 @@ HasBreacher b guest number (form ∷ forms) (o ∷ outcomes) = HasBreach guest n
 module _ {S T : Type 0} (disk : S → Disk) (first : Chain S KeepAll T) where
   -- what is noted of a chain whose session has just begun
   abbrev pub first_notes : List Note
-  first_notes = notes_in (disk first.store) None None None
+  first_notes = notes_in (disk first.store) None None
 
   abbrev pub first_basis : Basis S T
-  first_basis = record { first = Some first; notes = first_notes }
+  first_basis = record { first = Some first; notes = first_notes; events = first.events }
 
   -- A call was done: it stands in the history, behind others, and its reply is that of the disk with these.
   pub record HasPlace (seen : List Step) (guest number : ℕ) (call : Call) (done : ℕ × Reply) : Type 0 where
@@ -63,27 +63,28 @@ module _ {S T : Type 0} (disk : S → Disk) (first : Chain S KeepAll T) where
     pub replies : RepliesBehind disk first before call done.1
 
   -- it was refused, for what is noted or by its place
-  abbrev pub IsHeardOf : List Note → Call → ChainRefusal → Type 0
-  IsHeardOf noted call refusals.EmptyRange = misplaced call first.layers ≡ Some refusals.EmptyRange
-  IsHeardOf noted call (refusals.OutOfRange from count sectors) = misplaced call first.layers ≡ Some (refusals.OutOfRange from count sectors)
-  IsHeardOf noted call (refusals.TooLong count limit) = misplaced call first.layers ≡ Some (refusals.TooLong count limit)
-  IsHeardOf noted call refusals.ReadOnly = misplaced call first.layers ≡ Some refusals.ReadOnly
-  IsHeardOf noted call (refusals.Broken file count) = HasNote noted (notes.ChangeFailed file count)
-  IsHeardOf noted call (refusals.Spent t) = 2 ^ 63 ≤ t
-  IsHeardOf noted call (refusals.FileFull next) = (misplaced call first.layers ≡ None) × HasNote noted (notes.Full next) × StopsOver disk first call (refusals.FileFull next)
-  IsHeardOf noted call (refusals.ReadFault file count) =
-      (misplaced call first.layers ≡ None) × HasNote noted (notes.ReadFailed file count) × (HasNote first_notes (notes.ReadFailed file count) → 2 ^ 64 - 1 ≤ count)
-  IsHeardOf noted call other = ⊥
+  abbrev pub IsHeardOf : Known Step (Basis S T) → Call → ChainRefusal → Type 0
+  IsHeardOf seat call refusals.EmptyRange = misplaced call first.layers ≡ Some refusals.EmptyRange
+  IsHeardOf seat call (refusals.OutOfRange from count sectors) = misplaced call first.layers ≡ Some (refusals.OutOfRange from count sectors)
+  IsHeardOf seat call (refusals.TooLong count limit) = misplaced call first.layers ≡ Some (refusals.TooLong count limit)
+  IsHeardOf seat call refusals.ReadOnly = misplaced call first.layers ≡ Some refusals.ReadOnly
+  IsHeardOf seat call (refusals.Broken file count) = HasNote seat.basis.notes (notes.ChangeFailed file count)
+  -- so many turns, or events, there were
+  IsHeardOf seat call (refusals.Spent t) = (2 ^ 63 ≤ t) × ((0 < seat.refusals) ⊎ (t ≤ seat.basis.events))
+  IsHeardOf seat call (refusals.FileFull next) = (misplaced call first.layers ≡ None) × HasNote seat.basis.notes (notes.Full next) × StopsOver disk first call (refusals.FileFull next)
+  IsHeardOf seat call (refusals.ReadFault file count) =
+      (misplaced call first.layers ≡ None) × HasNote seat.basis.notes (notes.ReadFailed file count) × (HasNote first_notes (notes.ReadFailed file count) → 2 ^ 64 - 1 ≤ count)
+  IsHeardOf seat call other = ⊥
 
-  abbrev pub IsHeard : List Step → List Note → ℕ → ℕ → Form → Outcome → Type 0
-  IsHeard seen noted guest number form (Ok done) = HasPlace seen guest number (call_of form) done
-  IsHeard seen noted guest number form (Err refusal) = IsHeardOf noted (call_of form) refusal
+  abbrev pub IsHeard : Known Step (Basis S T) → ℕ → ℕ → Form → Outcome → Type 0
+  IsHeard seat guest number form (Ok done) = HasPlace seat.seen guest number (call_of form) done
+  IsHeard seat guest number form (Err refusal) = IsHeardOf seat (call_of form) refusal
 
   -- so it is of a guest's calls, the first of which has this number
-  abbrev pub AreHeard : List Step → List Note → ℕ → ℕ → List Form → List Outcome → Type 0
-  AreHeard seen noted guest number forms [] = ⊤
-  AreHeard seen noted guest number [] (o ∷ outcomes) = ⊥
-  AreHeard seen noted guest number (form ∷ forms) (o ∷ outcomes) = IsHeard seen noted guest number form o × AreHeard seen noted guest (number + 1) forms outcomes
+  abbrev pub AreHeard : Known Step (Basis S T) → ℕ → ℕ → List Form → List Outcome → Type 0
+  AreHeard seat guest number forms [] = ⊤
+  AreHeard seat guest number [] (o ∷ outcomes) = ⊥
+  AreHeard seat guest number (form ∷ forms) (o ∷ outcomes) = IsHeard seat guest number form o × AreHeard seat guest (number + 1) forms outcomes
 
 -- the call at this place, behind the whole history, is what broke the session: one of this guest's
 pub record BreaksAt (seen : List Step) (p guest : ℕ) (forms : List Form) (outcomes : List Outcome) : Type 0 where
@@ -109,12 +110,13 @@ abbrev pub called_form : Form → List Form
 called_form form = if is_call form then form ∷ [] else []
 
 module _ {S T : Type 0} (disk : S → Disk) (first : Chain S KeepAll T) where
-  -- What a guest with this seat was told of its calls, and nothing else is its own.
+  -- What a guest with this seat was told of its calls, and nothing else is its own. It drew a ticket for each of them at most.
   pub record HasHeard (guest : ℕ) (forms : List Form) (seat : Known Step (Basis S T)) (outcomes : List Outcome) : Type 0 where
     pub knows : Contains seat.basis (first_basis disk first)
-    pub heard : AreHeard disk first seat.seen seat.basis.notes guest 1 forms outcomes
+    pub heard : AreHeard disk first seat guest 1 forms outcomes
     pub order : IsRising (places_in outcomes)
     pub owns : (p : ℕ) → 0 < times p seat.mine → OwnsAt seat.seen p guest forms outcomes
+    pub drawn : seat.drawn ≤ length forms
 
   -- all calls of these forms were made, and what they were told is kept
   pub record HasKept (names : List (List ℕ)) (forms : List Form) (actor : Actor S T) (outcomes : List Outcome) : Type 0 where
@@ -143,7 +145,7 @@ module _ {S T : Type 0} (disk : S → Disk) (first : Chain S KeepAll T) where
     pub free : IsFree lock seat
     pub leads : seat.family.is_first ≡ true
     pub knows : Contains seat.basis (first_basis disk first)
-    pub heard : EachGuest (λ guest outcomes. AreHeard disk first seat.seen seat.basis.notes guest 1 (forms_of guest lines) outcomes) 1 guests
+    pub heard : EachGuest (λ guest outcomes. AreHeard disk first seat guest 1 (forms_of guest lines) outcomes) 1 guests
     pub order : EachGuest (λ guest outcomes. IsRising (places_in outcomes)) 1 guests
     pub owns : (p : ℕ) → 0 < times p seat.mine → IsOwned merges seat.seen p lines guests
     pub count : length told ≡ length guests

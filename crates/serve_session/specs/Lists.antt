@@ -1,5 +1,5 @@
 -- The guests of a script, one after the other.
-use Rattle.std.specs.Prelude.{◌≡◌, ◌+◌, ◌-◌, ◌<◌, ⊤, ℕ, Bool, false, true, List, [], ◌∷◌, length, slice_index_or}
+use Rattle.std.specs.Prelude.{◌≡◌, ◌+◌, ◌-◌, ◌*◌, ◌^◌, ◌<◌, ◌≤◌, ⊤, ℕ, Bool, false, true, List, [], ◌∷◌, length, slice_index_or}
 use Rattle.store_model.specs.Disk.{Disk}
 use Rattle.guest_model.specs.declared.recorder.KeepAll.{KeepAll}
 use Rattle.chain_core.specs.declared.chain.Chain.{Chain}
@@ -62,14 +62,14 @@ module _ {S T : Type 0} where
   abbrev pub CanWork : TableId → Counter → Worker S T → Type 0
   CanWork lock claims worker = IsFree lock worker.seat × (worker.claim.counter ≡ claims)
 
-  -- workers have taken turns
-  pub record WorksEach (old new : List (Worker S T)) : Type 0 where
+  -- workers have taken so many turns each at most
+  pub record WorksEach (turns : ℕ) (old new : List (Worker S T)) : Type 0 where
     pub count : length new ≡ length old
-    pub each : (i : ℕ) (d : Worker S T) → i < length old → HasWorked (slice_index_or old i d).seat (slice_index_or new i d).seat
+    pub each : (i : ℕ) (d : Worker S T) → i < length old → HasWorked turns (slice_index_or old i d).seat (slice_index_or new i d).seat
 
-  -- it has ended its turns, and nothing is its own but where a step of the merge broke the session
+  -- it has ended its turns, and nothing is its own but where a step of the merge broke the session; it drew fewer than 2^33 tickets
   abbrev pub HasDone : TableId → Worker S T → Type 0
-  HasDone lock worker = IsFree lock worker.seat × ((p : ℕ) → 0 < times p worker.seat.mine → MergeBreaksAt worker.seat.seen p)
+  HasDone lock worker = IsFree lock worker.seat × ((p : ℕ) → 0 < times p worker.seat.mine → MergeBreaksAt worker.seat.seen p) × (worker.seat.drawn ≤ 2 ^ 32)
 
   -- what guests were told stands of a seat into which those of a merge's workers were joined
   abbrev pub WorkersJoin : (S → Disk) → TableId → Known Step (Basis S T) → Known Step (Basis S T) → Type 0
@@ -77,9 +77,11 @@ module _ {S T : Type 0} where
       (first : Chain S KeepAll T) (names : List (List ℕ)) (lines : List Line) (told : List (List ToldCall)) (short : Bool) (guests : List (List Outcome)) → AreJoined disk first true lock names lines old told short guests
       → AreJoined disk first true lock names lines new told short guests
 
-  -- the seats of so many guests were joined
+  -- the seats of so many guests were joined, each of which drew a ticket for each of its calls at most
   pub record HasJoined (disk : S → Disk) (merges : Bool) (first : Chain S KeepAll T) (lock : TableId) (names : List (List ℕ)) (lines : List Line) (count : ℕ) (old new : Known Step (Basis S T)) (told : List (List ToldCall)) (short : Bool) : Type 0 where
     pub guests : List (List Outcome)
     pub joined : AreJoined disk first merges lock names lines new told short guests
     pub count_is : length guests ≡ count
     pub family : new.family ≡ record (old.family) { joins = old.family.joins + count }
+    pub first_ticket : new.first_ticket ≡ old.first_ticket
+    pub drawn : new.drawn ≤ old.drawn + 2 ^ 20 * count

@@ -49,10 +49,9 @@ pub record HasServedOver (scope : Scope) (lines : List Line) (guests : List (Lis
   pub stays : gone ≡ false → OnOk closed (EachLinks scope.leaf.name (map (λ (f : LinkedFile). f.name) scope.files) now)
   pub stopped : IfErr merged (IsStopTold scope.changes now)
 
--- Why a merge isn't finished at the end: the count of events is used up; a file is full; a read failed, as the last fault that was met; or a
--- fault has broken the session. Where memory ran out there is no transcript.
+-- Why a merge isn't finished at the end: a file is full; a read failed, as the last fault that was met; or a fault has broken the session. Where
+-- memory ran out there is no transcript.
 abbrev pub StopsMerge : ScriptRun → ChainRefusal → Type 0
-StopsMerge run (refusals.Spent t) = 2 ^ 63 ≤ t
 StopsMerge run (refusals.FileFull next) = ⊤
 StopsMerge run (refusals.ReadFault file count) = run.fault ≡ Some (record { file = file; count = count })
 StopsMerge run (refusals.Broken file count) = run.closed ≡ Err (record { file = file; count = count })

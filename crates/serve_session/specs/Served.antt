@@ -103,11 +103,9 @@ IsRising (p ∷ places) = AllByRecursion (λ q. p < q) places × IsRising places
 abbrev pub misplaced : Drive → Call → Option ChainRefusal
 misplaced drive call = out_of (range_of drive.geometry call) (barred call drive.can_change)
 
--- What refuses a call: it is misplaced; the count of events, or of turns, is used up; a change of the leaf has failed, which has broken the
--- session for all; or, of a call that isn't misplaced, a read of a file failed, or the file is full, which stops it as a line of `steps`.
+-- What refuses a call: it is misplaced; a change of the leaf has failed, which has broken the session for all; or, of a call that isn't misplaced, a read of a file failed, or the file is full, which stops it as a line of `steps`.
 pub data IsRefused (drive : Drive) (broken : Option StoreFault) (call : Call) : ChainRefusal → Type 0 where
   is_misplaced : (e : ChainRefusal) → misplaced drive call ≡ Some e → IsRefused drive broken call e
-  is_spent : (t : ℕ) → 2 ^ 63 ≤ t → IsRefused drive broken call (refusals.Spent t)
   is_broken : (fault : StoreFault) → broken ≡ Some fault → IsRefused drive broken call (refusals.Broken fault.file fault.count)
   is_unread : (file count : ℕ) → misplaced drive call ≡ None → IsRefused drive broken call (refusals.ReadFault file count)
   is_full : (next : ℕ) → misplaced drive call ≡ None → Stops call (refusals.FileFull next) → IsRefused drive broken call (refusals.FileFull next)

@@ -44,11 +44,13 @@ IsUpTo (Some most) n = n ≤ most
 -- a shared chain whose session has just begun, with no call
 pub record HasBegun {S T : Type 0} (disk : S → Disk) (s : Shared (Chain S KeepAll T)) : Type 0 where
   pub sound : IsSound (session_of disk s.first)
-  pub fresh : s ≡ record { chain = s.first; first = s.first; full = None; spent = None; broke = None; fault = None }
+  pub fresh : s ≡ record { chain = s.first; first = s.first; full = None; broke = None; fault = None }
   pub empty : s.first.recorder ≡ []
   pub whole : s.first.broken ≡ None
+  pub none : s.first.events ≡ 0
 
--- Threads shared it, and all seats were joined: what guests were told is what stands in its history, or what broke the session.
+-- Threads shared it, and all seats were joined: what guests were told is what stands in its history, or what broke the session. No turn was
+-- refused, and few events there were.
 pub record WasShared {S T : Type 0} (disk : S → Disk) (merges : Bool) (old : Shared (Chain S KeepAll T)) (names : List (List ℕ)) (lines : List Line) (new : Shared (Chain S KeepAll T)) (told : List (List ToldCall)) (short : Bool) : Type 0 where
   pub lock : TableId
   pub seat : Known Step (Basis S T)
@@ -58,6 +60,8 @@ pub record WasShared {S T : Type 0} (disk : S → Disk) (merges : Bool) (old : S
   pub history : steps_of new.chain.recorder new.broke ≡ seat.seen
   pub basis : Contains (basis_of disk new) seat.basis
   pub places : (p : ℕ) → times p seat.mine ≡ once_between p 1 (length seat.seen + 1)
+  pub refusals : seat.refusals ≡ 0
+  pub few : new.chain.events ≤ 2 ^ 40
 
 -- or memory ran out before a call was made
 pub data IsShared {S T : Type 0} (disk : S → Disk) (merges : Bool) (old : Shared (Chain S KeepAll T)) (names : List (List ℕ)) (lines : List Line) (new : Shared (Chain S KeepAll T)) (told : List (List ToldCall)) (short : Bool) : Type 0 where

@@ -1,6 +1,6 @@
 //! A script's session with several guests, from the first call to its end.
 
-ghost use Rattle.std.specs.Prelude.{◌≡◌, ◌+◌, ◌≤◌, ◌<◌, ◌^◌, ℕ, Bool, List, All, Err, Ok, false, true, length, map, is_some, string_bytes, vec_capacity, [], IfOk, IfSome, None};
+ghost use Rattle.std.specs.Prelude.{◌≡◌, ◌+◌, ◌*◌, ◌≤◌, ◌<◌, ◌^◌, ℕ, Bool, List, All, Err, Ok, false, true, length, map, is_some, string_bytes, vec_capacity, [], IfOk, IfSome, None};
 ghost use denote.Param.Send.{IsSend, IsSync};
 ghost use Rattle.std.specs.Fork.{AcceptsEach};
 ghost use Rattle.serve_session.specs.Beside.{WasCalledAt};
@@ -176,6 +176,7 @@ fn end_actors<S: Store, N: AsStr>(
 ) -> bool
     requires joined { AreJoined S.disk chain.now.value.first false lock.now (map N.text names.now) lines.now first.old told.old.items false [] }
     requires ran { AreActors (HasRun S.disk chain.now.value.first lock.now (map N.text names.now) lines.now) (length actors.old.items) actors.old.items }
+    requires few { length lines.now ≤ 2 ^ 20 }
     requires reserved { length actors.old.items ≤ vec_capacity told.old }
     ensures joined { HasJoined S.disk false chain.now.value.first lock.now (map N.text names.now) lines.now (length actors.old.items) first.old first.new told.new.items result }
     ensures none { actors.new.items ≡ [] }
@@ -257,7 +258,7 @@ where
     requires workers { All (CanWork lock.now claims.now) workers.old }
     requires few { length lines.now ≤ 2 ^ 20 }
     ensures guests { RunsEach S.disk lock.now (map N.text names.now) lines.now actors.old actors.new }
-    ensures workers { WorksEach workers.old workers.new }
+    ensures workers { WorksEach (claims.now.limit + 1) workers.old workers.new }
 {
     beside(
         rt,
@@ -283,6 +284,8 @@ fn end_workers<S: Store>(
     ensures family { first.new.family ≡ record first.old.family { joins = first.old.family.joins + length workers.old.items } }
     ensures free { IsFree lock.now first.new }
     ensures same { length workers.old.items ≡ 0 → first.new ≡ first.old }
+    ensures first_ticket { first.new.first_ticket ≡ first.old.first_ticket }
+    ensures drawn { first.new.drawn ≤ first.old.drawn + 2 ^ 32 * length workers.old.items }
     ensures none { workers.new.items ≡ [] }
 {
     while let Some(worker) = workers.pop() {

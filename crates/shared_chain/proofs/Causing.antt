@@ -17,7 +17,7 @@ use Rattle.shared_chain.specs.declared.basis.Basis.{Basis}
 use Rattle.shared_chain.specs.declared.basis.Note.{Note}
 use Rattle.shared_chain.specs.declared.basis.Note.TheVariants as notes
 use Rattle.shared_chain.specs.Answers.{IsCausedIn, StopsOver}
-use Rattle.shared_chain.specs.Bases.{fault_notes, full_notes, notes_in, read_notes, spent_notes}
+use Rattle.shared_chain.specs.Bases.{fault_notes, full_notes, notes_in, read_notes}
 use Rattle.shared_chain.specs.Laws.{of_both}
 use Rattle.shared_chain.specs.Notes.{HasNote, NotesBy}
 use Rattle.shared_chain.proofs.Reaching.{IsReached}
@@ -39,18 +39,13 @@ not_in_full None f c h = absurd h
 not_in_full (Some n) f c (inl h) = absurd h
 not_in_full (Some n) f c (inr h) = absurd h
 
-not_in_spent : (o : Option ℕ) (f c : ℕ) → HasNote (spent_notes o) (notes.ReadFailed f c) → ⊥
-not_in_spent None f c h = absurd h
-not_in_spent (Some n) f c (inl h) = absurd h
-not_in_spent (Some n) f c (inr h) = absurd h
-
 not_in_fault : (o : Option StoreFault) (f c : ℕ) → HasNote (fault_notes o) (notes.ReadFailed f c) → ⊥
 not_in_fault None f c h = absurd h
 not_in_fault (Some x) f c (inl h) = absurd h
 not_in_fault (Some x) f c (inr h) = absurd h
 
-noted_reads : (disk : Disk) (broken : Option StoreFault) (full spent : Option ℕ) (f c : ℕ) → HasNote (notes_in disk broken full spent) (notes.ReadFailed f c) → c ≤ disk.failed_reads f
-noted_reads disk broken full spent f c h = first (of_both (full_notes full) (spent_notes spent ++ (fault_notes broken ++ reads)) n h)
+noted_reads : (disk : Disk) (broken : Option StoreFault) (full : Option ℕ) (f c : ℕ) → HasNote (notes_in disk broken full) (notes.ReadFailed f c) → c ≤ disk.failed_reads f
+noted_reads disk broken full f c h = first (of_both (full_notes full) (fault_notes broken ++ reads) n h)
   where
     n : Note
     n = notes.ReadFailed f c
@@ -58,17 +53,13 @@ noted_reads disk broken full spent f c h = first (of_both (full_notes full) (spe
     reads : List Note
     reads = read_notes disk.failed_reads disk.files
 
-    third : HasNote (fault_notes broken) n ⊎ HasNote reads n → c ≤ disk.failed_reads f
-    third (inl k) = absurd (not_in_fault broken f c k)
-    third (inr k) = in_reads disk.failed_reads disk.files f c k
+    second : HasNote (fault_notes broken) n ⊎ HasNote reads n → c ≤ disk.failed_reads f
+    second (inl k) = absurd (not_in_fault broken f c k)
+    second (inr k) = in_reads disk.failed_reads disk.files f c k
 
-    second : HasNote (spent_notes spent) n ⊎ HasNote (fault_notes broken ++ reads) n → c ≤ disk.failed_reads f
-    second (inl k) = absurd (not_in_spent spent f c k)
-    second (inr k) = third (of_both (fault_notes broken) reads n k)
-
-    first : HasNote (full_notes full) n ⊎ HasNote (spent_notes spent ++ (fault_notes broken ++ reads)) n → c ≤ disk.failed_reads f
+    first : HasNote (full_notes full) n ⊎ HasNote (fault_notes broken ++ reads) n → c ≤ disk.failed_reads f
     first (inl k) = absurd (not_in_full full f c k)
-    first (inr k) = second (of_both (spent_notes spent) (fault_notes broken ++ reads) n k)
+    first (inr k) = second (of_both (fault_notes broken) reads n k)
 
 -- a count that was so great already has come to its end
 at_end : (before now count : ℕ) → Rose before now → count ≡ now → count ≤ before → 2 ^ 64 - 1 ≤ count
@@ -76,12 +67,12 @@ at_end before now count rose told h = omega (arith, rose.later, rose.risen, told
 
 -- ---- causes
 
-module _ {S T : Type 0} (disk : S → Disk) (call : Call) (first : Chain S KeepAll T) (old new : Session) (old_full old_spent full spent : Option ℕ) where
+module _ {S T : Type 0} (disk : S → Disk) (call : Call) (first : Chain S KeepAll T) (old new : Session) (old_full full : Option ℕ) where
   abbrev before : Basis S T
-  before = record { first = Some first; notes = notes_in old.disk old.broken old_full old_spent }
+  before = record { first = Some first; notes = notes_in old.disk old.broken old_full; events = old.events }
 
   abbrev after : Basis S T
-  after = record { first = Some first; notes = notes_in new.disk new.broken full spent }
+  after = record { first = Some first; notes = notes_in new.disk new.broken full; events = new.events }
 
   module _ (place : misplaced call first.layers ≡ misplaced call old.layers) where
     at_place : (x : ChainRefusal) → IsPlaceRefusal x → misplaced call old.layers ≡ Some x → IsCausedIn disk call before after (Err x)
@@ -102,10 +93,10 @@ module _ {S T : Type 0} (disk : S → Disk) (call : Call) (first : Chain S KeepA
     at_place NoRoom is h = absurd is
 
     -- of a call that is refused before it reaches the files
-    pub early_caused : (x : ChainRefusal) → Early call old x → NotesBy (Err x) before.notes after.notes → IsCausedIn disk call before after (Err x)
-    early_caused _ (is_spent many) noted = (many, (noted (notes.Spent old.events)).1 (inl (inl (omega arith))))
-    early_caused _ (is_broken fault is) noted = (noted (notes.ChangeFailed fault.file fault.count)).1 (inl (inl (refl, refl)))
-    early_caused _ (is_misplaced x is kind) noted = at_place x kind is
+    pub early_caused : (x : ChainRefusal) → old.events ≤ new.events → Early call old x → NotesBy (Err x) before.notes after.notes → IsCausedIn disk call before after (Err x)
+    early_caused _ later (is_spent many) noted = (many, later)
+    early_caused _ later (is_broken fault is) noted = (noted (notes.ChangeFailed fault.file fault.count)).1 (inl (inl (refl, refl)))
+    early_caused _ later (is_misplaced x is kind) noted = at_place x kind is
 
     -- and of one that reached them
     pub reached_caused : (answer : Result ℕ ChainRefusal) → misplaced call old.layers ≡ None → IsReached old new answer → NotesBy answer before.notes after.notes → ((next : ℕ) → answer ≡ Err (FileFull next) → StopsOver disk first call (FileFull next))
@@ -121,7 +112,7 @@ module _ {S T : Type 0} (disk : S → Disk) (call : Call) (first : Chain S KeepA
     reached_caused (Err (ReadFault file count)) placed h noted stops = (
       place ∙ placed,
       (noted (notes.ReadFailed file count)).1 (inl (inl (refl, omega arith))),
-      λ was. at_end (old.disk.failed_reads file) (new.disk.failed_reads file) count h.0.2.rose h.0.2.told (noted_reads old.disk old.broken old_full old_spent file count was),
+      λ was. at_end (old.disk.failed_reads file) (new.disk.failed_reads file) count h.0.2.rose h.0.2.told (noted_reads old.disk old.broken old_full file count was),
     )
     reached_caused (Err NoMerge) placed h noted stops = absurd h
     reached_caused (Err (Stale taken now)) placed h noted stops = absurd h

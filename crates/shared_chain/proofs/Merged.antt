@@ -1,7 +1,7 @@
 -- What is missing of a merge is copied, and it is finished.
-use Rattle.std.proofs.Common.{◌≡◌, ◌≢◌, ◌+◌, ◌<◌, ◌≤◌, ◌^◌, ◌⊎◌, ℕ, Bool, true, false, [], Option, Some, None, Result, Ok, Err, inl, inr, refl, sym, ap, ap₂, subst, ◌∙◌, arith, ltb-false}
+use Rattle.std.proofs.Common.{◌≡◌, ◌≢◌, ◌+◌, ◌<◌, ◌≤◌, ◌^◌, ◌⊎◌, ℕ, Bool, true, false, [], Option, Some, None, Result, Ok, Err, inl, inr, refl, sym, ap, ap₂, subst, ◌∙◌, ◌*◌, ◌==◌, arith, ltb-false, ltb-true}
 use Rattle.std.specs.Prelude.{⊤, ◌||◌, IfErr, IfSome, OnOk, if◌then◌else◌, is_some, nat_lt}
-use Rattle.std.proofs.lemmas.Bool.{lt-ltb}
+use Rattle.std.proofs.lemmas.Bool.{eqb-false, lt-ltb}
 use Rattle.store_model.specs.Disk.{Disk, WhereBothTold, WhereTold}
 use Rattle.store_model.specs.Trace.{Trace}
 use Rattle.store_model.specs.declared.fault.StoreFault.{StoreFault}
@@ -10,7 +10,7 @@ use Rattle.guest_model.specs.declared.refusal.ChainRefusal.{ChainRefusal}
 use Rattle.guest_model.specs.declared.refusal.ChainRefusal.TheVariants.{Abandoned, Broken, EmptyRange, FileFull, NoMerge, NoPiece, NoRoom, NoStripe, NotYet, OutOfRange, ReadFault, ReadOnly, Spent, Stale, TooLong}
 use Rattle.guest_model.specs.History.{History}
 use Rattle.store_model.specs.Cause.{RoseAt}
-use Rattle.chain_model.specs.Merges.{AllMarked}
+use Rattle.chain_model.specs.Merges.{AllMarked, with_mark}
 use Rattle.chain_model.specs.Stripes.{stripe_count}
 use Rattle.merge_core.specs.declared.marks.Marks.{Marks}
 use Rattle.merge_core.specs.declared.piece.Piece.{Piece}
@@ -21,7 +21,7 @@ use Rattle.chain_core.specs.declared.layers.Layers.{Layers}
 use Rattle.chain_core.specs.declared.layers.Retiring.{Retiring}
 use Rattle.chain_core.specs.declared.layers.Underway.{Underway}
 use Rattle.chain_core.specs.Answering.{fault_of}
-use Rattle.chain_core.specs.Copying.{FetchCause, IfStopped, IsMissing, PutCause, fetch_refused, merge_refused, no_merge, no_stripe, past_stripes, put_refused, stale, stamp_in, stamp_of, unfilled}
+use Rattle.chain_core.specs.Copying.{FetchCause, HasMarked, IfStopped, IsMissing, MarksIn, MarksToo, PutCause, fetch_refused, merge_refused, no_merge, no_stripe, past_stripes, put_refused, stale, stamp_in, stamp_of, unfilled}
 use Rattle.chain_core.specs.Finished.{FinishCause}
 use Rattle.chain_core.specs.Refusing.{broken_by, or_else, unfit}
 use Rattle.chain_core.specs.Sessions.{HasNoMerge, IsSound, Session, has_merge, kept_marks, marks_in}
@@ -33,7 +33,7 @@ use Rattle.script_session.proofs.Copying.{never_stale}
 use Rattle.script_session.proofs.Moving.{ok_reached, parts_none}
 use Rattle.script_session.proofs.Room.{each_stripe}
 use Rattle.script_session.proofs.Telling.{both_told}
-use Rattle.script_session.proofs.Turns.{sound_of}
+use Rattle.script_session.proofs.Turns.{sound_of, turn_events}
 use Rattle.shared_chain.specs.declared.basis.Breach.{Breach}
 use Rattle.shared_chain.specs.declared.basis.Note.TheVariants as notes
 use Rattle.shared_chain.specs.Bases.{notes_in, notes_of}
@@ -41,7 +41,7 @@ use Rattle.shared_chain.specs.Ends.{EndsMerge, copy_stopped, finish_done, finish
 use Rattle.shared_chain.specs.Faults.{fault_after}
 use Rattle.shared_chain.specs.Homes.{Follows, IsHome, session_of}
 use Rattle.shared_chain.specs.Merging.{IsMerged, IsStepped, StopsEnd, as_answer}
-use Rattle.shared_chain.specs.Notes.{HasNote, NotesBy, full_after, noted_in, spent_after}
+use Rattle.shared_chain.specs.Notes.{HasNote, NotesBy, full_after, noted_in}
 use Rattle.shared_chain.specs.Shared.{Shared}
 use Rattle.shared_chain.specs.Steps.{broke_after, merge_breach}
 use Rattle.shared_chain.proofs.Breaking.{none_broke}
@@ -53,6 +53,7 @@ use Rattle.shared_chain.proofs.Stepping.{IsQuiet, StepOf, finish_quiet, finish_s
 
 pub record Carries (old new : Session) (answer : Result (Unit {0}) ChainRefusal) : Type 0 where
   pub keeps : KeepsHistory old new
+  pub later : old.events ≤ new.events
   pub change : IsChange (as_answer answer) old.disk new.disk old.broken new.broken
   pub home : (first : Session) (h : History) (full : Option ℕ) (broke : Option Breach) (fault : Option StoreFault) → IsHome first old h full broke fault
       → IsHome first new h (full_after full (as_answer answer)) (broke_after broke merge_breach (as_answer answer)) (fault_after fault (as_answer answer))
@@ -60,12 +61,13 @@ pub record Carries (old new : Session) (answer : Result (Unit {0}) ChainRefusal)
 pub carries_step : (old new : Session) (answer : Result (Unit {0}) ChainRefusal) → IsSound new → StepOf old new answer → Carries old new answer
 carries_step old new answer sound s = record {
   keeps = s.keeps;
+  later = s.later;
   change = step_change old new answer s;
   home = λ first h full broke fault home. home_step first old new h full broke fault answer sound s home;
 }
 
 carries_none : (old : Session) → Carries old old (Ok tt)
-carries_none old = record { keeps = record { noted = refl; told = refl; geometry = refl; session = refl }; change = (refl, refl, refl); home = λ first h full broke fault home. home }
+carries_none old = record { keeps = record { noted = refl; told = refl; geometry = refl; session = refl }; later = omega arith; change = (refl, refl, refl); home = λ first h full broke fault home. home }
 
 change_behind : (a b c : Disk) (x y z : Option StoreFault) (answer : Result ℕ ChainRefusal) → Stays a b x y → IsChange answer b c y z → IsChange answer a c x z
 change_behind a b c x y z answer s = go answer
@@ -99,6 +101,7 @@ change_behind a b c x y z answer s = go answer
 carries_then : (old mid new : Session) (answer : Result (Unit {0}) ChainRefusal) → Carries old mid (Ok tt) → Carries mid new answer → Carries old new answer
 carries_then old mid new answer a b = record {
   keeps = keeps_both old mid new a.keeps b.keeps;
+  later = omega (arith, a.later, b.later);
   change = change_behind old.disk mid.disk new.disk old.broken mid.broken new.broken (as_answer answer) a.change b.change;
   home = λ first h full broke fault home. b.home first h full broke fault (a.home first h full broke fault home);
 }
@@ -128,16 +131,17 @@ copy_carries old slot answer new left h sound = go (merge_refused old) refl
         (subst (λ s. Carries old s (Err e)) (sym early.1.0)
         (record {
           keeps = record { noted = refl; told = refl; geometry = refl; session = refl };
+          later = omega arith;
           change = quiet_change old.disk old.disk old.broken old.broken e refl refl q;
           home = λ first k full broke fault home. home_quiet first old old k full broke fault home home.sound (unchanged_self old) e q;
         }))
 
 pub end_carries : (old : Session) (slot : Piece) (new : Session) (answer : Result (Unit {0}) ChainRefusal) → EndsMerge old slot new answer → IsSound new → Carries old new answer
 end_carries old slot new _ (none_found left h) sound =
-    let c = copy_carries old slot (Err NoMerge) new left h sound in record { keeps = c.keeps; change = c.change; home = c.home }
+    let c = copy_carries old slot (Err NoMerge) new left h sound in record { keeps = c.keeps; later = c.later; change = c.change; home = c.home }
 end_carries old slot new _ (none_left mid left s h f) sound =
     let c = carries_then old mid new (Err NoMerge) (copy_carries old slot (Ok tt) mid left h s) (carries_step mid new (Err NoMerge) sound (finish_step (Err NoMerge) mid new f)) in
-    record { keeps = c.keeps; change = c.change; home = c.home }
+    record { keeps = c.keeps; later = c.later; change = c.change; home = c.home }
 end_carries old slot new _ (copy_stopped left x other h) sound = copy_carries old slot (Err x) new left h sound
 end_carries old slot new _ (finish_done mid left s h f) sound = carries_then old mid new (Ok tt) (copy_carries old slot (Ok tt) mid left h s) (carries_step mid new (Ok tt) sound (finish_step (Ok tt) mid new f))
 end_carries old slot new _ (finish_stopped mid left x other s h f) sound =
@@ -145,33 +149,33 @@ end_carries old slot new _ (finish_stopped mid left x other s h f) sound =
 
 -- ---- what a step leaves of the shared chain
 
-module _ {S T : Type 0} (disk : S → Disk) (old new first : Chain S KeepAll T) (answer : Result (Unit {0}) ChainRefusal) (full spent full' spent' : Option ℕ) (broke broke' : Option Breach) (fault fault' : Option StoreFault) (full_is : full' ≡ full_after full (as_answer answer))
-    (spent_is : spent' ≡ spent_after spent (as_answer answer)) (broke_is : broke' ≡ broke_after broke merge_breach (as_answer answer)) (fault_is : fault' ≡ fault_after fault (as_answer answer)) (c : Carries (session_of disk old) (session_of disk new) answer) where
+module _ {S T : Type 0} (disk : S → Disk) (old new first : Chain S KeepAll T) (answer : Result (Unit {0}) ChainRefusal) (full full' : Option ℕ) (broke broke' : Option Breach) (fault fault' : Option StoreFault) (full_is : full' ≡ full_after full (as_answer answer))
+    (broke_is : broke' ≡ broke_after broke merge_breach (as_answer answer)) (fault_is : fault' ≡ fault_after fault (as_answer answer)) (c : Carries (session_of disk old) (session_of disk new) answer) where
   abbrev was : Shared (Chain S KeepAll T)
-  was = record { chain = old; first = first; full = full; spent = spent; broke = broke; fault = fault }
+  was = record { chain = old; first = first; full = full; broke = broke; fault = fault }
 
   abbrev now : Shared (Chain S KeepAll T)
-  now = record { chain = new; first = first; full = full'; spent = spent'; broke = broke'; fault = fault' }
+  now = record { chain = new; first = first; full = full'; broke = broke'; fault = fault' }
 
   history : new.recorder ≡ old.recorder
   history = some_same {x = new.recorder} {y = old.recorder} c.keeps.told
 
-  stepped : IsStepped disk was now answer
-  stepped = record {
+  stepped : (most : ℕ) → new.events ≤ old.events + most → IsStepped disk most was now answer
+  stepped most few = record {
     first = refl;
     history = history;
     broke = broke_is;
     fault = fault_is;
     full = full_is;
-    spent = spent_is;
+    later = c.later;
+    few = few;
     noted =
-        subst (λ f. NotesBy (as_answer answer) (notes_of disk was) (notes_in (disk new.store) new.broken f spent')) (sym full_is)
-        (subst (λ s. NotesBy (as_answer answer) (notes_of disk was) (notes_in (disk new.store) new.broken (full_after full (as_answer answer)) s)) (sym spent_is)
-        (noted (disk old.store) (disk new.store) old.broken new.broken full spent (as_answer answer) c.change));
+        subst (λ f. NotesBy (as_answer answer) (notes_of disk was) (notes_in (disk new.store) new.broken f)) (sym full_is)
+        (noted (disk old.store) (disk new.store) old.broken new.broken full (as_answer answer) c.change);
   }
 
-  pub stepped_as : (seen : Shared (Chain S KeepAll T)) → was ≡ seen → IsStepped disk seen now answer
-  stepped_as seen is = subst (λ s. IsStepped disk s now answer) is stepped
+  pub stepped_as : (most : ℕ) → new.events ≤ old.events + most → (seen : Shared (Chain S KeepAll T)) → was ≡ seen → IsStepped disk most seen now answer
+  stepped_as most few seen is = subst (λ s. IsStepped disk most s now answer) is (stepped most few)
 
   pub home_as : IsHome (session_of disk first) (session_of disk old) old.recorder full broke fault → IsHome (session_of disk first) (session_of disk new) new.recorder full' broke' fault'
   home_as home =
@@ -211,7 +215,7 @@ marks_there layers = go layers.merge layers.retiring
 -- ---- what stops the end of a merge
 
 pub data EndsBy (new : Session) : ChainRefusal → Type 0 where
-  by_spent : (t : ℕ) → 2 ^ 63 ≤ t → EndsBy new (Spent t)
+  by_spent : (t : ℕ) → 2 ^ 63 ≤ t → t ≤ new.events → EndsBy new (Spent t)
   by_broken : (file count : ℕ) → new.broken ≡ Some (fault_of file count) → EndsBy new (Broken file count)
   by_read : (file count : ℕ) → EndsBy new (ReadFault file count)
   by_full : (next : ℕ) → EndsBy new (FileFull next)
@@ -225,17 +229,17 @@ IsEnd (FileFull next) = ⊤
 IsEnd other = ⊥
 
 is_end : (new : Session) (x : ChainRefusal) → EndsBy new x → IsEnd x
-is_end new _ (by_spent t high) = tt
+is_end new _ (by_spent t high low) = tt
 is_end new _ (by_broken file count is) = tt
 is_end new _ (by_read file count) = tt
 is_end new _ (by_full next) = tt
 
 -- a cause that is there before a merge is looked for
-unfit_ends : (events : ℕ) (broken : Option StoreFault) (new : Session) (x : ChainRefusal) → new.broken ≡ broken → unfit events broken ≡ Some x → EndsBy new x
-unfit_ends events broken new x still is = go (nat_lt events (2 ^ 63)) refl broken refl is
+unfit_ends : (events : ℕ) (broken : Option StoreFault) (new : Session) (x : ChainRefusal) → events ≤ new.events → new.broken ≡ broken → unfit events broken ≡ Some x → EndsBy new x
+unfit_ends events broken new x later still is = go (nat_lt events (2 ^ 63)) refl broken refl is
   where
     go : (b : Bool) → nat_lt events (2 ^ 63) ≡ b → (o : Option StoreFault) → broken ≡ o → (if b then broken_by o else Some (Spent events)) ≡ Some x → EndsBy new x
-    go false e o b is = subst (EndsBy new) (some_same {x = Spent events} {y = x} is) (by_spent events (let high = ltb-false events (2 ^ 63) e in omega (arith, high)))
+    go false e o b is = subst (EndsBy new) (some_same {x = Spent events} {y = x} is) (by_spent events (let high = ltb-false events (2 ^ 63) e in omega (arith, high)) later)
     go true e None b is = absurd (none_some is)
     go true e (Some f) b is = subst (EndsBy new) (some_same {x = Broken f.file f.count} {y = x} is) (by_broken f.file f.count (still ∙ b))
 
@@ -251,25 +255,25 @@ or_none : (o : Option ChainRefusal) → or_else o None ≡ o
 or_none None = refl
 or_none (Some x) = refl
 
-early_ends : (s new : Session) (later : Option ChainRefusal) (x : ChainRefusal) → new.broken ≡ s.broken → (s.broken ≡ None → later ≡ None) → or_else (unfit s.events s.broken) later ≡ Some x → EndsBy new x
-early_ends s new later x still none is = go s.broken refl
+early_ends : (s new : Session) (later : Option ChainRefusal) (x : ChainRefusal) → s.events ≤ new.events → new.broken ≡ s.broken → (s.broken ≡ None → later ≡ None) → or_else (unfit s.events s.broken) later ≡ Some x → EndsBy new x
+early_ends s new later x grown still none is = go s.broken refl
   where
     go : (o : Option StoreFault) → s.broken ≡ o → EndsBy new x
-    go None whole = unfit_ends s.events s.broken new x still (sym (or_none (unfit s.events s.broken)) ∙ ap (or_else (unfit s.events s.broken)) (sym (none whole)) ∙ is)
+    go None whole = unfit_ends s.events s.broken new x grown still (sym (or_none (unfit s.events s.broken)) ∙ ap (or_else (unfit s.events s.broken)) (sym (none whole)) ∙ is)
     go (Some f) broken =
-        unfit_ends s.events s.broken new x still
+        unfit_ends s.events s.broken new x grown still
         (ap (unfit s.events) broken ∙ unfit_first s.events f later x (ap (λ o. or_else (unfit s.events o) later) (sym broken) ∙ is))
 
 -- or there is no merge
-other_ends : (s new : Session) (x : ChainRefusal) → x ≢ NoMerge → new.broken ≡ s.broken → merge_refused s ≡ Some x → EndsBy new x
-other_ends s new x other still is = go (unfit s.events s.broken) refl
+other_ends : (s new : Session) (x : ChainRefusal) → x ≢ NoMerge → s.events ≤ new.events → new.broken ≡ s.broken → merge_refused s ≡ Some x → EndsBy new x
+other_ends s new x other grown still is = go (unfit s.events s.broken) refl
   where
     none_else : (b : Bool) → (if b then None else Some NoMerge) ≡ Some x → x ≡ NoMerge
     none_else true e = absurd (none_some e)
     none_else false e = sym (some_same {x = NoMerge} {y = x} e)
 
     go : (o : Option ChainRefusal) → unfit s.events s.broken ≡ o → EndsBy new x
-    go (Some e) first = unfit_ends s.events s.broken new x still (first ∙ ap (λ o. or_else o (no_merge s.layers)) (sym first) ∙ is)
+    go (Some e) first = unfit_ends s.events s.broken new x grown still (first ∙ ap (λ o. or_else o (no_merge s.layers)) (sym first) ∙ is)
     go None first = absurd (other (none_else (has_merge s.layers) (ap (λ o. or_else o (no_merge s.layers)) (sym first) ∙ is)))
 
 -- ---- a turn of a copy
@@ -362,7 +366,7 @@ put_stops stripe stamp old mid new piece x h p = go (put_refused piece mid) refl
     go : (o : Option ChainRefusal) → put_refused piece mid ≡ o → EndsBy new x
     go (Some e) is =
         let early = subst (λ o. IfStopped {T = Unit {0}} o (Err x) (IsUnchanged mid new)) is p.early in
-        subst (EndsBy new) (sym (same_err {T = Unit {0}} x e early.0)) (early_ends mid new _ e (still_broken mid new early.1) (λ whole. can_put stripe stamp old mid piece h) is)
+        subst (EndsBy new) (sym (same_err {T = Unit {0}} x e early.0)) (early_ends mid new _ e p.later (still_broken mid new early.1) (λ whole. can_put stripe stamp old mid piece h) is)
     go None is = put_ends piece mid new x (p.cause is)
 
 fetch_stops : (stripe : ℕ) (old new : Session) (left : Piece) (x : ChainRefusal) → IsNext stripe old → AnswersFetch stripe (Err x) old new left → EndsBy new x
@@ -371,7 +375,7 @@ fetch_stops stripe old new left x next h = go (fetch_refused stripe old) refl
     go : (o : Option ChainRefusal) → fetch_refused stripe old ≡ o → EndsBy new x
     go (Some e) is =
         let early = subst (λ o. IfStopped {T = ℕ} o (Err x) (IsUnchanged old new)) is h.early in
-        subst (EndsBy new) (sym (same_err {T = ℕ} x e early.0)) (early_ends old new (no_stripe stripe old.layers) e (still_broken old new early.1) (λ whole. next_fits stripe old h.sound whole next) is)
+        subst (EndsBy new) (sym (same_err {T = ℕ} x e early.0)) (early_ends old new (no_stripe stripe old.layers) e h.later (still_broken old new early.1) (λ whole. next_fits stripe old h.sound whole next) is)
     go None is = fetch_ends left old new x (h.cause is)
 
 turn_stops : (stripe : ℕ) (answer : Result (Unit {0}) ChainRefusal) (x : ChainRefusal) (old new : Session) → answer ≡ Err x → IsNext stripe old → AnswersTurn stripe answer old new → EndsBy new x
@@ -391,7 +395,7 @@ copy_stops x old slot new left other h = go (merge_refused old) refl
     go (Some e) is =
         let early = subst (λ o. IfStopped {T = Unit {0}} o (Err x) ((new ≡ old) × (left ≡ slot))) is h.early in
         let same : x ≡ e = same_err {T = Unit {0}} x e early.0 in
-        other_ends old new x other (ap (λ (s : Session). s.broken) early.1.0) (is ∙ ap Some (sym same))
+        other_ends old new x other (let same : new.events ≡ old.events = ap (λ (s : Session). s.events) early.1.0 in omega (arith, same)) (ap (λ (s : Session). s.broken) early.1.0) (is ∙ ap Some (sym same))
     go None is = copy_cases (Err x) x old slot new left refl (h.turns is)
 
 -- all stripes are copied behind it
@@ -439,7 +443,7 @@ finish_stops x old new other missing h = go (merge_refused old) refl
     go : (o : Option ChainRefusal) → merge_refused old ≡ o → EndsBy new x
     go (Some e) is =
         let early = subst (λ o. IfStopped {T = Unit {0}} o (Err x) (IsUnchanged old new)) is h.early in
-        other_ends old new x other (still_broken old new early.1) (is ∙ ap Some (sym (same_err {T = Unit {0}} x e early.0)))
+        other_ends old new x other h.later (still_broken old new early.1) (is ∙ ap Some (sym (same_err {T = Unit {0}} x e early.0)))
     go None is = by_cause x is (h.cause is)
 
 -- it asks for no room
@@ -490,6 +494,96 @@ end_stops old slot new _ (copy_stopped left x other h) = copy_stops x old slot n
 end_stops old slot new _ (finish_done mid left s h f) = tt
 end_stops old slot new _ (finish_stopped mid left x other s h f) = finish_stops x mid new other (copied_of old slot mid left h) f
 
+-- ---- how many events it has
+
+-- the stripes below this one are copied
+abbrev AreCopied : ℕ → Session → Type 0
+AreCopied front s = (m : Marks) → kept_marks s.layers ≡ Some m → (t : ℕ) → t < front → marks_of m t ≡ true
+
+record HasTurned (old new : Session) : Type 0 where
+  front : ℕ
+  low : front ≤ 2 ^ 32
+  copied : AreCopied front new
+  few : new.events ≤ old.events + 2 * front
+
+merge_some : (layers : Layers) → has_merge layers ≡ true → no_merge layers ≡ None
+merge_some layers is = ap (λ b. if b then None else Some NoMerge) is
+
+-- the marks behind a put are those before it, and the stripe's
+marks_behind : (stripe : ℕ) (old new : Layers) (m n : Marks) → HasMarked stripe old new (Ok tt) → kept_marks old ≡ Some m → kept_marks new ≡ Some n → (t : ℕ) → marks_of n t ≡ with_mark stripe (marks_of m) t
+marks_behind stripe old new m n h = go old.merge new.merge old.retiring new.retiring h.0 h.1
+  where
+    go : (o p : Option Underway) (q r : Option Retiring) → MarksIn stripe o p → MarksToo stripe q r → marks_in o q ≡ Some m → marks_in p r ≡ Some n → (t : ℕ) → marks_of n t ≡ with_mark stripe (marks_of m) t
+    go (Some u) (Some v) q r a b is now t =
+        ap (λ (k : Marks). marks_of k t) (sym (some_same {x = v.marks} {y = n} now)) ∙ a.marks_are t ∙ ap (λ (k : Marks). with_mark stripe (marks_of k) t) (some_same {x = u.marks} {y = m} is)
+    go (Some u) None q r a b is now t = absurd a
+    go None (Some v) q r a b is now t = absurd a
+    go None None (Some u) (Some v) a b is now t =
+        ap (λ (k : Marks). marks_of k t) (sym (some_same {x = v.marks} {y = n} now)) ∙ b.marks_are t ∙ ap (λ (k : Marks). with_mark stripe (marks_of k) t) (some_same {x = u.marks} {y = m} is)
+    go None None (Some u) None a b is now t = absurd b
+    go None None None (Some v) a b is now t = absurd b
+    go None None None None a b is now t = absurd (none_some is)
+
+-- so all up to it are marked, where those below it were
+marked_to : (marks : ℕ → Bool) (stripe t : ℕ) → ((u : ℕ) → u < stripe → marks u ≡ true) → t < stripe + 1 → with_mark stripe marks t ≡ true
+marked_to marks stripe t below less = go (t == stripe) refl
+  where
+    go : (b : Bool) → (t == stripe) ≡ b → (b || marks t) ≡ true
+    go true e = refl
+    go false e = below t (omega (arith, less, eqb-false t stripe e))
+
+not_below : (marks : ℕ → Bool) (front stripe : ℕ) → ((t : ℕ) → t < front → marks t ≡ true) → marks stripe ≡ false → front ≤ stripe
+not_below marks front stripe below unmarked = go (nat_lt stripe front) refl
+  where
+    go : (b : Bool) → nat_lt stripe front ≡ b → front ≤ stripe
+    go true e = absurd (true_false (sym (below stripe (ltb-true stripe front e)) ∙ unmarked))
+    go false e = let high = ltb-false stripe front e in omega (arith, high)
+
+-- behind a turn that was done with the lowest stripe that wasn't copied, it is
+turn_copies : (stripe front : ℕ) (old new : Session) → IsNext stripe old → AreCopied front old → AnswersTurn stripe (Ok tt) old new → (front ≤ stripe) × AreCopied (stripe + 1) new
+turn_copies stripe front old new next below turn = by_turn (Ok tt) refl turn
+  where
+    by_turn : (answer : Result (Unit {0}) ChainRefusal) → answer ≡ Ok tt → AnswersTurn stripe answer old new → (front ≤ stripe) × AreCopied (stripe + 1) new
+    by_turn _ is (not_fetched e _ _ left h) = absurd (ok_err (sym is))
+    by_turn _ is (fetched_and answer stamp _ mid _ piece h p) =
+        let m = marks_there old.layers (merge_some old.layers (there stripe stamp old mid piece h)) in
+        let low : IsLowest m.0.stripes (marks_of m.0) stripe = subst (λ o. IsMissing o (Some stripe)) m.1 next.missing in
+        let put = subst (λ r. AnswersPut piece r mid new) is p in
+        let cause = put.cause (ok_reached _ (put_refused piece mid) tt put.early) in
+        let kept : kept_marks mid.layers ≡ Some m.0 = ap₂ marks_in h.merge.0 h.merge.1 ∙ m.1 in
+        (
+          not_below (marks_of m.0) front stripe (below m.0 m.1) low.unmarked,
+          λ n is t less. marks_behind stripe mid.layers new.layers m.0 n (subst (λ u. HasMarked u mid.layers new.layers (Ok tt)) h.taken.stripe_is cause.0) kept is t
+            ∙ marked_to (marks_of m.0) stripe t low.below less,
+        )
+
+turns_copied : (old : Session) (slot : Piece) (new : Session) (left : Piece) → AnswersTurns old slot new left → HasTurned old new
+turns_copied old slot _ _ no_turn = record { front = 0; low = omega arith; copied = λ m is t less. absurd (omega (arith, less)); few = omega arith }
+turns_copied old slot new left (one_more stripe mid _ held _ turns next turn empty) =
+    let before = turns_copied old slot mid held turns in
+    let copied = turn_copies stripe before.front mid new next before.copied turn in
+    record { front = stripe + 1; low = omega (arith, next.low); copied = copied.1; few = omega (arith, before.few, copied.0, turn_events stripe (Ok tt) mid new turn) }
+
+ends_few : (old : Session) (slot : Piece) (answer : Result (Unit {0}) ChainRefusal) (new : Session) (left : Piece) → EndsCopy old slot answer new left → new.events ≤ old.events + (2 ^ 33 + 2)
+ends_few old slot _ _ _ (all_moved new left turns sound missing) = let t = turns_copied old slot new left turns in omega (arith, t.few, t.low)
+ends_few old slot _ new left (one_refused e stripe mid _ held _ turns next turn empty) = let t = turns_copied old slot mid held turns in omega (arith, t.few, t.low, turn_events stripe (Err e) mid new turn)
+
+copy_events : (answer : Result (Unit {0}) ChainRefusal) (old : Session) (slot : Piece) (new : Session) (left : Piece) → AnswersCopy answer old slot new left → new.events ≤ old.events + (2 ^ 33 + 2)
+copy_events answer old slot new left h = go (merge_refused old) refl
+  where
+    go : (o : Option ChainRefusal) → merge_refused old ≡ o → new.events ≤ old.events + (2 ^ 33 + 2)
+    go None is = ends_few old slot answer new left (h.turns is)
+    go (Some e) is =
+        let early = subst (λ o. IfStopped {T = Unit {0}} o answer ((new ≡ old) × (left ≡ slot))) is h.early in
+        let same : new.events ≡ old.events = ap (λ (s : Session). s.events) early.1.0 in omega (arith, same)
+
+end_events : (old : Session) (slot : Piece) (new : Session) (answer : Result (Unit {0}) ChainRefusal) → EndsMerge old slot new answer → new.events ≤ old.events + 2 ^ 34
+end_events old slot new _ (none_found left h) = omega (arith, copy_events (Err NoMerge) old slot new left h)
+end_events old slot new _ (none_left mid left s h f) = omega (arith, copy_events (Ok tt) old slot mid left h, f.events)
+end_events old slot new _ (copy_stopped left x other h) = omega (arith, copy_events (Err x) old slot new left h)
+end_events old slot new _ (finish_done mid left s h f) = omega (arith, copy_events (Ok tt) old slot mid left h, f.events)
+end_events old slot new _ (finish_stopped mid left x other s h f) = omega (arith, copy_events (Ok tt) old slot mid left h, f.events)
+
 -- ---- a file that is full
 
 -- a step that is refused for want of room is one of a session that isn't broken
@@ -539,20 +633,20 @@ module _ (first : Session) (h : History) (full : Option ℕ) (broke : Option Bre
 
 -- ---- all of it
 
-module _ {S T : Type 0} (disk : S → Disk) (old new first : Chain S KeepAll T) (slot : Piece) (answer : Result (Unit {0}) ChainRefusal) (full spent full' spent' : Option ℕ) (broke broke' : Option Breach) (fault fault' : Option StoreFault) (full_is : full' ≡ full_after full (as_answer answer))
-    (spent_is : spent' ≡ spent_after spent (as_answer answer)) (broke_is : broke' ≡ broke_after broke merge_breach (as_answer answer)) (fault_is : fault' ≡ fault_after fault (as_answer answer)) (e : EndsMerge (session_of disk old) slot (session_of disk new) answer)
+module _ {S T : Type 0} (disk : S → Disk) (old new first : Chain S KeepAll T) (slot : Piece) (answer : Result (Unit {0}) ChainRefusal) (full full' : Option ℕ) (broke broke' : Option Breach) (fault fault' : Option StoreFault) (full_is : full' ≡ full_after full (as_answer answer))
+    (broke_is : broke' ≡ broke_after broke merge_breach (as_answer answer)) (fault_is : fault' ≡ fault_after fault (as_answer answer)) (e : EndsMerge (session_of disk old) slot (session_of disk new) answer)
     (c : Carries (session_of disk old) (session_of disk new) answer) (home : IsHome (session_of disk first) (session_of disk old) old.recorder full broke fault) where
   abbrev before : Shared (Chain S KeepAll T)
-  before = record { chain = old; first = first; full = full; spent = spent; broke = broke; fault = fault }
+  before = record { chain = old; first = first; full = full; broke = broke; fault = fault }
 
   abbrev after : Shared (Chain S KeepAll T)
-  after = record { chain = new; first = first; full = full'; spent = spent'; broke = broke'; fault = fault' }
+  after = record { chain = new; first = first; full = full'; broke = broke'; fault = fault' }
 
-  is_stepped : IsStepped disk before after answer
-  is_stepped = stepped disk old new first answer full spent full' spent' broke broke' fault fault' full_is spent_is broke_is fault_is c
+  is_stepped : IsStepped disk (2 ^ 34) before after answer
+  is_stepped = stepped disk old new first answer full full' broke broke' fault fault' full_is broke_is fault_is c (2 ^ 34) (end_events (session_of disk old) slot (session_of disk new) answer e)
 
   stops : (x : ChainRefusal) → answer ≡ Err x → EndsBy (session_of disk new) x → StopsEnd disk after x
-  stops _ is (by_spent t high) = high
+  stops _ is (by_spent t high low) = (high, low)
   stops _ is (by_broken file count broken) = broken
   stops _ is (by_read file count) = fault_is ∙ ap (λ r. fault_after fault (as_answer r)) is
   stops _ is (by_full next) = (

@@ -218,6 +218,7 @@ behind_fetch old mid new answer disk whole still (reached _ none c) = reached an
 
 pub record StepOf (old new : Session) (answer : Result (Unit {0}) ChainRefusal) : Type 0 where
   pub keeps : KeepsHistory old new
+  pub later : old.events ≤ new.events
   pub broken : (fault : StoreFault) → old.broken ≡ Some fault → IsUnchanged old new × ((x : ChainRefusal) × (answer ≡ Err x) × IsQuiet old.broken x)
   pub kind : old.broken ≡ None → Kind old new answer
   pub left : old.broken ≡ None → WhereBothTold (λ trace now. (v : State) → IsServing old.layers v trace → IsLeft v answer new trace now) old.disk.told new.disk.told
@@ -228,6 +229,10 @@ keeps_both old mid new a b = record { noted = b.noted ∙ a.noted; told = b.told
 turn_keeps : (stripe : ℕ) (answer : Result (Unit {0}) ChainRefusal) (old new : Session) → AnswersTurn stripe answer old new → KeepsHistory old new
 turn_keeps stripe _ _ _ (not_fetched e old new left h) = h.keeps
 turn_keeps stripe _ _ _ (fetched_and answer stamp old mid new piece h p) = keeps_both old mid new h.keeps p.keeps
+
+turn_later : (stripe : ℕ) (answer : Result (Unit {0}) ChainRefusal) (old new : Session) → AnswersTurn stripe answer old new → old.events ≤ new.events
+turn_later stripe _ _ _ (not_fetched e old new left h) = h.later
+turn_later stripe _ _ _ (fetched_and answer stamp old mid new piece h p) = omega (arith, h.later, p.later)
 
 turn_broken : (stripe : ℕ) (answer : Result (Unit {0}) ChainRefusal) (old new : Session) → AnswersTurn stripe answer old new → (fault : StoreFault) → old.broken ≡ Some fault → IsUnchanged old new × ((x : ChainRefusal) × (answer ≡ Err x) × IsQuiet old.broken x)
 turn_broken stripe _ _ _ (not_fetched e old new left h) fault is =
@@ -249,6 +254,7 @@ turn_kind stripe _ _ _ (fetched_and answer stamp old mid new piece h p) whole =
 pub turn_step : (stripe : ℕ) (answer : Result (Unit {0}) ChainRefusal) (old new : Session) → AnswersTurn stripe answer old new → StepOf old new answer
 turn_step stripe answer old new h = record {
   keeps = turn_keeps stripe answer old new h;
+  later = turn_later stripe answer old new h;
   broken = turn_broken stripe answer old new h;
   kind = turn_kind stripe answer old new h;
   left = λ whole. turns_leave stripe answer old new whole h;
@@ -257,6 +263,7 @@ turn_step stripe answer old new h = record {
 pub finish_step : (answer : Result (Unit {0}) ChainRefusal) (old new : Session) → AnswersFinish answer old new → StepOf old new answer
 finish_step answer old new h = record {
   keeps = h.keeps;
+  later = h.later;
   broken = λ fault is.
       let first = broken_first old.events fault (no_merge old.layers) in
       let cause : merge_refused old ≡ Some first.0 = ap (λ o. or_else (unfit old.events o) (no_merge old.layers)) is ∙ first.1 in

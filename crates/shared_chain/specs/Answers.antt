@@ -69,7 +69,7 @@ module _ {S T : Type 0} where
   IsCausedIn disk call old new (Err (refusals.TooLong count limit)) = misplaced_in new call (Some (refusals.TooLong count limit))
   IsCausedIn disk call old new (Err refusals.ReadOnly) = misplaced_in new call (Some refusals.ReadOnly)
   IsCausedIn disk call old new (Err (refusals.Broken file count)) = HasNote new.notes (notes.ChangeFailed file count)
-  IsCausedIn disk call old new (Err (refusals.Spent t)) = (2 ^ 63 ≤ t) × HasNote new.notes (notes.Spent t)
+  IsCausedIn disk call old new (Err (refusals.Spent t)) = (2 ^ 63 ≤ t) × (t ≤ new.events)
   IsCausedIn disk call old new (Err (refusals.FileFull next)) =
       misplaced_in new call None × HasNote new.notes (notes.Full next) × IfSome new.first (λ first. StopsOver disk first call (refusals.FileFull next))
   -- it is noted anew, or the count is at its end

@@ -3,7 +3,7 @@ use Rattle.std.specs.Prelude.{◌≡◌, ◌⊎◌, ◌↔◌, ◌≤◌, ⊤, �
 use Rattle.guest_model.specs.declared.refusal.ChainRefusal.{ChainRefusal}
 use Rattle.guest_model.specs.declared.refusal.ChainRefusal.TheVariants as refusals
 use Rattle.shared_chain.specs.declared.basis.Note.{Note}
-use Rattle.shared_chain.specs.declared.basis.Note.TheVariants.{ChangeFailed, Copied, Finished, Full, ReadFailed, Spent}
+use Rattle.shared_chain.specs.declared.basis.Note.TheVariants.{ChangeFailed, Copied, Finished, Full, ReadFailed}
 
 -- The first note says all that the second says: of the same stripe or file, by a number at least as great; of a change that failed, by the
 -- same number, since it breaks the session and is the only one.
@@ -13,7 +13,6 @@ Covers Finished Finished = ⊤
 Covers (ReadFailed f n) (ReadFailed g m) = (f ≡ g) × (m ≤ n)
 Covers (ChangeFailed f n) (ChangeFailed g m) = (f ≡ g) × (m ≡ n)
 Covers (Full n) (Full m) = m ≤ n
-Covers (Spent n) (Spent m) = m ≤ n
 Covers note other = ⊥
 
 -- so much is noted
@@ -21,12 +20,11 @@ abbrev pub HasNote : List Note → Note → Type 0
 HasNote [] n = ⊥
 HasNote (m ∷ notes) n = Covers m n ⊎ HasNote notes n
 
--- what a refusal notes: the count of the fault that it tells, the unit, or the count of events
+-- what a refusal notes: the count of the fault that it tells, or the unit
 abbrev pub note_of : ChainRefusal → List Note
 note_of (refusals.ReadFault file count) = ReadFailed file count ∷ []
 note_of (refusals.Broken file count) = ChangeFailed file count ∷ []
 note_of (refusals.FileFull next) = Full next ∷ []
-note_of (refusals.Spent t) = Spent t ∷ []
 note_of other = []
 
 -- what a guest call's answer notes
@@ -48,7 +46,3 @@ greatest (Some known) n = max known n
 abbrev pub full_after : Option ℕ → Result ℕ ChainRefusal → Option ℕ
 full_after full (Err (refusals.FileFull next)) = Some (greatest full next)
 full_after full other = full
-
-abbrev pub spent_after : Option ℕ → Result ℕ ChainRefusal → Option ℕ
-spent_after spent (Err (refusals.Spent t)) = Some (greatest spent t)
-spent_after spent other = spent

@@ -1,5 +1,5 @@
 -- What a thread's seat of a shared chain is, and what stays of it whatever the thread's turns do.
-use Rattle.std.specs.Prelude.{◌≡◌, ◌⊎◌, ◌+◌, ◌<◌, ℕ, List, [], ◌∷◌, ◌++◌, length, None}
+use Rattle.std.specs.Prelude.{◌≡◌, ◌⊎◌, ◌+◌, ◌<◌, ◌≤◌, ℕ, List, [], ◌∷◌, ◌++◌, length, None}
 use Rattle.guest_model.specs.History.{History}
 use Rattle.seats.specs.Counting.{times}
 use Rattle.shared_chain.specs.declared.basis.Basis.{Basis}
@@ -22,17 +22,20 @@ module _ {S T : Type 0} where
   IsFree lock seat = (seat.lock ≡ lock) × (seat.turn ≡ None)
 
   -- What stays of a seat, whatever its call is answered: it has its lock, and no turn; it goes on having seen what it had, and knowing what
-  -- it knew.
+  -- it knew; and no refusal is taken back.
   pub record KeepsSeat (old new : Known Step (Basis S T)) : Type 0 where
     pub lock : new.lock ≡ old.lock
     pub free : new.turn ≡ None
     pub family : new.family ≡ old.family
     pub first_ticket : new.first_ticket ≡ old.first_ticket
     pub known : new.known ≡ old.known
+    pub refusals : old.refusals ≤ new.refusals
     pub seen : StartsWith new.seen old.seen
     pub basis : Contains new.basis old.basis
 
-  -- The steps of a merge that were done in the seat's turns add nothing to its own places but, if one of them broke the session, that.
-  pub record HasWorked (old new : Known Step (Basis S T)) : Type 0 where
+  -- The steps of a merge that were done in so many turns of the seat at most add nothing to its own places but, if one of them broke the
+  -- session, that.
+  pub record HasWorked (turns : ℕ) (old new : Known Step (Basis S T)) : Type 0 where
     pub keeps : KeepsSeat old new
+    pub drawn : new.drawn ≤ old.drawn + turns
     pub own : (p : ℕ) → 0 < times p new.mine → (0 < times p old.mine) ⊎ MergeBreaksAt new.seen p

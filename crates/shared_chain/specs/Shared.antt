@@ -3,12 +3,11 @@ use Rattle.std.specs.Prelude.{ℕ, Option}
 use Rattle.store_model.specs.declared.fault.StoreFault.{StoreFault}
 use Rattle.shared_chain.specs.declared.basis.Breach.{Breach}
 
--- A chain as it is, and as it was when its session had begun; the greatest unit that a call was refused at for want of room, the count of
--- events that one was refused at, the call that broke the session, and the last fault that one was refused by.
+-- A chain as it is, and as it was when its session had begun; the greatest unit that a call was refused at for want of room, the call that
+-- broke the session, and the last fault that one was refused by.
 pub record Shared (C : Type 0) : Type 0 where
   pub chain : C
   pub first : C
   pub full : Option ℕ
-  pub spent : Option ℕ
   pub broke : Option Breach
   pub fault : Option StoreFault

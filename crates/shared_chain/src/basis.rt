@@ -17,8 +17,6 @@ pub enum Note {
     ChangeFailed { file: u32, count: u64 },
     /// A block found no place; the first free unit was this.
     Full { next: u64 },
-    /// The count of events was used up, at this number.
-    Spent { t: u64 },
 }
 
 /// What holds of a chain for good: how it was when its session had begun, and what its events have noted. No value of it is made.
@@ -26,6 +24,8 @@ pub struct Basis<S: Store> {
     /// None in the basis of nobody.
     pub first: Option<Chain<S, KeepAll>>,
     pub notes: LinkedList<Note>,
+    /// How many events it had at least.
+    pub events: u64,
 }
 
 /// The call that broke a session: its guest and its number, and the sectors that it changes, none if it is a flush.

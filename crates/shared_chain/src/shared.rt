@@ -5,7 +5,7 @@ ghost use Rattle.guest_model.specs.declared.call.Call.TheVariants as calls;
 ghost use Rattle.guest_model.specs.declared.call.Reply.TheVariants as replies;
 ghost use Rattle.chain_core.specs.Answering.{IsDurable};
 ghost use Rattle.chain_core.specs.Sessions.{HasNoMerge, IsSound, has_merge};
-ghost use Rattle.shared_chain.specs.Notes.{full_after, spent_after};
+ghost use Rattle.shared_chain.specs.Notes.{full_after};
 ghost use Rattle.shared_chain.specs.Faults.{EndsCounted, fault_after};
 ghost use Rattle.shared_chain.specs.Homes.{session_of};
 ghost use Rattle.shared_chain.specs.Answers.{IsCalled, RepliesFrom};
@@ -37,8 +37,6 @@ pub struct SharedChain<S: Store> {
     first: Snapshot<Chain<S, KeepAll>>,
     // the greatest unit that a call was refused at for want of room
     full: Option<u64>,
-    // the count of events that a call was refused at
-    spent: Option<u64>,
     // the call that broke the session
     broke: Option<Breach>,
     // the last fault that a call was refused by
@@ -54,7 +52,7 @@ impl<S: Store> Model for SharedChain<S> {
 
     ghost use Rattle.shared_chain.specs.Homes.{IsHome, session_of};
 
-    ghost view = { λ s. record { chain = s.chain.value; first = s.first.value; full = s.full; spent = s.spent; broke = s.broke; fault = s.fault } };
+    ghost view = { λ s. record { chain = s.chain.value; first = s.first.value; full = s.full; broke = s.broke; fault = s.fault } };
 
     ghost invariant = { λ s. IsHome (session_of S.disk s.first.value) (session_of S.disk s.chain.value) s.chain.value.recorder s.full s.broke s.fault };
 }
@@ -69,19 +67,6 @@ fn full_behind(full: Option<u64>, answer: Result<u64, ChainRefusal>) -> Option<u
     match full {
         Some(known) => Some(known.max(next)),
         None => Some(next),
-    }
-}
-
-// The greatest count of events that a call was refused at, behind this answer.
-fn spent_behind(spent: Option<u64>, answer: Result<u64, ChainRefusal>) -> Option<u64>
-    ensures { result ≡ spent_after spent answer }
-{
-    let Err(ChainRefusal::Spent { t }) = answer else {
-        return spent;
-    };
-    match spent {
-        Some(known) => Some(known.max(t)),
-        None => Some(t),
     }
 }
 
@@ -168,7 +153,7 @@ impl<S: Store> SharedChain<S> {
     ) -> Result<SharedChain<S>, (S, Result<(), StoreFault>)>
         requires sound { IsSound (session_of S.disk chain) }
         requires fresh { (chain.events ≡ 0) × (chain.broken ≡ None) × (chain.recorder ≡ []) }
-        ensures ok { IfOk result (λ s. s ≡ record { chain = chain; first = chain; full = None; spent = None; broke = None; fault = None }) }
+        ensures ok { IfOk result (λ s. s ≡ record { chain = chain; first = chain; full = None; broke = None; fault = None }) }
         ensures ended { IfErr result (λ left. IsEnded (session_of S.disk chain) (S.disk left.0) left.1) }
         ensures counted { IfErr result (λ left. EndsCounted (S.disk chain.store) (S.disk left.0) None left.1) }
         ensures leaves { IfErr result (λ left. LeavesHistory (session_of S.disk chain) [] None None (has_merge chain.layers) left.1 (S.disk left.0)) }
@@ -185,7 +170,6 @@ impl<S: Store> SharedChain<S> {
             chain,
             first,
             full: None,
-            spent: None,
             broke: None,
             fault: None,
         })
@@ -214,7 +198,6 @@ impl<S: Store> SharedChain<S> {
     {
         let answer = self.chain.read(who, first, out);
         self.full = full_behind(self.full, answer);
-        self.spent = spent_behind(self.spent, answer);
         self.broke = broke_behind(self.broke, who, first, 0, answer);
         self.fault = fault_behind(self.fault, answer);
         answer
@@ -228,7 +211,6 @@ impl<S: Store> SharedChain<S> {
         let count = bytes.len() as u64 / SECTOR;
         let answer = self.chain.write(who, first, bytes);
         self.full = full_behind(self.full, answer);
-        self.spent = spent_behind(self.spent, answer);
         self.broke = broke_behind(self.broke, who, first, count, answer);
         self.fault = fault_behind(self.fault, answer);
         answer
@@ -240,7 +222,6 @@ impl<S: Store> SharedChain<S> {
     {
         let answer = self.chain.trim(who, first, count);
         self.full = full_behind(self.full, answer);
-        self.spent = spent_behind(self.spent, answer);
         self.broke = broke_behind(self.broke, who, first, count, answer);
         self.fault = fault_behind(self.fault, answer);
         answer
@@ -253,7 +234,6 @@ impl<S: Store> SharedChain<S> {
     {
         let answer = self.chain.flush(who);
         self.full = full_behind(self.full, answer);
-        self.spent = spent_behind(self.spent, answer);
         self.broke = broke_behind(self.broke, who, 0, 0, answer);
         self.fault = fault_behind(self.fault, answer);
         answer
@@ -261,12 +241,11 @@ impl<S: Store> SharedChain<S> {
 
     /// Fetches a stripe of the merge's source and puts it into the target. Whatever is answered, no piece is left.
     pub fn copy_stripe(&mut self, stripe: u32, piece: &mut Piece) -> Result<(), ChainRefusal>
-        ensures { IsStepped S.disk self.old self.new result }
+        ensures { IsStepped S.disk 2 self.old self.new result }
     {
         let done = move_stripe(&mut *self.chain, stripe, piece);
         let answer = as_answer(done);
         self.full = full_behind(self.full, answer);
-        self.spent = spent_behind(self.spent, answer);
         self.broke = broke_by_merge(self.broke, answer);
         self.fault = fault_behind(self.fault, answer);
         done
@@ -274,13 +253,12 @@ impl<S: Store> SharedChain<S> {
 
     /// Finishes the merge, whose stripes are all copied.
     pub fn finish(&mut self) -> Result<(), ChainRefusal>
-        ensures stepped { IsStepped S.disk self.old self.new result }
+        ensures stepped { IsStepped S.disk 1 self.old self.new result }
         ensures done { OnOk result (HasNoMerge self.new.chain.layers) }
     {
         let done = finish(&mut *self.chain);
         let answer = as_answer(done);
         self.full = full_behind(self.full, answer);
-        self.spent = spent_behind(self.spent, answer);
         self.broke = broke_by_merge(self.broke, answer);
         self.fault = fault_behind(self.fault, answer);
         done
@@ -294,7 +272,6 @@ impl<S: Store> SharedChain<S> {
         let done = merge_rest(&mut *self.chain, piece);
         let answer = as_answer(done);
         self.full = full_behind(self.full, answer);
-        self.spent = spent_behind(self.spent, answer);
         self.broke = broke_by_merge(self.broke, answer);
         self.fault = fault_behind(self.fault, answer);
         done
@@ -314,7 +291,6 @@ impl<S: Store> SharedChain<S> {
             chain,
             first: _,
             full: _,
-            spent: _,
             broke: _,
             fault,
         } = self;

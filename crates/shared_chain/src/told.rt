@@ -18,6 +18,8 @@ impl<S: Store> Told for SharedChain<S> {
 
     ghost basis = { basis_of S.disk };
 
+    ghost work = { λ f. f.events };
+
     ghost nothing = { nothing };
 
     ghost contains = { Contains };

@@ -92,9 +92,9 @@ neither : {A E : Type 0} (r : Result A E) → IfOk r (λ x. ⊥) → IfErr r (λ
 neither (Ok x) ok err = ok
 neither (Err e) ok err = err
 
--- where no fault was met and memory didn't run out the count of events is used up, or a file is full
+-- where no fault was met and memory didn't run out a file is full
 unfinished_by : (run : ScriptRun) (e : ChainRefusal) → StopsMerge run e → run.fault ≡ None → IfErr run.closed (λ x. ⊥) → IfErr run.transcript (λ x. ⊥) → IsUnfinished (Some e)
-unfinished_by run (refusals.Spent t) k none well in_memory = k
+unfinished_by run (refusals.Spent t) k none well in_memory = absurd k
 unfinished_by run (refusals.FileFull next) k none well in_memory = tt
 unfinished_by run (refusals.ReadFault file n) k none well in_memory = let never : ◌≡◌ {A = Option StoreFault} (Some (record { file = file; count = n })) None = sym k ∙ none in cc
 unfinished_by run (refusals.Broken file n) k none well in_memory = absurd (subst (λ r. IfErr r (λ x. ⊥)) k well)

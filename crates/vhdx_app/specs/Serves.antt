@@ -10,7 +10,7 @@ use Rattle.vhdx_format.specs.Fields.{sector_size}
 use Rattle.guest_model.specs.Calls.{Disk}
 use Rattle.guest_model.specs.History.{History, replay}
 use Rattle.guest_model.specs.declared.refusal.ChainRefusal.{ChainRefusal}
-use Rattle.guest_model.specs.declared.refusal.ChainRefusal.TheVariants.{FileFull, Spent}
+use Rattle.guest_model.specs.declared.refusal.ChainRefusal.TheVariants.{FileFull}
 use Rattle.chain_model.specs.Files.{OpensTo}
 use Rattle.link_rules.specs.Chains.{names_of}
 use Rattle.link_rules.specs.Folders.{AllIdle, contents}
@@ -62,9 +62,8 @@ pub record IsServiceText {leaf : List ℕ} {before : World} (begun : Opened scri
   pub transcript : IsTranscript (names_of begun.linked.files) begun.lines service.guests service.history text
   pub drawn : DrawsFor false merge begun.linked before.host.folder before.drawn now.drawn
 
--- Why a merge isn't finished where no fault was met and memory didn't run out: the count of events is used up, or a file is full.
+-- Why a merge isn't finished where no fault was met and memory didn't run out: a file is full.
 abbrev pub IsUnfinished : Option ChainRefusal → Type 0
-IsUnfinished (Some (Spent number)) = 2 ^ 63 ≤ number
 IsUnfinished (Some (FileFull next)) = ⊤
 IsUnfinished other = ⊥
 

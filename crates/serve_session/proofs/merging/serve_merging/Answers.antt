@@ -8,7 +8,7 @@ use Rattle.serve_session.proofs.Final.{begun_is, unserved_is}
 use Rattle.serve_session.proofs.merging.serve_merging.Goals as goal
 
 pub serve-requires-clause-begun : goal.serve-requires-clause-begun
-serve-requires-clause-begun g c κs within = begun_is g.S.Store.disk c.args.chain c.in-Ok.chain c.in-Ok.ensures.ok c.requires.sound c.requires.fresh.2 c.requires.fresh.1
+serve-requires-clause-begun g c κs within = begun_is g.S.Store.disk c.args.chain c.in-Ok.chain c.in-Ok.ensures.ok c.requires.sound c.requires.fresh.2 c.requires.fresh.1 c.requires.fresh.0
 
 pub returns-in-Ok : goal.returns-in-Ok
 returns-in-Ok g c =

@@ -5,6 +5,7 @@ use Rattle.turn_lock.specs.Seats.{together_of}
 use Rattle.shared_chain.specs.Bases.{Contains, together}
 use Rattle.serve_session.specs.Actors.{AreJoined, HasRun}
 use Rattle.serve_session.specs.Lists.{AreActors}
+use Rattle.serve_session.proofs.Guests.{forms_few}
 use Rattle.serve_session.proofs.Joining.{join_more, last_actor, one_joined}
 use Rattle.serve_session.proofs.serving.end_actors.Goals as goal
 use Rattle.serve_session.proofs.serving.end_actors.Goals.{then-is_short, else-is_short}
@@ -42,6 +43,7 @@ loop-actor-preserved g c =
       | then-is_short w ↦ w.is_short-is ∙ w.if-is_short.true ∙ sym (ap (λ b. b || a.is_short) w.if-is_short.true)
       | else-is_short w ↦ w.is_short-is ∙ c.end-seat.ensures.2 ∙ sym (ap (λ b. b || a.is_short) w.if-is_short.false)
     ] in
+    let drawn : c.join.new.first.drawn ≡ c.loop-actor.first.drawn + a.guest.seat.drawn = ap (λ s. s.drawn) met.0 in
     let joined = one_joined disk c.args.chain.now.value.first c.args.lock.now names c.args.lines.now c.loop-actor.first c.join.new.first c.loop-actor.told.items c.loop-actor.is_short i.guests i.joined a last.2 (last.1 ∙ omega (arith, i.count, popped)) met.0 met.1 met.2 in
     record {
       guests = i.guests ++ outcomes ∷ [];
@@ -50,5 +52,7 @@ loop-actor-preserved g c =
       left = last.0;
       count = omega (arith, more, i.count, popped);
       family = join_more c.args.first.now.family c.loop-actor.first.family c.join.new.first.family (length i.guests) (length (i.guests ++ outcomes ∷ [])) i.family (ap (λ s. s.family) c.join.ensures.both) more;
+      first_ticket = ap (λ s. s.first_ticket) c.join.ensures.both ∙ i.first_ticket;
+      drawn = omega (arith, drawn, last.2.hears.drawn, forms_few a.number c.args.lines.now, c.requires.few, more, i.drawn);
       reserved = c.push_reserved.ensures.capacity ∙ i.reserved;
     }

@@ -1,4 +1,4 @@
-use Rattle.std.proofs.Common.{◌≡◌, ◌+◌, false, List, length, map, vec_capacity}
+use Rattle.std.proofs.Common.{◌≡◌, ◌+◌, ◌*◌, ◌^◌, ◌≤◌, false, List, length, map, vec_capacity}
 use Rattle.serve_session.specs.Actors.{AreJoined, HasRun}
 use Rattle.serve_session.specs.Lists.{AreActors}
 use Rattle.serve_session.specs.Served.{Outcome}
@@ -12,6 +12,8 @@ invariant-loop-actor g l = record {
   left : AreActors (HasRun g.S.Store.disk l.chain.value.first l.lock (map g.N.AsStr.text l.names) l.lines) (length l.fn.actors.items) l.actors.items;
   count : length guests + length l.actors.items ≡ length l.fn.actors.items;
   family : l.first.family ≡ record (l.fn.first.family) { joins = l.fn.first.family.joins + length guests };
+  first_ticket : l.first.first_ticket ≡ l.fn.first.first_ticket;
+  drawn : l.first.drawn ≤ l.fn.first.drawn + 2 ^ 20 * length guests;
   reserved : vec_capacity l.told ≡ vec_capacity l.fn.told;
 }
 

@@ -30,6 +30,7 @@ loop-worker-preserved g c =
     let popped : length c.loop-worker.workers.items ≡ length c.pop.new.self.items + 1 = ap length c.in-Some.ensures.items ∙ length-append c.pop.new.self.items (w ∷ []) in
     let met = subst (λ s. (c.join.new.first ≡ together_of together c.loop-worker.first s) × (StartsWith c.join.new.first.seen c.loop-worker.first.seen × StartsWith c.join.new.first.seen s.seen) × (Contains c.join.new.first.basis c.loop-worker.first.basis × Contains c.join.new.first.basis s.basis))
     c.end-seat.ensures.0 (c.join.ensures.both, c.join.ensures.seen, c.join.ensures.basis) in
+    let drawn : c.join.new.first.drawn ≡ c.loop-worker.first.drawn + w.seat.drawn = ap (λ s. s.drawn) met.0 in
     record {
       taken = i.taken + 1;
       count = omega (arith, popped, i.count);
@@ -39,4 +40,6 @@ loop-worker-preserved g c =
       free = (ap (λ s. s.lock) c.join.ensures.both ∙ i.free.0, ap (λ s. s.turn) c.join.ensures.both ∙ i.free.1);
       leads = ap (λ s. s.family.is_first) c.join.ensures.both ∙ i.leads;
       same = λ none. absurd (omega (arith, none, i.count, popped));
+      first_ticket = ap (λ s. s.first_ticket) c.join.ensures.both ∙ i.first_ticket;
+      drawn = omega (arith, drawn, done.2, i.drawn);
     }

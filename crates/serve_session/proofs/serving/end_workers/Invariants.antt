@@ -1,4 +1,4 @@
-use Rattle.std.proofs.Common.{◌≡◌, ◌+◌, All, ℕ, length, true}
+use Rattle.std.proofs.Common.{◌≡◌, ◌+◌, ◌*◌, ◌^◌, ◌≤◌, All, ℕ, length, true}
 use Rattle.shared_chain.specs.Seats.{IsFree}
 use Rattle.serve_session.specs.Lists.{HasDone, WorkersJoin}
 use Rattle.serve_session.proofs.serving.end_workers.Given as goal
@@ -14,6 +14,8 @@ invariant-loop-worker g l = record {
   free : IsFree l.lock l.first;
   leads : l.first.family.is_first ≡ true;
   same : length l.fn.workers.items ≡ 0 → l.first ≡ l.fn.first;
+  first_ticket : l.first.first_ticket ≡ l.fn.first.first_ticket;
+  drawn : l.first.drawn ≤ l.fn.first.drawn + 2 ^ 32 * taken;
 }
 
 abbrev pub decreases-loop-worker : goal.decreases-loop-worker

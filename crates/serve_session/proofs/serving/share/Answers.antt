@@ -1,9 +1,10 @@
-use Rattle.std.proofs.Common.{◌≡◌, ◌++◌, ap, drop, false, length, map, sym, subst, take, true, ◌∙◌}
+use Rattle.std.proofs.Common.{◌≡◌, ◌++◌, ◌+◌, ap, arith, drop, false, length, map, sym, subst, take, true, ◌∙◌}
 use Rattle.std.specs.Prelude.{All}
 use Rattle.serve_session.specs.Actors.{AreJoined, HasRun}
 use Rattle.serve_session.specs.Lists.{AreActors, AreFresh, HasDone, IsFreshWorker, IsReady}
 use Rattle.serve_session.specs.Serving.{IsShared}
-use Rattle.serve_session.proofs.Final.{made_all, made_ready, made_run}
+use Rattle.serve_session.specs.Served.{greatest_from}
+use Rattle.serve_session.proofs.Final.{few_turns, made_all, made_ready, made_run}
 use Rattle.serve_session.proofs.Guests.{written_all}
 use Rattle.serve_session.proofs.Joining.{all_done, wider_joined}
 use Rattle.serve_session.proofs.serving.share.Goals as goal
@@ -34,7 +35,7 @@ end_workers-requires-clause-done g c =
     let whole : c.add_workers.new.workers.len ≡ length c.run_beside.new.workers = c.add_workers.new.workers.ok.0 ∙ ap length (sym c.as_mut_slice-hands.ensures.value) ∙ sym c.run_beside.ensures.workers.count in
     let all = written_all c.add_workers.new.workers.len c.run_beside.new.workers (drop (length c.run_beside.new.workers) c.add_workers.new.workers.items) whole in
     subst (All (HasDone lock)) (sym all)
-    (all_done lock c.add_actors.new.first c.in-Ok.claims c.as_mut_slice-hands.result.now c.run_beside.new.workers (ap (λ s. s.lock) c.add_actors.ensures.seat ∙ ap (λ s. s.lock) c.in-Ok-new.ensures.ok)
+    (all_done lock c.add_actors.new.first c.in-Ok.claims (c.in-Ok.claims.limit + 1) c.as_mut_slice-hands.result.now c.run_beside.new.workers (omega (arith, c.in-Ok.ensures.counter.0, c.ranges.stripes.fits)) (ap (λ s. s.lock) c.add_actors.ensures.seat ∙ ap (λ s. s.lock) c.in-Ok-new.ensures.ok)
     (subst (All (IsFreshWorker c.add_actors.new.first c.in-Ok.claims)) (sym c.as_mut_slice-hands.ensures.value) c.add_workers.ensures.fresh) c.run_beside.ensures.workers)
 
 pub close-chain-requires-clause-all : goal.close-chain-requires-clause-all
@@ -63,6 +64,11 @@ returns-clause-alone g c none =
     let actors = ap length (written_all c.add_actors.new.actors.len c.run_beside.new.actors (drop (length c.run_beside.new.actors) c.add_actors.new.actors.items) guests) in
     let workers = ap length (written_all c.add_workers.new.workers.len c.run_beside.new.workers (drop (length c.run_beside.new.workers) c.add_workers.new.workers.items) hands) in
     let same = c.end_workers.ensures.same (workers ∙ c.run_beside.ensures.workers.count ∙ ap length c.as_mut_slice-hands.ensures.value ∙ c.add_workers.ensures.count ∙ none) in
+    let n_is = actors ∙ c.run_beside.ensures.guests.count ∙ ap length c.as_mut_slice-guests.ensures.value ∙ c.add_actors.ensures.count ∙ c.requires.count in
+    let m_is = workers ∙ c.run_beside.ensures.workers.count ∙ ap length c.as_mut_slice-hands.ensures.value ∙ c.add_workers.ensures.count in
+    let bounds = few_turns disk lock _ c.in-Ok-new.made.1 c.add_actors.new.first c.add_workers.new.first c.end_actors-is_short.new.first c.end_workers.new.first _ _ _ _ (greatest_from 0 lines) c.close-chain.result.chain.events
+    c.in-Ok-new.ensures.ok c.add_actors.ensures.seat c.add_workers.ensures.seat j.first_ticket j.drawn c.end_workers.ensures.first_ticket c.end_workers.ensures.drawn n_is (omega (arith, m_is, c.requires.workers))
+    c.close-chain.ensures.refused c.close-chain.ensures.worked in
     IsShared.was_shared (record {
       lock = lock;
       seat = c.end_workers.new.first;
@@ -73,6 +79,8 @@ returns-clause-alone g c none =
       history = c.close-chain.ensures.history;
       basis = c.close-chain.ensures.basis;
       places = c.close-chain.ensures.places;
+      refusals = bounds.0;
+      few = bounds.1;
     })
 
 pub returns-clause-beside : goal.returns-clause-beside
@@ -87,7 +95,14 @@ returns-clause-beside g c =
     let first = c.of-was.result.value.first in
     let guests : c.add_actors.new.actors.len ≡ length c.run_beside.new.actors = c.add_actors.new.actors.ok.0 ∙ ap length (sym c.as_mut_slice-guests.ensures.value) ∙ sym c.run_beside.ensures.guests.count in
     let actors = ap length (written_all c.add_actors.new.actors.len c.run_beside.new.actors (drop (length c.run_beside.new.actors) c.add_actors.new.actors.items) guests) in
+    let hands : c.add_workers.new.workers.len ≡ length c.run_beside.new.workers = c.add_workers.new.workers.ok.0 ∙ ap length (sym c.as_mut_slice-hands.ensures.value) ∙ sym c.run_beside.ensures.workers.count in
+    let workers = ap length (written_all c.add_workers.new.workers.len c.run_beside.new.workers (drop (length c.run_beside.new.workers) c.add_workers.new.workers.items) hands) in
     let wide = c.end_workers.ensures.joined first names lines told short j.guests (wider_joined disk first lock names lines c.end_actors-is_short.new.first told short j.guests j.joined) in
+    let n_is = actors ∙ c.run_beside.ensures.guests.count ∙ ap length c.as_mut_slice-guests.ensures.value ∙ c.add_actors.ensures.count ∙ c.requires.count in
+    let m_is = workers ∙ c.run_beside.ensures.workers.count ∙ ap length c.as_mut_slice-hands.ensures.value ∙ c.add_workers.ensures.count in
+    let bounds = few_turns disk lock _ c.in-Ok-new.made.1 c.add_actors.new.first c.add_workers.new.first c.end_actors-is_short.new.first c.end_workers.new.first _ _ _ _ (greatest_from 0 lines) c.close-chain.result.chain.events
+    c.in-Ok-new.ensures.ok c.add_actors.ensures.seat c.add_workers.ensures.seat j.first_ticket j.drawn c.end_workers.ensures.first_ticket c.end_workers.ensures.drawn n_is (omega (arith, m_is, c.requires.workers))
+    c.close-chain.ensures.refused c.close-chain.ensures.worked in
     IsShared.was_shared (record {
       lock = lock;
       seat = c.end_workers.new.first;
@@ -97,4 +112,6 @@ returns-clause-beside g c =
       history = c.close-chain.ensures.history;
       basis = c.close-chain.ensures.basis;
       places = c.close-chain.ensures.places;
+      refusals = bounds.0;
+      few = bounds.1;
     })

@@ -11,7 +11,7 @@ use Rattle.serve_session.proofs.session.run_serve.Goals.{in-Ok-new, in-Err-new}
 
 pub serve-requires-clause-begun : goal.serve-requires-clause-begun
 serve-requires-clause-begun g c κs within =
-    begun_is g.S.Store.disk c.in-Ok.chain c.in-Ok-new.chain c.in-Ok-new.ensures.ok c.in-Ok.ensures.sound (c.in-Ok.ensures.new.2 ∙ c.new.ensures) c.in-Ok.ensures.new.1
+    begun_is g.S.Store.disk c.in-Ok.chain c.in-Ok-new.chain c.in-Ok-new.ensures.ok c.in-Ok.ensures.sound (c.in-Ok.ensures.new.2 ∙ c.new.ensures) c.in-Ok.ensures.new.1 c.in-Ok.ensures.new.0
 
 pub returns-clause-ran : goal.returns-clause-ran
 returns-clause-ran g c =

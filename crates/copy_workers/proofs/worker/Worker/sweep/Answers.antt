@@ -1,8 +1,21 @@
-use Rattle.std.proofs.Common.{◌≡◌, ◌∙◌, ap, subst}
-use Rattle.shared_chain.specs.Seats.{HasWorked}
-use Rattle.copy_workers.proofs.Turns.{worked_twice}
+use Rattle.std.proofs.Common.{◌≡◌, ◌∙◌, ap, refl, subst, sym, true}
+use Rattle.std.specs.Prelude.{IfNone}
+use Rattle.std.specs.Option.{IsSome}
+use Rattle.seats.specs.Counting.{HasNoRepeats}
+use Rattle.layer_session.proofs.Equal.{false_true}
+use Rattle.copy_workers.proofs.Claimed.{Swept, none_swept, swept_all, swept_on, swept_same}
 use Rattle.copy_workers.proofs.worker.Worker.sweep.Goals as goal
 use Rattle.copy_workers.proofs.worker.Worker.sweep.Goals.{in-None, in-Some+in_default}
+
+pub loop-init : goal.loop-init
+loop-init g c = record {
+  next = tt;
+  finite = tt;
+  free = c.requires.own;
+  swept = none_swept c.args.claims.now.limit c.args.self.now c.requires.own.1;
+  counter = c.requires.counter;
+  family = refl;
+}
 
 pub loop-preserved : goal.loop-preserved
 loop-preserved g c =
@@ -13,15 +26,22 @@ loop-preserved g c =
       next = tt;
       finite = tt;
       free = (d.worked.keeps.lock ∙ i.free.0, d.worked.keeps.free);
-      worked = worked_twice c.args.self.now.seat c.loop.self.seat c.deliver.new.self.seat i.worked d.worked;
+      swept = swept_on c.args.claims.now.limit c.in-Some-claim.stripe c.args.self.now c.loop.self c.deliver.new.self i.swept c.in-Some-claim.ensures.some.0 (ap (λ s. s.numbers) (d.claim ∙ claimed)) d.worked;
       counter = ap (λ s. s.counter) (d.claim ∙ claimed) ∙ i.counter;
       family = ap (λ s. s.family) (d.claim ∙ claimed) ∙ i.family;
     }
 
 pub returns-clause-worked : goal.returns-clause-worked
 returns-clause-worked g c =
-    let seat : c.match-next.self.seat ≡ c.loop.self.seat = elim c.match-next.branch [
-      | in-None w ↦ ap (λ s. s.seat) w.self-is
-      | in-Some+in_default w ↦ ap (λ s. s.seat) w.self-is
+    let limit = c.args.claims.now.limit in
+    let old = c.args.self.now in
+    let mid = c.match-next.self in
+    let swept : Swept limit old mid × HasNoRepeats mid.claim.numbers = elim c.match-next.branch [
+      | in-None w ↦ absurd (false_true (subst (λ o. IsSome o) w.in-None.is c.next.ensures.steps))
+      | in-Some+in_default w ↦
+        let none = subst (λ o. IfNone o (w.claim.new.seat ≡ record (c.loop.self.claim) { is_closed = true })) w.in_default.is w.claim.ensures.none in
+        let claim : mid.claim ≡ w.claim.new.seat = ap (λ s. s.claim) w.self-is in
+        let seat : mid.seat ≡ c.loop.self.seat = ap (λ s. s.seat) w.self-is in
+        (swept_same limit old c.loop.self mid c.loop.invariant.swept (ap (λ s. s.numbers) claim ∙ ap (λ s. s.numbers) none) seat, subst (λ s. HasNoRepeats s.numbers) (sym claim) w.claim.ensures.once)
     ] in
-    worked_twice c.args.self.now.seat c.loop.self.seat c.finish.new.self.seat c.loop.invariant.worked (subst (λ s. HasWorked s c.finish.new.self.seat) seat c.finish.ensures.worked)
+    swept_all limit old mid c.finish.new.self swept.0 swept.1 c.finish.ensures.worked

@@ -1,0 +1,105 @@
+-- What a worker claims in a sweep.
+use Rattle.std.proofs.Common.{◌≡◌, ◌+◌, ◌<◌, ◌≤◌, ◌==◌, ◌++◌, ◌∷◌, ℕ, zero, suc, Bool, true, false, List, [], length, refl, sym, ap, subst, ◌∙◌, arith, eqb-true, length-append}
+use Rattle.std.specs.Prelude.{if◌then◌else◌, None}
+use Rattle.std.specs.List.{AllByRecursion}
+use Rattle.std.proofs.lemmas.Bool.{eqb-false}
+use Rattle.std.proofs.lemmas.List.{append_assoc, append-nil}
+use Rattle.seats.specs.Counting.{HasNoRepeats, once_at, times}
+use Rattle.seats.proofs.Counting.{times-append}
+use Rattle.shared_chain.specs.Seats.{HasWorked}
+use Rattle.copy_workers.specs.declared.worker.Worker.{Worker}
+use Rattle.copy_workers.proofs.Turns.{none_worked, worked_twice}
+
+-- ---- numbers below a limit, each at most once
+
+abbrev sum_to : (ℕ → ℕ) → ℕ → ℕ
+sum_to f zero = 0
+sum_to f (suc n) = sum_to f n + f n
+
+sum_both : (f g : ℕ → ℕ) (n : ℕ) → sum_to (λ x. f x + g x) n ≡ sum_to f n + sum_to g n
+sum_both f g zero = refl
+sum_both f g (suc n) = omega (arith, sum_both f g n)
+
+sum_same : (f g : ℕ → ℕ) (n : ℕ) → ((x : ℕ) → f x ≡ g x) → sum_to f n ≡ sum_to g n
+sum_same f g zero same = refl
+sum_same f g (suc n) same = omega (arith, sum_same f g n same, same n)
+
+sum_few : (f : ℕ → ℕ) (n : ℕ) → ((x : ℕ) → f x ≤ 1) → sum_to f n ≤ n
+sum_few f zero one = omega arith
+sum_few f (suc n) one = omega (arith, sum_few f n one, one n)
+
+other_none : (x y : ℕ) → (y == x) ≡ false → once_at x y ≡ 0
+other_none x y other = ap (λ b. if b then 1 else 0) other
+
+sum_none : (y n : ℕ) → n ≤ y → sum_to (λ x. once_at x y) n ≡ 0
+sum_none y zero high = refl
+sum_none y (suc n) high = go (sum_none y n (omega (arith, high))) (y == n) refl
+  where
+    go : sum_to (λ x. once_at x y) n ≡ 0 → (b : Bool) → (y == n) ≡ b → sum_to (λ x. once_at x y) n + once_at n y ≡ 0
+    go below true e = absurd (let same = eqb-true y n e in omega (arith, high, same))
+    go below false e = omega (arith, below, other_none n y e)
+
+sum_once : (y n : ℕ) → y < n → sum_to (λ x. once_at x y) n ≡ 1
+sum_once y zero low = absurd (omega (arith, low))
+sum_once y (suc n) low = go (sum_once y n) (y == n) refl
+  where
+    go : (y < n → sum_to (λ x. once_at x y) n ≡ 1) → (b : Bool) → (y == n) ≡ b → sum_to (λ x. once_at x y) n + once_at n y ≡ 1
+    go below true e =
+        let same = eqb-true y n e in
+        let here : once_at n y ≡ 1 = ap (λ b. if b then 1 else 0) e in
+        omega (arith, sum_none y n (omega (arith, same)), here)
+    go below false e = omega (arith, below (let other = eqb-false y n e in omega (arith, low, other)), other_none n y e)
+
+times_front : (x y : ℕ) (ys : List ℕ) → times x (y ∷ ys) ≡ once_at x y + times x ys
+times_front x y ys = let one : times x (y ∷ []) ≡ once_at x y = omega arith in omega (arith, times-append x (y ∷ []) ys, one)
+
+sum_zero : (n : ℕ) → sum_to (λ x. times x []) n ≡ 0
+sum_zero zero = refl
+sum_zero (suc n) = omega (arith, sum_zero n)
+
+length_is : (n : ℕ) (xs : List ℕ) → AllByRecursion (λ k. k < n) xs → length xs ≡ sum_to (λ x. times x xs) n
+length_is n [] low = sym (sum_zero n)
+length_is n (y ∷ ys) low =
+    let split = sum_same (λ x. times x (y ∷ ys)) (λ x. once_at x y + times x ys) n (λ x. times_front x y ys) ∙ sum_both (λ x. once_at x y) (λ x. times x ys) n in
+    omega (arith, split, sum_once y n low.0, length_is n ys low.1)
+
+few_numbers : (n : ℕ) (before xs : List ℕ) → AllByRecursion (λ k. k < n) xs → HasNoRepeats (before ++ xs) → length xs ≤ n
+few_numbers n before xs low once =
+    let most = sum_few (λ x. times x xs) n (λ x. omega (arith, once x, times-append x before xs)) in
+    omega (arith, length_is n xs low, most)
+
+-- ---- a sweep
+
+below_push : (n k : ℕ) (xs : List ℕ) → AllByRecursion (λ j. j < n) xs → k < n → AllByRecursion (λ j. j < n) (xs ++ k ∷ [])
+below_push n k [] low less = (less, tt)
+below_push n k (x ∷ xs) low less = (low.0, below_push n k xs low.1 less)
+
+module _ {S T : Type 0} where
+  -- a turn was taken for each number that was claimed
+  pub record Swept (limit : ℕ) (old new : Worker S T) : Type 0 where
+    pub gained : List ℕ
+    pub is : new.claim.numbers ≡ old.claim.numbers ++ gained
+    pub low : AllByRecursion (λ k. k < limit) gained
+    pub worked : HasWorked (length gained) old.seat new.seat
+
+  pub none_swept : (limit : ℕ) (w : Worker S T) → w.seat.turn ≡ None → Swept limit w w
+  none_swept limit w free = record { gained = []; is = sym (append-nil w.claim.numbers); low = tt; worked = none_worked w.seat 0 free }
+
+  pub swept_same : (limit : ℕ) (old mid new : Worker S T) → Swept limit old mid → new.claim.numbers ≡ mid.claim.numbers → new.seat ≡ mid.seat → Swept limit old new
+  swept_same limit old mid new s numbers seat = record { gained = s.gained; is = numbers ∙ s.is; low = s.low; worked = subst (HasWorked (length s.gained) old.seat) (sym seat) s.worked }
+
+  -- one more number
+  pub swept_on : (limit k : ℕ) (old mid new : Worker S T) → Swept limit old mid → k < limit → new.claim.numbers ≡ mid.claim.numbers ++ k ∷ [] → HasWorked 1 mid.seat new.seat → Swept limit old new
+  swept_on limit k old mid new s less is w = record {
+    gained = s.gained ++ k ∷ [];
+    is = is ∙ ap (λ xs. xs ++ k ∷ []) s.is ∙ append_assoc old.claim.numbers s.gained (k ∷ []);
+    low = below_push limit k s.gained s.low less;
+    worked = subst (λ n. HasWorked n old.seat new.seat) (sym (length-append s.gained (k ∷ []))) (worked_twice (length s.gained) 1 old.seat mid.seat new.seat s.worked w);
+  }
+
+  -- and the turn that finishes
+  pub swept_all : (limit : ℕ) (old mid new : Worker S T) → Swept limit old mid → HasNoRepeats mid.claim.numbers → HasWorked 1 mid.seat new.seat → HasWorked (limit + 1) old.seat new.seat
+  swept_all limit old mid new s once w =
+      let all = worked_twice (length s.gained) 1 old.seat mid.seat new.seat s.worked w in
+      let few = few_numbers limit old.claim.numbers s.gained s.low (subst HasNoRepeats s.is once) in
+      record { keeps = all.keeps; drawn = omega (arith, all.drawn, few); own = all.own }
