@@ -1,14 +1,16 @@
 -- What a worker claims in a sweep.
-use Rattle.std.proofs.Common.{◌≡◌, ◌+◌, ◌<◌, ◌≤◌, ◌==◌, ◌++◌, ◌∷◌, ℕ, zero, suc, Bool, true, false, List, [], length, refl, sym, ap, subst, ◌∙◌, arith, eqb-true, length-append}
+use Rattle.std.proofs.Common.{◌≡◌, ◌⊎◌, inl, inr, ◌+◌, ◌<◌, ◌≤◌, ◌==◌, ◌++◌, ◌∷◌, ℕ, zero, suc, Bool, true, false, List, [], length, refl, sym, ap, subst, ◌∙◌, arith, eqb-true, length-append}
 use Rattle.std.specs.Prelude.{if◌then◌else◌, None}
 use Rattle.std.specs.List.{AllByRecursion}
 use Rattle.std.proofs.lemmas.Bool.{eqb-false}
 use Rattle.std.proofs.lemmas.List.{append_assoc, append-nil}
 use Rattle.seats.specs.Counting.{HasNoRepeats, once_at, times}
 use Rattle.seats.proofs.Counting.{times-append}
-use Rattle.shared_chain.specs.Seats.{HasWorked}
+use Rattle.shared_chain.specs.Bases.{HasStripe}
+use Rattle.shared_chain.specs.Laws.{contains_itself}
+use Rattle.shared_chain.specs.Seats.{AreSwept, HasWorked, IsSwept}
 use Rattle.copy_workers.specs.declared.worker.Worker.{Worker}
-use Rattle.copy_workers.proofs.Turns.{none_worked, worked_twice}
+use Rattle.copy_workers.proofs.Turns.{none_worked, swept_later, worked_twice}
 
 -- ---- numbers below a limit, each at most once
 
@@ -74,6 +76,15 @@ below_push : (n k : ℕ) (xs : List ℕ) → AllByRecursion (λ j. j < n) xs →
 below_push n k [] low less = (less, tt)
 below_push n k (x ∷ xs) low less = (low.0, below_push n k xs low.1 less)
 
+stripe_parts : (stripe : ℕ) (xs ys : List ℕ) → HasStripe stripe (xs ++ ys) → HasStripe stripe xs ⊎ HasStripe stripe ys
+stripe_parts stripe [] ys h = inr h
+stripe_parts stripe (x ∷ xs) ys (inl e) = inl (inl e)
+stripe_parts stripe (x ∷ xs) ys (inr h) = go (stripe_parts stripe xs ys h)
+  where
+    go : HasStripe stripe xs ⊎ HasStripe stripe ys → HasStripe stripe (x ∷ xs) ⊎ HasStripe stripe ys
+    go (inl a) = inl (inr a)
+    go (inr b) = inr b
+
 module _ {S T : Type 0} where
   -- a turn was taken for each number that was claimed
   pub record Swept (limit : ℕ) (old new : Worker S T) : Type 0 where
@@ -81,21 +92,32 @@ module _ {S T : Type 0} where
     pub is : new.claim.numbers ≡ old.claim.numbers ++ gained
     pub low : AllByRecursion (λ k. k < limit) gained
     pub worked : HasWorked (length gained) old.seat new.seat
+    pub swept : AreSwept old.claim.numbers new.claim.numbers old.seat new.seat
 
   pub none_swept : (limit : ℕ) (w : Worker S T) → w.seat.turn ≡ None → Swept limit w w
-  none_swept limit w free = record { gained = []; is = sym (append-nil w.claim.numbers); low = tt; worked = none_worked w.seat 0 free }
+  none_swept limit w free = record { gained = []; is = sym (append-nil w.claim.numbers); low = tt; worked = none_worked w.seat 0 free; swept = record { each = λ stripe h. inl h } }
 
   pub swept_same : (limit : ℕ) (old mid new : Worker S T) → Swept limit old mid → new.claim.numbers ≡ mid.claim.numbers → new.seat ≡ mid.seat → Swept limit old new
-  swept_same limit old mid new s numbers seat = record { gained = s.gained; is = numbers ∙ s.is; low = s.low; worked = subst (HasWorked (length s.gained) old.seat) (sym seat) s.worked }
+  swept_same limit old mid new s numbers seat = record { gained = s.gained; is = numbers ∙ s.is; low = s.low; worked = subst (HasWorked (length s.gained) old.seat) (sym seat) s.worked; swept = subst (λ ns. AreSwept old.claim.numbers ns old.seat new.seat) (sym numbers) (subst (AreSwept old.claim.numbers mid.claim.numbers old.seat) (sym seat) s.swept) }
 
   -- one more number
-  pub swept_on : (limit k : ℕ) (old mid new : Worker S T) → Swept limit old mid → k < limit → new.claim.numbers ≡ mid.claim.numbers ++ k ∷ [] → HasWorked 1 mid.seat new.seat → Swept limit old new
-  swept_on limit k old mid new s less is w = record {
+  pub swept_on : (limit k : ℕ) (old mid new : Worker S T) → Swept limit old mid → k < limit → new.claim.numbers ≡ mid.claim.numbers ++ k ∷ [] → HasWorked 1 mid.seat new.seat → IsSwept k mid.seat new.seat → Swept limit old new
+  swept_on limit k old mid new s less is w now = record {
     gained = s.gained ++ k ∷ [];
     is = is ∙ ap (λ xs. xs ++ k ∷ []) s.is ∙ append_assoc old.claim.numbers s.gained (k ∷ []);
     low = below_push limit k s.gained s.low less;
     worked = subst (λ n. HasWorked n old.seat new.seat) (sym (length-append s.gained (k ∷ []))) (worked_twice (length s.gained) 1 old.seat mid.seat new.seat s.worked w);
+    swept = record { each = λ stripe h. by_number stripe (stripe_parts stripe mid.claim.numbers (k ∷ []) (subst (HasStripe stripe) is h)) };
   }
+    where
+      by_number : (stripe : ℕ) → HasStripe stripe mid.claim.numbers ⊎ HasStripe stripe (k ∷ []) → HasStripe stripe old.claim.numbers ⊎ IsSwept stripe old.seat new.seat
+      by_number stripe (inl before) = earlier (s.swept.each stripe before)
+        where
+          earlier : HasStripe stripe old.claim.numbers ⊎ IsSwept stripe old.seat mid.seat → HasStripe stripe old.claim.numbers ⊎ IsSwept stripe old.seat new.seat
+          earlier (inl own) = inl own
+          earlier (inr done) = inr (swept_later stripe old.seat old.seat mid.seat new.seat (contains_itself old.seat.basis) done w.keeps)
+      by_number stripe (inr (inl e)) = inr (swept_later stripe old.seat mid.seat new.seat new.seat s.worked.keeps.basis (subst (λ n. IsSwept n mid.seat new.seat) (sym e) now) (none_worked new.seat 0 w.keeps.free).keeps)
+      by_number stripe (inr (inr never)) = absurd never
 
   -- and the turn that finishes
   pub swept_all : (limit : ℕ) (old mid new : Worker S T) → Swept limit old mid → HasNoRepeats mid.claim.numbers → HasWorked 1 mid.seat new.seat → HasWorked (limit + 1) old.seat new.seat
@@ -103,3 +125,10 @@ module _ {S T : Type 0} where
       let all = worked_twice (length s.gained) 1 old.seat mid.seat new.seat s.worked w in
       let few = few_numbers limit old.claim.numbers s.gained s.low (subst HasNoRepeats s.is once) in
       record { keeps = all.keeps; drawn = omega (arith, all.drawn, few); own = all.own }
+
+  pub swept_then : (limit : ℕ) (old mid new : Worker S T) → Swept limit old mid → HasWorked 1 mid.seat new.seat → new.claim.numbers ≡ mid.claim.numbers → AreSwept old.claim.numbers new.claim.numbers old.seat new.seat
+  swept_then limit old mid new s w same = record { each = λ stripe h. go stripe (s.swept.each stripe (subst (HasStripe stripe) same h)) }
+    where
+      go : (stripe : ℕ) → HasStripe stripe old.claim.numbers ⊎ IsSwept stripe old.seat mid.seat → HasStripe stripe old.claim.numbers ⊎ IsSwept stripe old.seat new.seat
+      go stripe (inl own) = inl own
+      go stripe (inr done) = inr (swept_later stripe old.seat old.seat mid.seat new.seat (contains_itself old.seat.basis) done w.keeps)

@@ -1,7 +1,7 @@
 -- A worker's turn, from its beginning to its end.
 use Rattle.std.proofs.Common.{◌≡◌, ◌⊎◌, ◌+◌, ◌-◌, ◌<◌, ◌≤◌, ◌==◌, ◌++◌, ◌∷◌, ℕ, Bool, true, false, List, [], length, inl, inr, ap₂, Some, None, Result, Ok, Err, refl, sym, ap, subst, ◌∙◌, arith, length-append, take_at}
-use Rattle.std.specs.Prelude.{Option, if◌then◌else◌}
-use Rattle.std.proofs.lemmas.Bool.{eqb-true}
+use Rattle.std.specs.Prelude.{◌||◌, IfErr, Option, if◌then◌else◌, nat_lt}
+use Rattle.std.proofs.lemmas.Bool.{eqb-true, eq-eqb, lt-ltb, ltb-false, ltb-true}
 use Rattle.std.proofs.lemmas.List.{append-nil, length-map}
 use Rattle.store_model.specs.Disk.{Disk}
 use Rattle.guest_model.specs.declared.recorder.KeepAll.{KeepAll}
@@ -14,10 +14,15 @@ use Rattle.shared_chain.specs.declared.basis.Basis.{Basis}
 use Rattle.shared_chain.specs.declared.basis.Breach.{Breach}
 use Rattle.shared_chain.specs.declared.basis.Step.{Step}
 use Rattle.shared_chain.specs.declared.basis.Step.TheVariants.{Broke, Done}
-use Rattle.shared_chain.specs.Bases.{Contains, basis_of}
+use Rattle.chain_model.specs.Merges.{with_mark}
+use Rattle.merge_core.specs.Copied.{marks_of}
+use Rattle.merge_core.specs.declared.marks.Marks.{Marks}
+use Rattle.shared_chain.specs.declared.basis.Note.TheVariants as notes
+use Rattle.shared_chain.specs.Bases.{Contains, HasStripe, basis_of, marked_below}
 use Rattle.shared_chain.specs.Laws.{contains_itself, contains_through}
-use Rattle.shared_chain.specs.Merging.{IsStepped, as_answer}
-use Rattle.shared_chain.specs.Seats.{HasWorked, KeepsSeat, MergeBreaksAt}
+use Rattle.shared_chain.specs.Merging.{IsStepped, MergeStep, StopsCopy, as_answer, copied_behind, copies, ends, finished_behind, finishes, most_events}
+use Rattle.shared_chain.proofs.Marked.{marked_has, marked_more}
+use Rattle.shared_chain.specs.Seats.{HasWorked, IsSwept, KeepsSeat, MergeBreaksAt, StopsTurn}
 use Rattle.shared_chain.specs.Shared.{Shared}
 use Rattle.shared_chain.specs.Steps.{broke_after, done_steps, first_breach, merge_breach, steps_of}
 use Rattle.turn_lock.specs.Histories.{StartsWith}
@@ -25,6 +30,47 @@ use Rattle.turn_lock.specs.Seats.{HasTurn, Known, MayUnlock, Out, after_turn, wi
 use Rattle.turn_lock.specs.Steps.{places_after}
 use Rattle.turn_lock.proofs.Fronts.{starts-itself, starts-through}
 use Rattle.turn_lock.proofs.Using.{may_unlock-entry, may_unlock-same, turn_ended}
+
+-- no mark is taken back, nor that it was finished
+still_marked : (step : MergeStep) (answer : Result (Unit {0}) ChainRefusal) (marks : Marks) (t : ℕ) → marks_of marks t ≡ true → copied_behind step answer marks t ≡ true
+still_marked (copies stripe) (Ok done) marks t m = go (nat_lt stripe marks.stripes)
+  where
+    go : (b : Bool) → (if b then with_mark stripe (marks_of marks) t else marks_of marks t) ≡ true
+    go true = either (t == stripe)
+      where
+        either : (b : Bool) → (b || marks_of marks t) ≡ true
+        either true = refl
+        either false = m
+    go false = m
+still_marked (copies stripe) (Err x) marks t m = m
+still_marked finishes answer marks t m = m
+still_marked ends answer marks t m = m
+
+still_finished : (step : MergeStep) (answer : Result (Unit {0}) ChainRefusal) (finished : Bool) → finished ≡ true → finished_behind step answer finished ≡ true
+still_finished finishes (Ok done) finished e = refl
+still_finished finishes (Err x) finished e = e
+still_finished ends answer finished e = refl
+still_finished (copies stripe) (Ok done) finished e = e
+still_finished (copies stripe) (Err EmptyRange) finished e = e
+still_finished (copies stripe) (Err (OutOfRange a b c)) finished e = e
+still_finished (copies stripe) (Err (TooLong a b)) finished e = e
+still_finished (copies stripe) (Err ReadOnly) finished e = e
+still_finished (copies stripe) (Err (Broken file count)) finished e = e
+still_finished (copies stripe) (Err (Spent t)) finished e = e
+still_finished (copies stripe) (Err (FileFull next)) finished e = e
+still_finished (copies stripe) (Err (ReadFault file count)) finished e = e
+still_finished (copies stripe) (Err NoMerge) finished e = refl
+still_finished (copies stripe) (Err (Stale taken now)) finished e = e
+still_finished (copies stripe) (Err (NotYet s)) finished e = e
+still_finished (copies stripe) (Err (Abandoned file count)) finished e = e
+still_finished (copies stripe) (Err (NoStripe s n)) finished e = e
+still_finished (copies stripe) (Err NoPiece) finished e = e
+still_finished (copies stripe) (Err NoRoom) finished e = e
+
+-- a stripe that was copied has its mark
+marked_now : (stripe : ℕ) (marks : Marks) → stripe < marks.stripes → copied_behind (copies stripe) (Ok tt) marks stripe ≡ true
+marked_now stripe marks less =
+    ap₂ (λ a b. if a then b || marks_of marks stripe else marks_of marks stripe) (lt-ltb stripe marks.stripes less) (eq-eqb stripe stripe refl)
 
 module _ {S T : Type 0} where
   abbrev told_of : Shared (Chain S KeepAll T) → List Step
@@ -39,8 +85,8 @@ module _ {S T : Type 0} where
     is_same : told_of new ≡ told_of old → Gained old new
     has_broken : old.broke ≡ None → told_of new ≡ done_steps old.chain.recorder ++ Broke merge_breach ∷ [] → Gained old new
 
-  gained : (disk : S → Disk) (old new : Shared (Chain S KeepAll T)) (most : ℕ) (answer : Result (Unit {0}) ChainRefusal) → IsStepped disk most old new answer → Gained old new
-  gained disk old new most answer k = go answer k.broke
+  gained : (disk : S → Disk) (old new : Shared (Chain S KeepAll T)) (step : MergeStep) (answer : Result (Unit {0}) ChainRefusal) → IsStepped disk step old new answer → Gained old new
+  gained disk old new step answer k = go answer k.broke
     where
       still : new.broke ≡ old.broke → Gained old new
       still e = is_same (ap₂ steps_of k.history e)
@@ -67,10 +113,10 @@ module _ {S T : Type 0} where
       go (Err NoPiece) e = still e
       go (Err NoRoom) e = still e
 
-  module _ (disk : S → Disk) (before after locked : Known Step (Basis S T)) (old new : Shared (Chain S KeepAll T)) (most : ℕ) (two : most ≤ 2) (answer : Result (Unit {0}) ChainRefusal)
-      (turn : HasTurn Contains before after locked (told_of old) (basis_of disk old)) (k : IsStepped disk most old new answer) where
+  module _ (disk : S → Disk) (before after locked : Known Step (Basis S T)) (old new : Shared (Chain S KeepAll T)) (step : MergeStep) (two : most_events step ≤ 2) (answer : Result (Unit {0}) ChainRefusal)
+      (turn : HasTurn Contains before after locked (told_of old) (basis_of disk old)) (k : IsStepped disk step old new answer) where
     covers : Contains (basis_of disk new) (basis_of disk old)
-    covers = record { first = ap Some k.first; notes = λ n h. (k.noted n).1 (inr h); events = k.later }
+    covers = record { first = ap Some k.first; notes = λ n h. (k.noted n).1 (inr h); events = k.later; stripes = k.stripes; copied = λ t h. subst (λ n. HasStripe t (marked_below (marks_of new.copied) n)) (sym k.stripes) (marked_more (marks_of old.copied) (marks_of new.copied) old.copied.stripes t (λ u m. k.copied u ∙ still_marked step answer old.copied u m) h); finished = λ e. k.finished ∙ still_finished step answer old.finished e }
 
     little : new.chain.events ≤ old.chain.events + 2
     little = omega (arith, k.few, two)
@@ -83,14 +129,14 @@ module _ {S T : Type 0} where
 
     -- what `unlock` asks
     may_end : MayUnlock Contains work after locked (told_of new) (basis_of disk new)
-    may_end = go (gained disk old new most answer k)
+    may_end = go (gained disk old new step answer k)
       where
         go : Gained old new → MayUnlock Contains work after locked (told_of new) (basis_of disk new)
         go (is_same e) = may_unlock-same Contains work before after locked (told_of old) (basis_of disk old) turn (told_of new) (basis_of disk new) e covers little
         go (has_broken none e) = may_unlock-entry Contains work before after locked (told_of old) (basis_of disk old) turn (told_of new) (basis_of disk new) (Broke merge_breach) (one_more none e) covers little
 
     goes_on : StartsWith (told_of new) (told_of old)
-    goes_on = go (gained disk old new most answer k)
+    goes_on = go (gained disk old new step answer k)
       where
         go : Gained old new → StartsWith (told_of new) (told_of old)
         go (is_same e) = subst (λ h. StartsWith h (told_of old)) (sym e) (starts-itself (told_of old))
@@ -126,7 +172,7 @@ module _ {S T : Type 0} where
 
     -- the places of its own
     own : (p : ℕ) → 0 < times p ended.mine → (0 < times p before.mine) ⊎ MergeBreaksAt ended.seen p
-    own p some = go (gained disk old new most answer k)
+    own p some = go (gained disk old new step answer k)
       where
         stays : told_of new ≡ told_of old → ended.mine ≡ before.mine
         stays e =
@@ -157,16 +203,81 @@ module _ {S T : Type 0} where
 
   -- ---- as a worker's turn has them
 
-  module _ (disk : S → Disk) (before after : Known Step (Basis S T)) (held : Out (Shared (Chain S KeepAll T)) Step (Basis S T)) (old new : Shared (Chain S KeepAll T)) (most : ℕ) (two : most ≤ 2) (answer : Result (Unit {0}) ChainRefusal)
-      (is : old ≡ held.value) (turn : HasTurn Contains before after held.seat (told_of held.value) (basis_of disk held.value)) (k : IsStepped disk most old new answer) where
+  module _ (disk : S → Disk) (before after : Known Step (Basis S T)) (held : Out (Shared (Chain S KeepAll T)) Step (Basis S T)) (old new : Shared (Chain S KeepAll T)) (step : MergeStep) (two : most_events step ≤ 2) (answer : Result (Unit {0}) ChainRefusal)
+      (is : old ≡ held.value) (turn : HasTurn Contains before after held.seat (told_of held.value) (basis_of disk held.value)) (k : IsStepped disk step old new answer) where
     has_turn : HasTurn Contains before after held.seat (told_of old) (basis_of disk old)
     has_turn = subst (λ (v : Shared (Chain S KeepAll T)). HasTurn Contains before after held.seat (told_of v) (basis_of disk v)) (sym is) turn
 
     pub may_turn : MayUnlock Contains work after held.seat (told_of new) (basis_of disk new)
-    may_turn = may_end disk before after held.seat old new most two answer has_turn k
+    may_turn = may_end disk before after held.seat old new step two answer has_turn k
 
     pub has_worked : (last : Known Step (Basis S T)) → last ≡ after_turn after (told_of new) (basis_of disk new) → HasWorked 1 before last
-    has_worked last is_last = worked disk before after held.seat old new most two answer has_turn k last is_last
+    has_worked last is_last = worked disk before after held.seat old new step two answer has_turn k last is_last
+
+  -- ---- a stripe
+
+  -- the stripe of a turn is copied, or what stopped that shows
+  pub has_swept : (disk : S → Disk) (stripe : ℕ) (answer : Result (Unit {0}) ChainRefusal) (before last : Known Step (Basis S T)) (old new : Shared (Chain S KeepAll T)) → IsStepped disk (copies stripe) old new answer → IfErr answer (StopsCopy disk stripe old new)
+      → Contains (basis_of disk old) before.basis → last.basis ≡ basis_of disk new → IsSwept stripe before last
+  has_swept disk stripe answer before last old new k stops knows is = subst (λ (b : Basis S T). IsSweptBy b) (sym is) (go answer refl)
+    where
+      IsSweptBy : Basis S T → Type 0
+      IsSweptBy b = HasStripe stripe b.copied ⊎ (b.stripes ≤ stripe) ⊎ ((x : ChainRefusal) × StopsTurn stripe before (record last { basis = b }) x)
+
+      stopped : (x : ChainRefusal) → answer ≡ Err x → StopsCopy disk stripe old new x → StopsTurn stripe before (record last { basis = basis_of disk new }) x
+      stopped NoMerge e h = k.finished ∙ ap (λ r. finished_behind (copies stripe) r old.finished) e
+      stopped (NoStripe s n) e h = h.1
+      stopped (Spent t) e h = (h.0, inr h.1)
+      stopped (FileFull next) e h = h
+      stopped (ReadFault file count) e h = (h.0, λ was. h.1 (knows.notes (notes.ReadFailed file count) was))
+      stopped (Broken file count) e h = h
+      stopped EmptyRange e h = absurd h
+      stopped (OutOfRange a b c) e h = absurd h
+      stopped (TooLong a b) e h = absurd h
+      stopped ReadOnly e h = absurd h
+      stopped (Stale taken now) e h = absurd h
+      stopped (NotYet s) e h = absurd h
+      stopped (Abandoned file count) e h = absurd h
+      stopped NoPiece e h = absurd h
+      stopped NoRoom e h = absurd h
+
+      by_place : (b : Bool) → nat_lt stripe new.copied.stripes ≡ b → answer ≡ Ok tt → IsSweptBy (basis_of disk new)
+      by_place true less e =
+          let low : stripe < new.copied.stripes = ltb-true stripe new.copied.stripes less in
+          let marked : marks_of new.copied stripe ≡ true = k.copied stripe ∙ ap (λ r. copied_behind (copies stripe) r old.copied stripe) e ∙ marked_now stripe old.copied (subst (λ n. stripe < n) k.stripes low) in
+          inl (marked_has (marks_of new.copied) new.copied.stripes stripe low marked)
+      by_place false past e = inr (inl (let high = ltb-false stripe new.copied.stripes past in omega (arith, high)))
+
+      go : (r : Result (Unit {0}) ChainRefusal) → answer ≡ r → IsSweptBy (basis_of disk new)
+      go (Ok done) e = by_place (nat_lt stripe new.copied.stripes) refl e
+      go (Err x) e = inr (inr (x, stopped x e (subst (λ r. IfErr r (StopsCopy disk stripe old new)) e stops)))
+
+  -- so it stays whatever comes behind it
+  pub swept_later : (stripe : ℕ) (a b c d : Known Step (Basis S T)) → Contains b.basis a.basis → IsSwept stripe b c → KeepsSeat c d → IsSwept stripe a d
+  swept_later stripe a b c d knows (inl h) keeps = inl (keeps.basis.copied stripe h)
+  swept_later stripe a b c d knows (inr (inl h)) keeps = inr (inl (omega (arith, h, keeps.basis.stripes)))
+  swept_later stripe a b c d knows (inr (inr h)) keeps = inr (inr (h.0, go h.0 h.1))
+    where
+      go : (x : ChainRefusal) → StopsTurn stripe b c x → StopsTurn stripe a d x
+      go NoMerge h = keeps.basis.finished h
+      go (NoStripe s n) h = h
+      go (Spent t) h = (h.0, by_count h.1)
+        where
+          by_count : (0 < c.refusals) ⊎ (t ≤ c.basis.events) → (0 < d.refusals) ⊎ (t ≤ d.basis.events)
+          by_count (inl some) = inl (omega (arith, some, keeps.refusals))
+          by_count (inr many) = inr (omega (arith, many, keeps.basis.events))
+      go (FileFull next) h = keeps.basis.notes (notes.Full next) h
+      go (ReadFault file count) h = (keeps.basis.notes (notes.ReadFailed file count) h.0, λ was. h.1 (knows.notes (notes.ReadFailed file count) was))
+      go (Broken file count) h = keeps.basis.notes (notes.ChangeFailed file count) h
+      go EmptyRange h = absurd h
+      go (OutOfRange x y z) h = absurd h
+      go (TooLong x y) h = absurd h
+      go ReadOnly h = absurd h
+      go (Stale taken now) h = absurd h
+      go (NotYet s) h = absurd h
+      go (Abandoned file count) h = absurd h
+      go NoPiece h = absurd h
+      go NoRoom h = absurd h
 
   -- ---- turns, one after the other
 

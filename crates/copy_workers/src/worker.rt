@@ -1,7 +1,7 @@
 //! A worker of a merge.
 
 ghost use Rattle.std.specs.Prelude.{◌≡◌, ◌+◌, true, None};
-ghost use Rattle.shared_chain.specs.Seats.{HasWorked, IsFree};
+ghost use Rattle.shared_chain.specs.Seats.{AreSwept, HasWorked, IsFree, IsSwept};
 
 use claims::{ClaimSeat, Claims};
 use guest_model::ChainRefusal;
@@ -35,6 +35,7 @@ impl<S: Store> Worker<S> {
     ) -> Result<(), ChainRefusal>
         requires own { IsFree lock.now self.old.seat }
         ensures worked { HasWorked 1 self.old.seat self.new.seat }
+        ensures swept { IsSwept stripe self.old.seat self.new.seat }
         ensures claim { self.new.claim ≡ self.old.claim }
     {
         let mut held = match lock.lock(rt, &mut self.seat) {
@@ -66,7 +67,8 @@ impl<S: Store> Worker<S> {
     }
 
     /// Claims stripes until none is left, and copies each once; a stripe that is refused is left. Then it finishes the merge, and answers what
-    /// that answered. It draws a ticket for each stripe that it claims, and one to finish.
+    /// that answered. It draws a ticket for each stripe that it claims, and one to finish. Each of these stripes is copied then, or what stopped
+    /// that shows.
     pub fn sweep<T: Wait, G: Gate>(
         &mut self,
         rt: &T,
@@ -77,6 +79,7 @@ impl<S: Store> Worker<S> {
         requires own { IsFree lock.now self.old.seat }
         requires counter { self.old.claim.counter ≡ claims.now }
         ensures worked { HasWorked (claims.now.limit + 1) self.old.seat self.new.seat }
+        ensures swept { AreSwept self.old.claim.numbers self.new.claim.numbers self.old.seat self.new.seat }
         ensures closed { self.new.claim.is_closed ≡ true }
         ensures family { self.new.claim.family ≡ self.old.claim.family }
         ensures counter { self.new.claim.counter ≡ self.old.claim.counter }

@@ -21,7 +21,9 @@ use Rattle.shared_chain.specs.declared.basis.Breach.{Breach}
 use Rattle.shared_chain.specs.declared.basis.Step.{Step}
 use Rattle.shared_chain.specs.declared.basis.Step.TheVariants.{Broke, Done}
 use Rattle.shared_chain.specs.Answers.{IsBroke, IsCalled, IsCausedIn, IsEntered, RepliesBehind}
-use Rattle.shared_chain.specs.Bases.{Contains, basis_of}
+use Rattle.merge_core.specs.Copied.{marks_of}
+use Rattle.merge_core.specs.declared.marks.Marks.{Marks}
+use Rattle.shared_chain.specs.Bases.{Contains, HasStripe, basis_of, marked_below}
 use Rattle.shared_chain.specs.Laws.{contains_through}
 use Rattle.shared_chain.specs.Shared.{Shared}
 use Rattle.shared_chain.specs.Steps.{breach_of, broke_after, done_steps, first_breach, steps_of}
@@ -116,7 +118,7 @@ module _ {S T : Type 0} where
   module _ (disk : S → Disk) (who : Caller) (call : Call) (r : Reply) (before after locked : Known Step (Basis S T)) (old new : Shared (Chain S KeepAll T)) (answer : Result ℕ ChainRefusal)
       (turn : HasTurn Contains before after locked (told_of old) (basis_of disk old)) (k : IsCalled disk who call old new answer) where
     covers : Contains (basis_of disk new) (basis_of disk old)
-    covers = record { first = ap Some k.first; notes = λ n h. (k.noted n).1 (inr h); events = omega (arith, k.answered.events, counted_high old.chain.events) }
+    covers = record { first = ap Some k.first; notes = λ n h. (k.noted n).1 (inr h); events = omega (arith, k.answered.events, counted_high old.chain.events); stripes = ap (λ (m : Marks). m.stripes) k.copied; copied = λ t h. subst (λ (m : Marks). HasStripe t (marked_below (marks_of m) m.stripes)) (sym k.copied) h; finished = λ e. k.finished ∙ e }
 
     little : new.chain.events ≤ old.chain.events + 2
     little = omega (arith, k.answered.events, counted_low old.chain.events)

@@ -279,7 +279,7 @@ module _ {S T : Type 0} (disk : S → Disk) (first : Chain S KeepAll T) where
     h = v.chain.recorder
 
     pub first_is : v.first ≡ first
-    first_is = some_same (basis.first ∙ j.knows.first)
+    first_is = some_same (basis.first ∙ j.knows.began)
 
     -- what a seat has seen is the history, with what broke the session
     as_history : {xs : List Step} → StartsWith seat.seen xs → StartsWith (steps_of h broke) xs

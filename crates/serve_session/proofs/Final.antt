@@ -28,7 +28,10 @@ use Rattle.turn_lock.specs.Seats.{Known, TableId, first_seat}
 use Rattle.shared_chain.specs.declared.basis.Basis.{Basis}
 use Rattle.shared_chain.specs.declared.basis.Note.TheVariants as notes
 use Rattle.shared_chain.specs.declared.basis.Step.{Step}
-use Rattle.shared_chain.specs.Bases.{Contains, basis_of, notes_in}
+use Rattle.merge_core.specs.Copied.{marks_of}
+use Rattle.shared_chain.proofs.Marked.{marked_more}
+use Rattle.shared_chain.specs.Bases.{Contains, HasStripe, basis_of, marked_below, notes_in, notes_of}
+use Rattle.shared_chain.specs.Notes.{HasNote}
 use Rattle.shared_chain.specs.Laws.{contains_itself, contains_through}
 use Rattle.script_session.specs.Running.{IsEnded, open_by}
 use Rattle.shared_chain.specs.Closing.{LeavesHistory}
@@ -40,7 +43,7 @@ use Rattle.shared_chain.specs.declared.basis.Breach.{Breach}
 use Rattle.shared_chain.specs.Steps.{broke_after, first_breach, merge_breach, open_by as opens_by, steps_of}
 use Rattle.script_session.specs.Histories.{Break}
 use Rattle.serve_session.specs.declared.actor.Actor.{Actor}
-use Rattle.serve_session.specs.Actors.{AreJoined, HasRun, first_basis}
+use Rattle.serve_session.specs.Actors.{AreJoined, HasRun, IsFrom, first_notes}
 use Rattle.serve_session.specs.Lists.{AreActors, AreFresh, IsReady, RunsEach, with_splits}
 use Rattle.serve_session.specs.MergeServed.{StopsMerge}
 use Rattle.serve_session.specs.Served.{EachGuest, IsBreakOf, IsTranscript, Outcome, all_told, greatest_from, guest_count}
@@ -72,12 +75,12 @@ none_under layers none = ap₂ (λ (o : Option Underway) (r : Option Retiring). 
 
 module _ {S T : Type 0} (disk : S → Disk) where
   -- the first seat of a lock over a chain whose session has just begun
-  module _ (v : Shared (Chain S KeepAll T)) (fresh : v ≡ record { chain = v.first; first = v.first; full = None; broke = None; fault = None }) (whole : v.first.broken ≡ None) (lock : TableId) (made : Known Step (Basis S T)) (is : made ≡ first_seat lock 0 (basis_of disk v)) where
-    fresh_basis : basis_of disk v ≡ first_basis disk v.first
-    fresh_basis = ap (basis_of disk) fresh ∙ ap (λ (b : Option StoreFault). record { first = Some v.first; notes = notes_in (disk v.first.store) b None; events = v.first.events }) whole
+  module _ (v : Shared (Chain S KeepAll T)) (fresh : v ≡ record { chain = v.first; first = v.first; full = None; broke = None; fault = None; copied = v.copied; finished = false }) (whole : v.first.broken ≡ None) (lock : TableId) (made : Known Step (Basis S T)) (is : made ≡ first_seat lock 0 (basis_of disk v)) where
+    fresh_notes : notes_of disk v ≡ first_notes disk v.first
+    fresh_notes = ap (notes_of disk) fresh ∙ ap (λ (b : Option StoreFault). notes_in (disk v.first.store) b None) whole
 
-    made_knows : Contains made.basis (first_basis disk v.first)
-    made_knows = subst (λ (b : Basis S T). Contains b (first_basis disk v.first)) (sym (ap (λ (s : Known Step (Basis S T)). s.basis) is ∙ fresh_basis)) (contains_itself (first_basis disk v.first))
+    made_knows : IsFrom disk v.first made.basis
+    made_knows = subst (λ (s : Known Step (Basis S T)). IsFrom disk v.first s.basis) (sym is) (record { began = refl; notes = λ n h. subst (λ ns. HasNote ns n) (sym fresh_notes) h })
 
     pub made_ready : (n : ℕ) (actors : List (Actor S T)) → AreFresh made n actors → All (IsReady lock) actors
     made_ready n actors h = fresh_ready made lock n actors (ap (λ (s : Known Step (Basis S T)). s.lock) is) h
@@ -118,7 +121,7 @@ module _ {S T : Type 0} (disk : S → Disk) where
       (omega (arith, r, none, j_drawn, k_drawn, guests, workers), omega (arith, w, none, j_drawn, k_drawn, guests, workers))
 
   -- a chain that was just made to be shared
-  pub begun_is : (chain : Chain S KeepAll T) (s : Shared (Chain S KeepAll T)) → s ≡ record { chain = chain; first = chain; full = None; broke = None; fault = None } → IsSound (session_of disk chain) → chain.recorder ≡ [] → chain.broken ≡ None → chain.events ≡ 0 → HasBegun disk s
+  pub begun_is : (chain : Chain S KeepAll T) (s : Shared (Chain S KeepAll T)) → s ≡ record { chain = chain; first = chain; full = None; broke = None; fault = None; copied = s.copied; finished = false } → IsSound (session_of disk chain) → chain.recorder ≡ [] → chain.broken ≡ None → chain.events ≡ 0 → HasBegun disk s
   begun_is chain s is sound empty whole none = subst (HasBegun disk) (sym is) (record { sound = sound; fresh = refl; empty = empty; whole = whole; none = none })
 
   -- ---- the end of a merge
@@ -171,7 +174,7 @@ module _ {S T : Type 0} (disk : S → Disk) where
   ended_so true mid v merged e = record {
     first = e.stepped.first;
     history = e.stepped.history;
-    basis = record { first = ap Some e.stepped.first; notes = λ n h. (e.stepped.noted n).1 (inr h); events = e.stepped.later };
+    basis = record { first = ap Some e.stepped.first; notes = λ n h. (e.stepped.noted n).1 (inr h); events = e.stepped.later; stripes = e.stepped.stripes; copied = λ t h. subst (λ n. HasStripe t (marked_below (marks_of v.copied) n)) (sym e.stepped.stripes) (marked_more (marks_of mid.copied) (marks_of v.copied) mid.copied.stripes t (λ u m. e.stepped.copied u ∙ m) h); finished = λ k. e.stepped.finished };
     broke = merge_broke mid v merged e.stepped.broke;
     finished = λ some. on_ok_weaker merged (none_under v.chain.layers) e.done;
     stopped = e.stopped;

@@ -38,7 +38,7 @@ use Rattle.shared_chain.specs.Laws.{contains_through}
 use Rattle.shared_chain.specs.Notes.{HasNote}
 use Rattle.shared_chain.specs.Steps.{breach_of, done_steps, open_by}
 use Rattle.guest_io.specs.Guests.{Answers, HasBroken, IsCall, IsDone, caller_of}
-use Rattle.serve_session.specs.Actors.{AreHeard, BreaksAt, HasBreacher, HasHeard, HasPlace, IsHeard, IsHeardOf, OwnsAt, first_basis}
+use Rattle.serve_session.specs.Actors.{AreHeard, BreaksAt, HasBreacher, HasHeard, HasPlace, IsHeard, IsHeardOf, IsFrom, OwnsAt}
 use Rattle.serve_session.specs.Asking.{IsAsked, asks_too_many, count_of, emptied, is_want, outcome_of, reply_in, shown_in}
 use Rattle.serve_session.specs.Served.{Has, IsRising, Outcome, call_of, entry_of, places_in}
 use Rattle.serve_session.proofs.Guests.{all_below, breaker_last, breaker_left, has_last, has_left, places_snoc, rising_snoc}
@@ -78,6 +78,10 @@ owns_still seen more p guest forms outcomes starts (inl h) = inl h
 owns_still seen more p guest forms outcomes starts (inr b) = inr (record { before = b.before; breach = b.breach; begins = starts-through more seen _ starts b.begins; place_is = b.place_is; breaker = b.breaker })
 
 module _ {S T : Type 0} (disk : S → Disk) (first : Chain S KeepAll T) where
+  -- of the session that began with the chain is also what contains a basis of it
+  pub from_through : (more basis : Basis S T) → Contains more basis → IsFrom disk first basis → IsFrom disk first more
+  from_through more basis c h = record { began = c.first ∙ h.began; notes = λ n k. c.notes n (h.notes n k) }
+
   -- a seat knows all that another does, of what refuses calls
   pub record Knows (more seat : Known Step (Basis S T)) : Type 0 where
     pub notes : (n : Note) → HasNote seat.basis.notes n → HasNote more.basis.notes n
@@ -158,8 +162,8 @@ module _ {S T : Type 0} (disk : S → Disk) (first : Chain S KeepAll T) where
     who = caller_of guest number
 
     module _ (seen : StartsWith new.seen old.seen) (basis : Contains new.basis old.basis) (refusals : old.refusals ≤ new.refusals) where
-      knows_now : Contains new.basis (first_basis disk first)
-      knows_now = contains_through new.basis old.basis (first_basis disk first) basis hears.knows
+      knows_now : IsFrom disk first new.basis
+      knows_now = from_through new.basis old.basis basis hears.knows
 
       old_heard : (fs : List Form) → AreHeard disk first new guest 1 (forms ++ fs) outcomes
       old_heard fs = heard_more new guest 1 forms fs outcomes (all_heard_later old new guest 1 forms outcomes seen (knows_more new old basis refusals) hears.heard)
@@ -231,8 +235,8 @@ module _ {S T : Type 0} (disk : S → Disk) (first : Chain S KeepAll T) where
               before = d.before;
               begins = starts;
               place_is = d.place_is;
-              placed = subst (λ o. IfSome o (λ (chain : Chain S KeepAll T). misplaced (call_of form) chain.layers ≡ None)) knows_now.first d.placed;
-              replies = subst (λ o. IfSome o (λ (chain : Chain S KeepAll T). RepliesBehind disk chain d.before (call_of form) r)) knows_now.first d.replies;
+              placed = subst (λ o. IfSome o (λ (chain : Chain S KeepAll T). misplaced (call_of form) chain.layers ≡ None)) knows_now.began d.placed;
+              replies = subst (λ o. IfSome o (λ (chain : Chain S KeepAll T). RepliesBehind disk chain d.before (call_of form) r)) knows_now.began d.replies;
             }
 
             earlier : (p : ℕ) → Has p (places_in outcomes) → p < place
@@ -276,7 +280,7 @@ module _ {S T : Type 0} (disk : S → Disk) (first : Chain S KeepAll T) where
         stays x heard same = refused x heard (λ p own. inl (subst (λ ms. 0 < times p ms) same own))
 
         at_place : (x : Option ChainRefusal) (call : Call) → IfSome new.basis.first (λ (chain : Chain S KeepAll T). misplaced call chain.layers ≡ x) → misplaced call first.layers ≡ x
-        at_place x call h = subst (λ o. IfSome o (λ (chain : Chain S KeepAll T). misplaced call chain.layers ≡ x)) knows_now.first h
+        at_place x call h = subst (λ o. IfSome o (λ (chain : Chain S KeepAll T). misplaced call chain.layers ≡ x)) knows_now.began h
 
         -- what is kept of it
         abbrev kept_outcomes : Reply → Result ℕ ChainRefusal → List Outcome
@@ -307,7 +311,7 @@ module _ {S T : Type 0} (disk : S → Disk) (first : Chain S KeepAll T) where
         by_call r (Err (Broken file count)) a = broken (call_of form) own_opens file count a.1 a.0
         by_call r (Err (Spent t)) a = stays (Spent t) a.1 a.0
         by_call r (Err (FileFull next)) a =
-            stays (FileFull next) (at_place None (call_of form) a.1.0, a.1.1, subst (λ o. IfSome o (λ (chain : Chain S KeepAll T). StopsOver disk chain (call_of form) (FileFull next))) knows_now.first a.1.2) a.0
+            stays (FileFull next) (at_place None (call_of form) a.1.0, a.1.1, subst (λ o. IfSome o (λ (chain : Chain S KeepAll T). StopsOver disk chain (call_of form) (FileFull next))) knows_now.began a.1.2) a.0
         by_call r (Err (ReadFault file count)) a =
             stays (ReadFault file count) (at_place None (call_of form) a.1.0, a.1.1, λ was. a.1.2 (hears.knows.notes (notes.ReadFailed file count) was)) a.0
         by_call r (Err NoMerge) a = absurd a.1

@@ -24,12 +24,12 @@ use Rattle.shared_chain.specs.declared.basis.Step.TheVariants.{Broke}
 use Rattle.turn_lock.proofs.Fronts.{starts-through}
 use Rattle.copy_workers.specs.declared.worker.Worker.{Worker}
 use Rattle.serve_session.specs.declared.actor.Actor.{Actor}
-use Rattle.serve_session.specs.Actors.{AreHeard, AreJoined, HasHeard, HasRun, IsActor, OwnsAt, first_basis}
+use Rattle.serve_session.specs.Actors.{AreHeard, AreJoined, HasHeard, HasRun, IsActor, IsFrom, OwnsAt}
 use Rattle.claims.specs.Seats.{Counter}
 use Rattle.serve_session.specs.Lists.{AreActors, AreFresh, HasDone, IsFresh, IsFreshWorker, IsReady, RunsEach, WorksEach, with_splits}
 use Rattle.serve_session.specs.Served.{EachGuest, IsRising, Outcome, SomeGuest, forms_of, places_in, told_calls, told_guests}
 use Rattle.serve_session.proofs.Guests.{each_map, each_snoc, some_last, some_left, some_map, told_guests_snoc}
-use Rattle.serve_session.proofs.Hearing.{all_heard_later, knows_more, owns_still}
+use Rattle.serve_session.proofs.Hearing.{all_heard_later, from_through, knows_more, owns_still}
 
 -- one more was joined
 pub join_more : (f now new : Family) (n m : ℕ) → now ≡ record f { joins = f.joins + n } → new ≡ with_join now → m ≡ n + 1 → new ≡ record f { joins = f.joins + m }
@@ -73,7 +73,7 @@ module _ {S T : Type 0} where
       go p a none (inr q) = q
 
   module _ (disk : S → Disk) (first : Chain S KeepAll T) (lock : TableId) (names : List (List ℕ)) (lines : List Line) where
-    fresh_actor : (seat : Known Step (Basis S T)) (n : ℕ) (a : Actor S T) → seat.lock ≡ lock → Contains seat.basis (first_basis disk first) → first.layers.geometry.sector ≡ 512 → IsFresh seat n a → IsActor disk first lock names [] a
+    fresh_actor : (seat : Known Step (Basis S T)) (n : ℕ) (a : Actor S T) → seat.lock ≡ lock → IsFrom disk first seat.basis → first.layers.geometry.sector ≡ 512 → IsFresh seat n a → IsActor disk first lock names [] a
     fresh_actor seat n a of_lock knows sector h = record {
       free = (ap (λ (s : Known Step (Basis S T)). s.lock) h.seat ∙ of_lock, ap (λ (s : Known Step (Basis S T)). s.turn) h.seat);
       number = h.guest ∙ sym h.number_is;
@@ -81,7 +81,7 @@ module _ {S T : Type 0} where
       sector = sector;
       outcomes = [];
       hears = record {
-        knows = subst (λ (s : Known Step (Basis S T)). Contains s.basis (first_basis disk first)) (sym h.seat) knows;
+        knows = subst (λ (s : Known Step (Basis S T)). IsFrom disk first s.basis) (sym h.seat) knows;
         heard = tt;
         order = tt;
         owns = λ p own. absurd (none p (subst (λ ms. 0 < times p ms) (ap (λ (s : Known Step (Basis S T)). s.mine) h.seat) own));
@@ -94,7 +94,7 @@ module _ {S T : Type 0} where
         none p less = absurd (omega (arith, less))
 
     -- and those that have made all
-    pub all_run : (seat : Known Step (Basis S T)) (n : ℕ) (old new : List (Actor S T)) → seat.lock ≡ lock → Contains seat.basis (first_basis disk first) → first.layers.geometry.sector ≡ 512 → AreFresh seat n old
+    pub all_run : (seat : Known Step (Basis S T)) (n : ℕ) (old new : List (Actor S T)) → seat.lock ≡ lock → IsFrom disk first seat.basis → first.layers.geometry.sector ≡ 512 → AreFresh seat n old
         → RunsEach disk lock names lines old new → AreActors (HasRun disk first lock names lines) n new
     all_run seat n [] [] of_lock knows sector h runs = tt
     all_run seat n [] (b ∷ new) of_lock knows sector h runs = absurd (omega (arith, runs.count))
@@ -116,7 +116,7 @@ module _ {S T : Type 0} where
     -- ---- joining
 
     -- no seat was joined yet
-    pub none_joined : (seat : Known Step (Basis S T)) → IsFree lock seat → seat.family.is_first ≡ true → Contains seat.basis (first_basis disk first) → seat.mine ≡ [] → AreJoined disk first false lock names lines seat [] false []
+    pub none_joined : (seat : Known Step (Basis S T)) → IsFree lock seat → seat.family.is_first ≡ true → IsFrom disk first seat.basis → seat.mine ≡ [] → AreJoined disk first false lock names lines seat [] false []
     none_joined seat free leads knows mine = record {
       free = free;
       leads = leads;
@@ -168,7 +168,7 @@ module _ {S T : Type 0} where
       one_joined = record {
         free = (ap (λ (s : Known Step (Basis S T)). s.lock) both ∙ j.free.0, ap (λ (s : Known Step (Basis S T)). s.turn) both ∙ j.free.1);
         leads = ap (λ (s : Known Step (Basis S T)). s.family.is_first) both ∙ j.leads;
-        knows = contains_through new.basis seat.basis (first_basis disk first) basis.0 j.knows;
+        knows = from_through disk first new.basis seat.basis basis.0 j.knows;
         heard = each_snoc (Heard new) 1 guests run.outcomes
             (each_map (Heard seat) (Heard new) 1 guests (λ g os. all_heard_later disk first seat new g 1 (forms_of g lines) os seen.0 (knows_more disk first new seat basis.0 refused.0)) j.heard)
             (all_heard_later disk first a.guest.seat new (1 + length guests) 1 (forms_of (1 + length guests) lines) run.outcomes seen.1 (knows_more disk first new a.guest.seat basis.1 refused.1) hears.heard);
@@ -229,7 +229,7 @@ module _ {S T : Type 0} where
       worker_joined = record {
         free = (ap (λ (s : Known Step (Basis S T)). s.lock) both ∙ j.free.0, ap (λ (s : Known Step (Basis S T)). s.turn) both ∙ j.free.1);
         leads = ap (λ (s : Known Step (Basis S T)). s.family.is_first) both ∙ j.leads;
-        knows = contains_through new.basis seat.basis (first_basis disk first) basis.0 j.knows;
+        knows = from_through disk first new.basis seat.basis basis.0 j.knows;
         heard = each_map (Hears seat) (Hears new) 1 guests (λ g os. all_heard_later disk first seat new g 1 (forms_of g lines) os seen.0 (knows_more disk first new seat basis.0 refused_too)) j.heard;
         order = j.order;
         owns = worker_owns;

@@ -51,8 +51,10 @@ module _ {S T : Type 0} (disk : S → Disk) (first : Chain S KeepAll T) where
   abbrev pub first_notes : List Note
   first_notes = notes_in (disk first.store) None None
 
-  abbrev pub first_basis : Basis S T
-  first_basis = record { first = Some first; notes = first_notes; events = first.events }
+  -- of the session that began with this chain, with all that was noted then
+  pub record IsFrom (basis : Basis S T) : Type 0 where
+    pub began : basis.first ≡ Some first
+    pub notes : (n : Note) → HasNote first_notes n → HasNote basis.notes n
 
   -- A call was done: it stands in the history, behind others, and its reply is that of the disk with these.
   pub record HasPlace (seen : List Step) (guest number : ℕ) (call : Call) (done : ℕ × Reply) : Type 0 where
@@ -112,7 +114,7 @@ called_form form = if is_call form then form ∷ [] else []
 module _ {S T : Type 0} (disk : S → Disk) (first : Chain S KeepAll T) where
   -- What a guest with this seat was told of its calls, and nothing else is its own. It drew a ticket for each of them at most.
   pub record HasHeard (guest : ℕ) (forms : List Form) (seat : Known Step (Basis S T)) (outcomes : List Outcome) : Type 0 where
-    pub knows : Contains seat.basis (first_basis disk first)
+    pub knows : IsFrom disk first seat.basis
     pub heard : AreHeard disk first seat guest 1 forms outcomes
     pub order : IsRising (places_in outcomes)
     pub owns : (p : ℕ) → 0 < times p seat.mine → OwnsAt seat.seen p guest forms outcomes
@@ -144,7 +146,7 @@ module _ {S T : Type 0} (disk : S → Disk) (first : Chain S KeepAll T) where
   pub record AreJoined (merges : Bool) (lock : TableId) (names : List (List ℕ)) (lines : List Line) (seat : Known Step (Basis S T)) (told : List (List ToldCall)) (short : Bool) (guests : List (List Outcome)) : Type 0 where
     pub free : IsFree lock seat
     pub leads : seat.family.is_first ≡ true
-    pub knows : Contains seat.basis (first_basis disk first)
+    pub knows : IsFrom disk first seat.basis
     pub heard : EachGuest (λ guest outcomes. AreHeard disk first seat guest 1 (forms_of guest lines) outcomes) 1 guests
     pub order : EachGuest (λ guest outcomes. IsRising (places_in outcomes)) 1 guests
     pub owns : (p : ℕ) → 0 < times p seat.mine → IsOwned merges seat.seen p lines guests

@@ -44,7 +44,7 @@ IsUpTo (Some most) n = n ≤ most
 -- a shared chain whose session has just begun, with no call
 pub record HasBegun {S T : Type 0} (disk : S → Disk) (s : Shared (Chain S KeepAll T)) : Type 0 where
   pub sound : IsSound (session_of disk s.first)
-  pub fresh : s ≡ record { chain = s.first; first = s.first; full = None; broke = None; fault = None }
+  pub fresh : s ≡ record { chain = s.first; first = s.first; full = None; broke = None; fault = None; copied = s.copied; finished = false }
   pub empty : s.first.recorder ≡ []
   pub whole : s.first.broken ≡ None
   pub none : s.first.events ≡ 0

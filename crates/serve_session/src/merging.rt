@@ -82,7 +82,7 @@ where
     requires workers { length pieces.items ≤ 64 }
     ensures { HasServed S.disk true chain (map N.text names.now) lines.now result.1 (S.disk result.0) }
 {
-    match SharedChain::new(alloc, chain) {
+    match SharedChain::new(alloc, chain, stripes) {
         Ok(chain) => serve(
             rt,
             alloc,

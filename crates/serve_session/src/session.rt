@@ -58,7 +58,7 @@ where
         Err((store, refusal)) => return (store, Err(refusal)),
     };
     let none = Vec::new(alloc);
-    let (store, served) = match SharedChain::new(alloc, chain) {
+    let (store, served) = match SharedChain::new(alloc, chain, 0) {
         Ok(chain) => serve(rt, alloc, chain, names, lines, rooms, 0, none, None, gate),
         Err((store, closed)) => (store, unserved(closed)),
     };

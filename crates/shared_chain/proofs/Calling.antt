@@ -1,5 +1,5 @@
 -- All that a call of a shared chain leaves.
-use Rattle.std.proofs.Common.{◌≡◌, ◌++◌, ◌∷◌, ℕ, [], Option, Some, None, Result, Ok, Err, refl, sym, ap, subst, ◌∙◌, arith}
+use Rattle.std.proofs.Common.{Bool, List, ◌≡◌, ◌++◌, ◌∷◌, ℕ, [], Option, Some, None, Result, Ok, Err, refl, sym, ap, subst, ◌∙◌, arith}
 use Rattle.std.specs.Prelude.{IfSome, OnOk, is_some}
 use Rattle.store_model.specs.Disk.{Disk, WhereTold}
 use Rattle.guest_model.specs.declared.call.Call.{Call}
@@ -24,7 +24,9 @@ use Rattle.shared_chain.specs.Faults.{fault_after}
 use Rattle.shared_chain.specs.Steps.{breach_of, broke_after}
 use Rattle.script_session.specs.Answers.{HasCauseOf}
 use Rattle.shared_chain.specs.Answers.{Answered, IsBroke, IsCalled, IsCausedIn, IsEntered, RepliesBehind}
-use Rattle.shared_chain.specs.Bases.{notes_in}
+use Rattle.merge_core.specs.Copied.{marks_of}
+use Rattle.merge_core.specs.declared.marks.Marks.{Marks}
+use Rattle.shared_chain.specs.Bases.{marked_below, notes_in}
 use Rattle.shared_chain.specs.Homes.{IsHome, session_of}
 use Rattle.shared_chain.specs.Shared.{Shared}
 use Rattle.shared_chain.specs.Notes.{NotesBy, full_after}
@@ -124,38 +126,44 @@ module _ {S T : Type 0} (disk : S → Disk) (old new : Chain S KeepAll T) where
               subst (λ r. IsChange r before.disk after.disk before.broken after.broken) (sym e.0)
               (subst (λ (s : Session). IsChange (Err x) before.disk s.disk before.broken s.broken) (sym e.1) (early_change call before x (early call before x is)))
 
-      module _ (full : Option ℕ) (is_full : full ≡ full_after old_full answer) where
+      module _ (full : Option ℕ) (copied : Marks) (finished : Bool) (is_full : full ≡ full_after old_full answer) where
+        abbrev stripes : ℕ
+        stripes = copied.stripes
+
+        abbrev copied_list : List ℕ
+        copied_list = marked_below (marks_of copied) copied.stripes
+
         notes_by : NotesBy answer (notes_in before.disk before.broken old_full) (notes_in after.disk after.broken full)
         notes_by =
             subst (λ f. NotesBy answer (notes_in before.disk before.broken old_full) (notes_in after.disk after.broken f)) (sym is_full)
             (noted before.disk after.disk before.broken after.broken old_full answer changes)
 
-        caused : IsCausedIn disk call (record { first = Some first; notes = notes_in before.disk before.broken old_full; events = before.events }) (record { first = Some first; notes = notes_in after.disk after.broken full; events = after.events }) answer
+        caused : IsCausedIn disk call (record { first = Some first; notes = notes_in before.disk before.broken old_full; events = before.events; stripes = stripes; copied = copied_list; finished = finished }) (record { first = Some first; notes = notes_in after.disk after.broken full; events = after.events; stripes = stripes; copied = copied_list; finished = finished }) answer
         caused = go (refused call before) refl
           where
             place : misplaced call first.layers ≡ misplaced call old.layers
             place = same_place call old.layers first.layers home.geometry home.session
 
             go : (o : Option ChainRefusal) → refused call before ≡ o
-                → IsCausedIn disk call (record { first = Some first; notes = notes_in before.disk before.broken old_full; events = before.events }) (record { first = Some first; notes = notes_in after.disk after.broken full; events = after.events }) answer
+                → IsCausedIn disk call (record { first = Some first; notes = notes_in before.disk before.broken old_full; events = before.events; stripes = stripes; copied = copied_list; finished = finished }) (record { first = Some first; notes = notes_in after.disk after.broken full; events = after.events; stripes = stripes; copied = copied_list; finished = finished }) answer
             go None is =
-                reached_caused disk call first before after old_full full place answer (not_early call before is).1 (reached call before after answer home.sound is a.cause) notes_by
+                reached_caused disk call first before after old_full full stripes copied_list finished place answer (not_early call before is).1 (reached call before after answer home.sound is a.cause) notes_by
                 (λ next e. stops_over (session_of disk first) before after old.recorder old_full broke fault home who call answer a is next e)
             go (Some x) is =
                 let e = subst (λ o. IfSome o (λ x. (answer ≡ Err x) × (after ≡ record before { events = counted before.events }))) is a.early in
-                subst (IsCausedIn disk call (record { first = Some first; notes = notes_in before.disk before.broken old_full; events = before.events }) (record { first = Some first; notes = notes_in after.disk after.broken full; events = after.events })) (sym e.0)
-                (early_caused disk call first before after old_full full place x (omega (arith, a.events, counted_high before.events)) (early call before x is)
+                subst (IsCausedIn disk call (record { first = Some first; notes = notes_in before.disk before.broken old_full; events = before.events; stripes = stripes; copied = copied_list; finished = finished }) (record { first = Some first; notes = notes_in after.disk after.broken full; events = after.events; stripes = stripes; copied = copied_list; finished = finished })) (sym e.0)
+                (early_caused disk call first before after old_full full stripes copied_list finished place x (omega (arith, a.events, counted_high before.events)) (early call before x is)
                 (subst (λ r. NotesBy r (notes_in before.disk before.broken old_full) (notes_in after.disk after.broken full)) e.0 notes_by))
 
         abbrev was : Shared (Chain S KeepAll T)
-        was = record { chain = old; first = first; full = old_full; broke = broke; fault = fault }
+        was = record { chain = old; first = first; full = old_full; broke = broke; fault = fault; copied = copied; finished = finished }
 
         module _ (broke' : Option Breach) (fault' : Option StoreFault) (broke_is : broke' ≡ broke_after broke (breach_of who call) answer) (fault_is : fault' ≡ fault_after fault answer) where
           abbrev now : Shared (Chain S KeepAll T)
-          now = record { chain = new; first = first; full = full; broke = broke'; fault = fault' }
+          now = record { chain = new; first = first; full = full; broke = broke'; fault = fault'; copied = copied; finished = finished }
 
           pub called : IsCalled disk who call was now answer
-          called = record { first = refl; entered = entered; broke = subst (λ b. IsBroke (breach_of who call) broke b answer) (sym broke_is) is_broke; fault = fault_is; noted = notes_by; cause = caused; answered = a }
+          called = record { first = refl; entered = entered; broke = subst (λ b. IsBroke (breach_of who call) broke b answer) (sym broke_is) is_broke; fault = fault_is; copied = refl; finished = refl; noted = notes_by; cause = caused; answered = a }
 
           pub called_as : (seen : Shared (Chain S KeepAll T)) → was ≡ seen → IsCalled disk who call seen now answer
           called_as seen is = subst (λ s. IsCalled disk who call s now answer) is called

@@ -1,5 +1,5 @@
 -- The cause of an answer, read off what is noted.
-use Rattle.std.proofs.Common.{◌≡◌, ◌⊎◌, ◌++◌, ◌≤◌, ◌-◌, ◌^◌, ℕ, zero, suc, List, Option, Some, None, Result, Ok, Err, inl, inr, refl, sym, ap₂, subst, ◌∙◌, arith}
+use Rattle.std.proofs.Common.{Bool, ◌≡◌, ◌⊎◌, ◌++◌, ◌≤◌, ◌-◌, ◌^◌, ℕ, zero, suc, List, Option, Some, None, Result, Ok, Err, inl, inr, refl, sym, ap₂, subst, ◌∙◌, arith}
 use Rattle.std.specs.Prelude.{is_some}
 use Rattle.vx_base.specs.declared.parts.Geometry.{Geometry}
 use Rattle.store_model.specs.Cause.{Rose}
@@ -44,7 +44,7 @@ not_in_fault None f c h = absurd h
 not_in_fault (Some x) f c (inl h) = absurd h
 not_in_fault (Some x) f c (inr h) = absurd h
 
-noted_reads : (disk : Disk) (broken : Option StoreFault) (full : Option ℕ) (f c : ℕ) → HasNote (notes_in disk broken full) (notes.ReadFailed f c) → c ≤ disk.failed_reads f
+pub noted_reads : (disk : Disk) (broken : Option StoreFault) (full : Option ℕ) (f c : ℕ) → HasNote (notes_in disk broken full) (notes.ReadFailed f c) → c ≤ disk.failed_reads f
 noted_reads disk broken full f c h = first (of_both (full_notes full) (fault_notes broken ++ reads) n h)
   where
     n : Note
@@ -62,17 +62,17 @@ noted_reads disk broken full f c h = first (of_both (full_notes full) (fault_not
     first (inr k) = second (of_both (fault_notes broken) reads n k)
 
 -- a count that was so great already has come to its end
-at_end : (before now count : ℕ) → Rose before now → count ≡ now → count ≤ before → 2 ^ 64 - 1 ≤ count
+pub at_end : (before now count : ℕ) → Rose before now → count ≡ now → count ≤ before → 2 ^ 64 - 1 ≤ count
 at_end before now count rose told h = omega (arith, rose.later, rose.risen, told, h)
 
 -- ---- causes
 
-module _ {S T : Type 0} (disk : S → Disk) (call : Call) (first : Chain S KeepAll T) (old new : Session) (old_full full : Option ℕ) where
+module _ {S T : Type 0} (disk : S → Disk) (call : Call) (first : Chain S KeepAll T) (old new : Session) (old_full full : Option ℕ) (stripes : ℕ) (copied : List ℕ) (finished : Bool) where
   abbrev before : Basis S T
-  before = record { first = Some first; notes = notes_in old.disk old.broken old_full; events = old.events }
+  before = record { first = Some first; notes = notes_in old.disk old.broken old_full; events = old.events; stripes = stripes; copied = copied; finished = finished }
 
   abbrev after : Basis S T
-  after = record { first = Some first; notes = notes_in new.disk new.broken full; events = new.events }
+  after = record { first = Some first; notes = notes_in new.disk new.broken full; events = new.events; stripes = stripes; copied = copied; finished = finished }
 
   module _ (place : misplaced call first.layers ≡ misplaced call old.layers) where
     at_place : (x : ChainRefusal) → IsPlaceRefusal x → misplaced call old.layers ≡ Some x → IsCausedIn disk call before after (Err x)

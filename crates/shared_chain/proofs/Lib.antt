@@ -12,3 +12,4 @@ mod Calling
 mod Ended
 pub mod Breaking
 mod Counting
+pub mod Marked

@@ -35,16 +35,18 @@ use Rattle.script_session.proofs.Room.{each_stripe}
 use Rattle.script_session.proofs.Telling.{both_told}
 use Rattle.script_session.proofs.Turns.{sound_of, turn_events}
 use Rattle.shared_chain.specs.declared.basis.Breach.{Breach}
+use Rattle.shared_chain.specs.declared.basis.Note.{Note}
 use Rattle.shared_chain.specs.declared.basis.Note.TheVariants as notes
 use Rattle.shared_chain.specs.Bases.{notes_in, notes_of}
 use Rattle.shared_chain.specs.Ends.{EndsMerge, copy_stopped, finish_done, finish_stopped, none_found, none_left}
 use Rattle.shared_chain.specs.Faults.{fault_after}
 use Rattle.shared_chain.specs.Homes.{Follows, IsHome, session_of}
-use Rattle.shared_chain.specs.Merging.{IsMerged, IsStepped, StopsEnd, as_answer}
+use Rattle.shared_chain.specs.Merging.{IsMerged, IsStepped, MergeStep, StopsCopy, StopsEnd, as_answer, copied_behind, ends, finished_behind, most_events}
 use Rattle.shared_chain.specs.Notes.{HasNote, NotesBy, full_after, noted_in}
 use Rattle.shared_chain.specs.Shared.{Shared}
 use Rattle.shared_chain.specs.Steps.{broke_after, merge_breach}
 use Rattle.shared_chain.proofs.Breaking.{none_broke}
+use Rattle.shared_chain.proofs.Causing.{at_end, noted_reads}
 use Rattle.shared_chain.proofs.Filling.{second_told}
 use Rattle.shared_chain.proofs.Noting.{IsChange, Stays, noted}
 use Rattle.shared_chain.proofs.Stepping.{IsQuiet, StepOf, finish_quiet, finish_step, home_quiet, home_step, keeps_both, quiet_change, same_err, step_change, turn_step}
@@ -149,19 +151,20 @@ end_carries old slot new _ (finish_stopped mid left x other s h f) sound =
 
 -- ---- what a step leaves of the shared chain
 
-module _ {S T : Type 0} (disk : S → Disk) (old new first : Chain S KeepAll T) (answer : Result (Unit {0}) ChainRefusal) (full full' : Option ℕ) (broke broke' : Option Breach) (fault fault' : Option StoreFault) (full_is : full' ≡ full_after full (as_answer answer))
+module _ {S T : Type 0} (disk : S → Disk) (old new first : Chain S KeepAll T) (answer : Result (Unit {0}) ChainRefusal) (full full' : Option ℕ) (broke broke' : Option Breach) (fault fault' : Option StoreFault) (copied copied' : Marks) (finished finished' : Bool) (full_is : full' ≡ full_after full (as_answer answer))
     (broke_is : broke' ≡ broke_after broke merge_breach (as_answer answer)) (fault_is : fault' ≡ fault_after fault (as_answer answer)) (c : Carries (session_of disk old) (session_of disk new) answer) where
   abbrev was : Shared (Chain S KeepAll T)
-  was = record { chain = old; first = first; full = full; broke = broke; fault = fault }
+  was = record { chain = old; first = first; full = full; broke = broke; fault = fault; copied = copied; finished = finished }
 
   abbrev now : Shared (Chain S KeepAll T)
-  now = record { chain = new; first = first; full = full'; broke = broke'; fault = fault' }
+  now = record { chain = new; first = first; full = full'; broke = broke'; fault = fault'; copied = copied'; finished = finished' }
 
   history : new.recorder ≡ old.recorder
   history = some_same {x = new.recorder} {y = old.recorder} c.keeps.told
 
-  stepped : (most : ℕ) → new.events ≤ old.events + most → IsStepped disk most was now answer
-  stepped most few = record {
+  stepped : (step : MergeStep) → new.events ≤ old.events + most_events step → copied'.stripes ≡ copied.stripes → ((t : ℕ) → marks_of copied' t ≡ copied_behind step answer copied t) → finished' ≡ finished_behind step answer finished
+      → IsStepped disk step was now answer
+  stepped step few stripes_are copied_are finished_is = record {
     first = refl;
     history = history;
     broke = broke_is;
@@ -169,13 +172,17 @@ module _ {S T : Type 0} (disk : S → Disk) (old new first : Chain S KeepAll T) 
     full = full_is;
     later = c.later;
     few = few;
+    stripes = stripes_are;
+    copied = copied_are;
+    finished = finished_is;
     noted =
         subst (λ f. NotesBy (as_answer answer) (notes_of disk was) (notes_in (disk new.store) new.broken f)) (sym full_is)
         (noted (disk old.store) (disk new.store) old.broken new.broken full (as_answer answer) c.change);
   }
 
-  pub stepped_as : (most : ℕ) → new.events ≤ old.events + most → (seen : Shared (Chain S KeepAll T)) → was ≡ seen → IsStepped disk most seen now answer
-  stepped_as most few seen is = subst (λ s. IsStepped disk most s now answer) is (stepped most few)
+  pub stepped_as : (step : MergeStep) → new.events ≤ old.events + most_events step → copied'.stripes ≡ copied.stripes → ((t : ℕ) → marks_of copied' t ≡ copied_behind step answer copied t) → finished' ≡ finished_behind step answer finished
+      → (seen : Shared (Chain S KeepAll T)) → was ≡ seen → IsStepped disk step seen now answer
+  stepped_as step few stripes_are copied_are finished_is seen is = subst (λ s. IsStepped disk step s now answer) is (stepped step few stripes_are copied_are finished_is)
 
   pub home_as : IsHome (session_of disk first) (session_of disk old) old.recorder full broke fault → IsHome (session_of disk first) (session_of disk new) new.recorder full' broke' fault'
   home_as home =
@@ -381,6 +388,52 @@ fetch_stops stripe old new left x next h = go (fetch_refused stripe old) refl
 turn_stops : (stripe : ℕ) (answer : Result (Unit {0}) ChainRefusal) (x : ChainRefusal) (old new : Session) → answer ≡ Err x → IsNext stripe old → AnswersTurn stripe answer old new → EndsBy new x
 turn_stops stripe _ x _ _ is next (not_fetched e old new left h) = subst (EndsBy new) (same_err {T = Unit {0}} e x is) (fetch_stops stripe old new left e next h)
 turn_stops stripe _ x _ _ is next (fetched_and answer stamp old mid new piece h p) = put_stops stripe stamp old mid new piece x h (subst (λ r. AnswersPut piece r mid new) is p)
+
+-- what stops a turn of a copy, by the session before it and behind it
+data TurnEnds (stripe : ℕ) (old new : Session) : ChainRefusal → Type 0 where
+  turn_spent : (t : ℕ) → 2 ^ 63 ≤ t → t ≤ new.events → TurnEnds stripe old new (Spent t)
+  turn_broken : (file count : ℕ) → TurnEnds stripe old new (Broken file count)
+  turn_read : (file count : ℕ) → TurnEnds stripe old new (ReadFault file count)
+  turn_full : (next : ℕ) → TurnEnds stripe old new (FileFull next)
+  turn_none : HasNoMerge new.layers → TurnEnds stripe old new NoMerge
+  turn_past : (s n : ℕ) → s ≡ stripe → n ≤ stripe → n ≡ stripe_count new.layers.geometry.sector new.layers.geometry.sectors → TurnEnds stripe old new (NoStripe s n)
+
+no_merge_is : (layers : Layers) → has_merge layers ≡ false → HasNoMerge layers
+no_merge_is layers is = has_none layers (ap (λ b. if b then None else Some NoMerge) is)
+
+turn_early : (stripe : ℕ) (old new : Session) (e : ChainRefusal) → IsUnchanged old new → old.events ≤ new.events → fetch_refused stripe old ≡ Some e → TurnEnds stripe old new e
+turn_early stripe old new e same grown is = go (nat_lt old.events (2 ^ 63)) refl old.broken (has_merge old.layers) refl (nat_lt stripe (stripe_count old.layers.geometry.sector old.layers.geometry.sectors)) refl is
+  where
+    layers_are : new.layers ≡ old.layers
+    layers_are = ap (λ (s : Session). s.layers) same
+
+    go : (few : Bool) → nat_lt old.events (2 ^ 63) ≡ few → (broken : Option StoreFault) → (merge : Bool) → has_merge old.layers ≡ merge → (below : Bool) → nat_lt stripe (stripe_count old.layers.geometry.sector old.layers.geometry.sectors) ≡ below
+        → or_else (if few then broken_by broken else Some (Spent old.events)) (if merge then (if below then None else Some (NoStripe stripe (stripe_count old.layers.geometry.sector old.layers.geometry.sectors))) else Some NoMerge) ≡ Some e → TurnEnds stripe old new e
+    go false few broken merge m below b is = subst (TurnEnds stripe old new) (some_same {x = Spent old.events} {y = e} is) (turn_spent old.events (let high = ltb-false old.events (2 ^ 63) few in omega (arith, high)) grown)
+    go true few (Some f) merge m below b is = subst (TurnEnds stripe old new) (some_same {x = Broken f.file f.count} {y = e} is) (turn_broken f.file f.count)
+    go true few None false m below b is = subst (TurnEnds stripe old new) (some_same {x = NoMerge} {y = e} is) (turn_none (subst HasNoMerge (sym layers_are) (no_merge_is old.layers m)))
+    go true few None true m true b is = absurd (none_some is)
+    go true few None true m false b is =
+        let n = stripe_count old.layers.geometry.sector old.layers.geometry.sectors in
+        subst (TurnEnds stripe old new) (some_same {x = NoStripe stripe n} {y = e} is)
+        (turn_past stripe n refl (let high = ltb-false stripe n b in omega (arith, high)) (ap (λ (l : Layers). stripe_count l.geometry.sector l.geometry.sectors) (sym layers_are)))
+
+-- what ends a copy ends a turn of it
+of_end : (stripe : ℕ) (old new : Session) (x : ChainRefusal) → EndsBy new x → TurnEnds stripe old new x
+of_end stripe old new _ (by_spent t high low) = turn_spent t high low
+of_end stripe old new _ (by_broken file count is) = turn_broken file count
+of_end stripe old new _ (by_read file count) = turn_read file count
+of_end stripe old new _ (by_full next) = turn_full next
+
+turn_refused : (stripe : ℕ) (answer : Result (Unit {0}) ChainRefusal) (x : ChainRefusal) (old new : Session) → answer ≡ Err x → AnswersTurn stripe answer old new → TurnEnds stripe old new x
+turn_refused stripe _ x _ _ is (not_fetched e old new left h) = subst (TurnEnds stripe old new) (same_err {T = Unit {0}} e x is) (go (fetch_refused stripe old) refl)
+  where
+    go : (o : Option ChainRefusal) → fetch_refused stripe old ≡ o → TurnEnds stripe old new e
+    go (Some f) first =
+        let early = subst (λ o. IfStopped {T = ℕ} o (Err e) (IsUnchanged old new)) first h.early in
+        subst (TurnEnds stripe old new) (sym (same_err {T = ℕ} e f early.0)) (turn_early stripe old new f early.1 h.later first)
+    go None fit = of_end stripe old new e (fetch_ends left old new e (h.cause fit))
+turn_refused stripe _ x _ _ is (fetched_and answer stamp old mid new piece h p) = of_end stripe old new x (put_stops stripe stamp old mid new piece x h (subst (λ r. AnswersPut piece r mid new) is p))
 
 -- ---- a copy
 
@@ -633,17 +686,17 @@ module _ (first : Session) (h : History) (full : Option ℕ) (broke : Option Bre
 
 -- ---- all of it
 
-module _ {S T : Type 0} (disk : S → Disk) (old new first : Chain S KeepAll T) (slot : Piece) (answer : Result (Unit {0}) ChainRefusal) (full full' : Option ℕ) (broke broke' : Option Breach) (fault fault' : Option StoreFault) (full_is : full' ≡ full_after full (as_answer answer))
+module _ {S T : Type 0} (disk : S → Disk) (old new first : Chain S KeepAll T) (slot : Piece) (answer : Result (Unit {0}) ChainRefusal) (full full' : Option ℕ) (broke broke' : Option Breach) (fault fault' : Option StoreFault) (copied copied' : Marks) (finished finished' : Bool) (full_is : full' ≡ full_after full (as_answer answer))
     (broke_is : broke' ≡ broke_after broke merge_breach (as_answer answer)) (fault_is : fault' ≡ fault_after fault (as_answer answer)) (e : EndsMerge (session_of disk old) slot (session_of disk new) answer)
-    (c : Carries (session_of disk old) (session_of disk new) answer) (home : IsHome (session_of disk first) (session_of disk old) old.recorder full broke fault) where
+    (c : Carries (session_of disk old) (session_of disk new) answer) (home : IsHome (session_of disk first) (session_of disk old) old.recorder full broke fault) (copied_is : copied' ≡ copied) (finished_is : finished' ≡ true) where
   abbrev before : Shared (Chain S KeepAll T)
-  before = record { chain = old; first = first; full = full; broke = broke; fault = fault }
+  before = record { chain = old; first = first; full = full; broke = broke; fault = fault; copied = copied; finished = finished }
 
   abbrev after : Shared (Chain S KeepAll T)
-  after = record { chain = new; first = first; full = full'; broke = broke'; fault = fault' }
+  after = record { chain = new; first = first; full = full'; broke = broke'; fault = fault'; copied = copied'; finished = finished' }
 
-  is_stepped : IsStepped disk (2 ^ 34) before after answer
-  is_stepped = stepped disk old new first answer full full' broke broke' fault fault' full_is broke_is fault_is c (2 ^ 34) (end_events (session_of disk old) slot (session_of disk new) answer e)
+  is_stepped : IsStepped disk ends before after answer
+  is_stepped = stepped disk old new first answer full full' broke broke' fault fault' copied copied' finished finished' full_is broke_is fault_is c ends (end_events (session_of disk old) slot (session_of disk new) answer e) (ap (λ (m : Marks). m.stripes) copied_is) (λ t. ap (λ (m : Marks). marks_of m t) copied_is) finished_is
 
   stops : (x : ChainRefusal) → answer ≡ Err x → EndsBy (session_of disk new) x → StopsEnd disk after x
   stops _ is (by_spent t high low) = (high, low)
@@ -663,3 +716,39 @@ module _ {S T : Type 0} (disk : S → Disk) (old new first : Chain S KeepAll T) 
 
   pub merged_as : (seen : Shared (Chain S KeepAll T)) → before ≡ seen → IsMerged disk seen after answer
   merged_as seen is = subst (λ s. IsMerged disk s after answer) is (record { stepped = is_stepped; done = end_none (session_of disk old) slot (session_of disk new) answer e; stopped = is_stopped })
+
+-- ---- why a stripe isn't copied
+
+module _ {S T : Type 0} (disk : S → Disk) (old new first : Chain S KeepAll T) (answer : Result (Unit {0}) ChainRefusal) (full full' : Option ℕ) (broke broke' : Option Breach) (fault fault' : Option StoreFault) (copied copied' : Marks) (finished finished' : Bool)
+    (full_is : full' ≡ full_after full (as_answer answer)) (broke_is : broke' ≡ broke_after broke merge_breach (as_answer answer)) (fault_is : fault' ≡ fault_after fault (as_answer answer)) (c : Carries (session_of disk old) (session_of disk new) answer) where
+  abbrev earlier : Shared (Chain S KeepAll T)
+  earlier = record { chain = old; first = first; full = full; broke = broke; fault = fault; copied = copied; finished = finished }
+
+  abbrev later : Shared (Chain S KeepAll T)
+  later = record { chain = new; first = first; full = full'; broke = broke'; fault = fault'; copied = copied'; finished = finished' }
+
+  notes_now : NotesBy (as_answer answer) (notes_of disk earlier) (notes_of disk later)
+  notes_now =
+      subst (λ f. NotesBy (as_answer answer) (notes_of disk earlier) (notes_in (disk new.store) new.broken f)) (sym full_is)
+      (noted (disk old.store) (disk new.store) old.broken new.broken full (as_answer answer) c.change)
+
+  has_noted : (x : ChainRefusal) (n : Note) → answer ≡ Err x → HasNote (noted_in (Err x)) n → HasNote (notes_of disk later) n
+  has_noted x n is h = (notes_now n).1 (inl (subst (λ r. HasNote (noted_in (as_answer r)) n) (sym is) h))
+
+  stops_copy : (stripe : ℕ) (x : ChainRefusal) → answer ≡ Err x → TurnEnds stripe (session_of disk old) (session_of disk new) x → StopsCopy disk stripe earlier later x
+  stops_copy stripe _ is (turn_spent t high low) = (high, low)
+  stops_copy stripe _ is (turn_broken file count) = has_noted (Broken file count) (notes.ChangeFailed file count) is (inl (refl, refl))
+  stops_copy stripe _ is (turn_read file count) =
+      let change = subst (λ r. IsChange (as_answer r) (disk old.store) (disk new.store) old.broken new.broken) is c.change in
+      (has_noted (ReadFault file count) (notes.ReadFailed file count) is (inl (refl, omega arith)),
+      λ was. at_end ((disk old.store).failed_reads file) ((disk new.store).failed_reads file) count change.2.rose change.2.told (noted_reads (disk old.store) old.broken full file count was))
+  stops_copy stripe _ is (turn_full next) = has_noted (FileFull next) (notes.Full next) is (inl (omega arith))
+  stops_copy stripe _ is (turn_none none) = none
+  stops_copy stripe _ is (turn_past s n same past count) = (same, past, count)
+
+  pub stopped_as : (stripe : ℕ) → AnswersTurn stripe answer (session_of disk old) (session_of disk new) → (seen : Shared (Chain S KeepAll T)) → earlier ≡ seen → IfErr answer (StopsCopy disk stripe seen later)
+  stopped_as stripe turn seen seen_is = subst (λ s. IfErr answer (StopsCopy disk stripe s later)) seen_is (go answer refl)
+    where
+      go : (r : Result (Unit {0}) ChainRefusal) → answer ≡ r → IfErr r (StopsCopy disk stripe earlier later)
+      go (Ok done) is = tt
+      go (Err x) is = stops_copy stripe x is (turn_refused stripe answer x (session_of disk old) (session_of disk new) is turn)

@@ -92,6 +92,8 @@ module _ {S T : Type 0} where
     pub entered : IsEntered (entry who call) old.chain.recorder new.chain.recorder answer
     pub broke : IsBroke (breach_of who call) old.broke new.broke answer
     pub fault : new.fault ≡ fault_after old.fault answer
+    pub copied : new.copied ≡ old.copied
+    pub finished : new.finished ≡ old.finished
     pub noted : NotesBy answer (notes_of disk old) (notes_of disk new)
     pub cause : IsCausedIn disk call (basis_of disk old) (basis_of disk new) answer
     pub answered : Answered who call (session_of disk old.chain) (session_of disk new.chain) answer

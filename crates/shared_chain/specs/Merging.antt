@@ -1,9 +1,13 @@
 -- What a step of a merge answers and leaves of a shared chain.
-use Rattle.std.specs.Prelude.{◌≡◌, ◌+◌, ◌^◌, ◌<◌, ◌≤◌, ℕ, [], Option, Some, Result, Ok, Err, IfErr, OnOk}
+use Rattle.std.specs.Prelude.{◌≡◌, ◌+◌, ◌-◌, ◌^◌, ◌<◌, ◌≤◌, if◌then◌else◌, nat_lt, ℕ, Bool, true, [], Option, Some, Result, Ok, Err, IfErr, OnOk}
 use Rattle.store_model.specs.Disk.{Disk, WhereTold}
 use Rattle.guest_model.specs.declared.recorder.KeepAll.{KeepAll}
 use Rattle.guest_model.specs.declared.refusal.ChainRefusal.{ChainRefusal}
 use Rattle.guest_model.specs.declared.refusal.ChainRefusal.TheVariants as refusals
+use Rattle.chain_model.specs.Merges.{with_mark}
+use Rattle.chain_model.specs.Stripes.{stripe_count}
+use Rattle.merge_core.specs.Copied.{marks_of}
+use Rattle.merge_core.specs.declared.marks.Marks.{Marks}
 use Rattle.chain_core.specs.declared.chain.Chain.{Chain}
 use Rattle.chain_core.specs.Sessions.{HasNoMerge}
 use Rattle.chain_core.specs.States.{IsServing, State}
@@ -19,18 +23,56 @@ abbrev pub as_answer : Result (Unit {0}) ChainRefusal → Result ℕ ChainRefusa
 as_answer (Ok done) = Ok 0
 as_answer (Err x) = Err x
 
+-- a step of a merge: a stripe is copied; or the merge is finished; or what is missing is copied and it is finished
+pub data MergeStep : Type 0 where
+  copies : (stripe : ℕ) → MergeStep
+  finishes : MergeStep
+  ends : MergeStep
+
+-- how many events it has at most
+abbrev pub most_events : MergeStep → ℕ
+most_events (copies stripe) = 2
+most_events finishes = 1
+most_events ends = 2 ^ 34
+
+-- which stripes are known to be copied behind it: that which it copies, if it was done and is one of those that are kept in mind
+abbrev pub copied_behind : MergeStep → Result (Unit {0}) ChainRefusal → Marks → ℕ → Bool
+copied_behind (copies stripe) (Ok done) marks t = if nat_lt stripe marks.stripes then with_mark stripe (marks_of marks) t else marks_of marks t
+copied_behind step answer marks t = marks_of marks t
+
+-- whether the merge was finished, or none was found, or its end was begun
+abbrev pub finished_behind : MergeStep → Result (Unit {0}) ChainRefusal → Bool → Bool
+finished_behind finishes (Ok done) finished = true
+finished_behind ends answer finished = true
+finished_behind (copies stripe) (Err refusals.NoMerge) finished = true
+finished_behind step answer finished = finished
+
 module _ {S T : Type 0} where
-  -- What a step of so many events at most leaves: the beginning and the history stay; it is what broke the session if it is the first that is
-  -- told so; what it answers is noted.
-  pub record IsStepped (disk : S → Disk) (most : ℕ) (old new : Shared (Chain S KeepAll T)) (answer : Result (Unit {0}) ChainRefusal) : Type 0 where
+  -- What a step leaves: the beginning and the history stay; it is what broke the session if it is the first that is told so; what it answers is
+  -- noted, and what it copied or finished.
+  pub record IsStepped (disk : S → Disk) (step : MergeStep) (old new : Shared (Chain S KeepAll T)) (answer : Result (Unit {0}) ChainRefusal) : Type 0 where
     pub first : new.first ≡ old.first
     pub history : new.chain.recorder ≡ old.chain.recorder
     pub broke : new.broke ≡ broke_after old.broke merge_breach (as_answer answer)
     pub fault : new.fault ≡ fault_after old.fault (as_answer answer)
     pub full : new.full ≡ full_after old.full (as_answer answer)
     pub later : old.chain.events ≤ new.chain.events
-    pub few : new.chain.events ≤ old.chain.events + most
+    pub few : new.chain.events ≤ old.chain.events + most_events step
+    pub stripes : new.copied.stripes ≡ old.copied.stripes
+    pub copied : (t : ℕ) → marks_of new.copied t ≡ copied_behind step answer old.copied t
+    pub finished : new.finished ≡ finished_behind step answer old.finished
     pub noted : NotesBy (as_answer answer) (notes_of disk old) (notes_of disk new)
+
+  -- Why a stripe isn't copied in a turn: no merge is under way; the disk has fewer stripes; the count of events is used up; the target is full; a
+  -- read failed, which is noted anew, or whose count is at its end; or a fault has broken the session.
+  abbrev pub StopsCopy : (S → Disk) → ℕ → Shared (Chain S KeepAll T) → Shared (Chain S KeepAll T) → ChainRefusal → Type 0
+  StopsCopy disk stripe old new refusals.NoMerge = HasNoMerge new.chain.layers
+  StopsCopy disk stripe old new (refusals.NoStripe s stripes) = (s ≡ stripe) × (stripes ≤ stripe) × (stripes ≡ stripe_count new.chain.layers.geometry.sector new.chain.layers.geometry.sectors)
+  StopsCopy disk stripe old new (refusals.Spent t) = (2 ^ 63 ≤ t) × (t ≤ new.chain.events)
+  StopsCopy disk stripe old new (refusals.FileFull next) = HasNote (notes_of disk new) (notes.Full next)
+  StopsCopy disk stripe old new (refusals.ReadFault file count) = HasNote (notes_of disk new) (notes.ReadFailed file count) × (HasNote (notes_of disk old) (notes.ReadFailed file count) → 2 ^ 64 - 1 ≤ count)
+  StopsCopy disk stripe old new (refusals.Broken file count) = HasNote (notes_of disk new) (notes.ChangeFailed file count)
+  StopsCopy disk stripe old new other = ⊥
 
   -- Why a merge isn't finished at the end: the count of events is used up; a file is full, near the greatest place that a block may have; a read
   -- failed; or a fault has broken the session.
@@ -44,6 +86,6 @@ module _ {S T : Type 0} where
 
   -- All that was missing of the merge is copied, and it is finished; or that was stopped.
   pub record IsMerged (disk : S → Disk) (old new : Shared (Chain S KeepAll T)) (answer : Result (Unit {0}) ChainRefusal) : Type 0 where
-    pub stepped : IsStepped disk (2 ^ 34) old new answer
+    pub stepped : IsStepped disk ends old new answer
     pub done : OnOk answer (HasNoMerge new.chain.layers)
     pub stopped : IfErr answer (StopsEnd disk new)

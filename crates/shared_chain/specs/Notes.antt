@@ -1,15 +1,13 @@
 -- What the events of a session leave noted for good.
-use Rattle.std.specs.Prelude.{◌≡◌, ◌⊎◌, ◌↔◌, ◌≤◌, ⊤, ℕ, max, List, [], ◌∷◌, Option, Some, None, Result, Ok, Err}
+use Rattle.std.specs.Prelude.{◌≡◌, ◌⊎◌, ◌↔◌, ◌≤◌, ℕ, max, List, [], ◌∷◌, Option, Some, None, Result, Ok, Err}
 use Rattle.guest_model.specs.declared.refusal.ChainRefusal.{ChainRefusal}
 use Rattle.guest_model.specs.declared.refusal.ChainRefusal.TheVariants as refusals
 use Rattle.shared_chain.specs.declared.basis.Note.{Note}
-use Rattle.shared_chain.specs.declared.basis.Note.TheVariants.{ChangeFailed, Copied, Finished, Full, ReadFailed}
+use Rattle.shared_chain.specs.declared.basis.Note.TheVariants.{ChangeFailed, Full, ReadFailed}
 
--- The first note says all that the second says: of the same stripe or file, by a number at least as great; of a change that failed, by the
+-- The first note says all that the second says: of the same file, by a number at least as great; of a change that failed, by the
 -- same number, since it breaks the session and is the only one.
 abbrev pub Covers : Note → Note → Type 0
-Covers (Copied s) (Copied t) = s ≡ t
-Covers Finished Finished = ⊤
 Covers (ReadFailed f n) (ReadFailed g m) = (f ≡ g) × (m ≤ n)
 Covers (ChangeFailed f n) (ChangeFailed g m) = (f ≡ g) × (m ≡ n)
 Covers (Full n) (Full m) = m ≤ n

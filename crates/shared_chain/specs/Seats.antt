@@ -1,11 +1,15 @@
 -- What a thread's seat of a shared chain is, and what stays of it whatever the thread's turns do.
-use Rattle.std.specs.Prelude.{◌≡◌, ◌⊎◌, ◌+◌, ◌<◌, ◌≤◌, ℕ, List, [], ◌∷◌, ◌++◌, length, None}
+use Rattle.std.specs.Prelude.{◌≡◌, ◌⊎◌, ◌+◌, ◌-◌, ◌^◌, ◌<◌, ◌≤◌, ℕ, true, List, [], ◌∷◌, ◌++◌, length, None}
 use Rattle.guest_model.specs.History.{History}
 use Rattle.seats.specs.Counting.{times}
 use Rattle.shared_chain.specs.declared.basis.Basis.{Basis}
 use Rattle.shared_chain.specs.declared.basis.Step.{Step}
 use Rattle.shared_chain.specs.declared.basis.Step.TheVariants.{Broke}
-use Rattle.shared_chain.specs.Bases.{Contains}
+use Rattle.guest_model.specs.declared.refusal.ChainRefusal.{ChainRefusal}
+use Rattle.guest_model.specs.declared.refusal.ChainRefusal.TheVariants as refusals
+use Rattle.shared_chain.specs.declared.basis.Note.TheVariants as notes
+use Rattle.shared_chain.specs.Notes.{HasNote}
+use Rattle.shared_chain.specs.Bases.{Contains, HasStripe}
 use Rattle.shared_chain.specs.Steps.{done_steps, merge_breach}
 use Rattle.turn_lock.specs.Histories.{StartsWith}
 use Rattle.turn_lock.specs.Seats.{Known, TableId}
@@ -39,3 +43,22 @@ module _ {S T : Type 0} where
     pub keeps : KeepsSeat old new
     pub drawn : new.drawn ≤ old.drawn + turns
     pub own : (p : ℕ) → 0 < times p new.mine → (0 < times p old.mine) ⊎ MergeBreaksAt new.seen p
+
+  -- Why a worker's stripe isn't copied, by what its seat knew before and knows now.
+  abbrev pub StopsTurn : ℕ → Known Step (Basis S T) → Known Step (Basis S T) → ChainRefusal → Type 0
+  StopsTurn stripe old new refusals.NoMerge = new.basis.finished ≡ true
+  StopsTurn stripe old new (refusals.NoStripe s stripes) = stripes ≤ stripe
+  StopsTurn stripe old new (refusals.Spent t) = (2 ^ 63 ≤ t) × ((0 < new.refusals) ⊎ (t ≤ new.basis.events))
+  StopsTurn stripe old new (refusals.FileFull next) = HasNote new.basis.notes (notes.Full next)
+  StopsTurn stripe old new (refusals.ReadFault file count) = HasNote new.basis.notes (notes.ReadFailed file count) × (HasNote old.basis.notes (notes.ReadFailed file count) → 2 ^ 64 - 1 ≤ count)
+  StopsTurn stripe old new (refusals.Broken file count) = HasNote new.basis.notes (notes.ChangeFailed file count)
+  StopsTurn stripe old new other = ⊥
+
+  -- A stripe is copied, or is none of those that are kept in mind; or what stopped that shows.
+  abbrev pub IsSwept : ℕ → Known Step (Basis S T) → Known Step (Basis S T) → Type 0
+  IsSwept stripe old new = HasStripe stripe new.basis.copied ⊎ (new.basis.stripes ≤ stripe) ⊎ ((x : ChainRefusal) × StopsTurn stripe old new x)
+
+  -- so it is of each stripe that was claimed meanwhile
+  pub record AreSwept (claimed numbers : List ℕ) (old new : Known Step (Basis S T)) : Type 0 where
+    pub each : (stripe : ℕ) → HasStripe stripe numbers → HasStripe stripe claimed ⊎ IsSwept stripe old new
+

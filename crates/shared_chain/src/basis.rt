@@ -7,10 +7,6 @@ use store_model::Store;
 
 /// What an event left noted for good, with its numbers. No value of it is made.
 pub enum Note {
-    /// A put of a piece of this stripe was done.
-    Copied { stripe: u32 },
-    /// The merge was finished.
-    Finished,
     /// So many reads of this file had failed.
     ReadFailed { file: u32, count: u64 },
     /// A change of this file failed, as its so manieth one, and broke the session.
@@ -26,6 +22,11 @@ pub struct Basis<S: Store> {
     pub notes: LinkedList<Note>,
     /// How many events it had at least.
     pub events: u64,
+    /// How many stripes of its merge are kept in mind once they are copied; and those that a step of the merge has copied since.
+    pub stripes: u32,
+    pub copied: LinkedList<u32>,
+    /// Whether the merge was finished, or none was found, or its end was begun.
+    pub finished: bool,
 }
 
 /// The call that broke a session: its guest and its number, and the sectors that it changes, none if it is a flush.

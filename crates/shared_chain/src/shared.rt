@@ -1,6 +1,6 @@
 //! The chain that threads share.
 
-ghost use Rattle.std.specs.Prelude.{◌≡◌, ◌%◌, ◌/◌, [], None, IfErr, IfOk, IfSome, IsErr, OnOk, false, length};
+ghost use Rattle.std.specs.Prelude.{◌≡◌, ◌%◌, ◌/◌, ℕ, [], None, IfErr, IfOk, IfSome, IsErr, OnOk, false, length};
 ghost use Rattle.guest_model.specs.declared.call.Call.TheVariants as calls;
 ghost use Rattle.guest_model.specs.declared.call.Reply.TheVariants as replies;
 ghost use Rattle.chain_core.specs.Answering.{IsDurable};
@@ -11,14 +11,15 @@ ghost use Rattle.shared_chain.specs.Homes.{session_of};
 ghost use Rattle.shared_chain.specs.Answers.{IsCalled, RepliesFrom};
 ghost use Rattle.script_session.specs.Running.{IsEnded};
 ghost use Rattle.shared_chain.specs.Closing.{LeavesHistory};
-ghost use Rattle.shared_chain.specs.Merging.{IsMerged, IsStepped, as_answer};
+ghost use Rattle.shared_chain.specs.Merging.{IsMerged, IsStepped, StopsCopy, as_answer, copied_behind, copies, finished_behind, finishes};
+ghost use Rattle.merge_core.specs.Copied.{marks_of};
 ghost use Rattle.shared_chain.specs.Steps.{broke_after, merge_breach, steps_of};
 ghost use Rattle.shared_chain.specs.Ends.{EndsMerge, is_no_merge};
 
 use crate::basis::Breach;
 use chain_core::Chain;
 use guest_model::{Caller, ChainRefusal, KeepAll};
-use merge_core::Piece;
+use merge_core::{Marks, Piece};
 use script_session::{copy, finish, move_stripe};
 use std::alloc::{AllocFailed, Global};
 use std::marker::Model;
@@ -41,6 +42,10 @@ pub struct SharedChain<S: Store> {
     broke: Option<Breach>,
     // the last fault that a call was refused by
     fault: Option<StoreFault>,
+    // the stripes that a step of the merge has copied, of which none is forgotten
+    copied: Marks,
+    // whether the merge was finished, or none was found, or its end was begun
+    finished: bool,
 }
 
 impl<S: Store> Model for SharedChain<S> {
@@ -52,7 +57,7 @@ impl<S: Store> Model for SharedChain<S> {
 
     ghost use Rattle.shared_chain.specs.Homes.{IsHome, session_of};
 
-    ghost view = { λ s. record { chain = s.chain.value; first = s.first.value; full = s.full; broke = s.broke; fault = s.fault } };
+    ghost view = { λ s. record { chain = s.chain.value; first = s.first.value; full = s.full; broke = s.broke; fault = s.fault; copied = s.copied; finished = s.finished } };
 
     ghost invariant = { λ s. IsHome (session_of S.disk s.first.value) (session_of S.disk s.chain.value) s.chain.value.recorder s.full s.broke s.fault };
 }
@@ -120,6 +125,50 @@ fn broke_by_merge(broke: Option<Breach>, answer: Result<u64, ChainRefusal>) -> O
     broke_behind(broke, Caller { guest: 0, no: 0 }, 0, 0, answer)
 }
 
+// A chain on the heap, and room for so many stripes; or the chain as it was, where there is no memory.
+fn room_for<S: Store>(
+    alloc: Global,
+    chain: Chain<S, KeepAll>,
+    stripes: u32,
+) -> Result<(Box<Chain<S, KeepAll>>, Marks), Chain<S, KeepAll>>
+    ensures chain { IfOk result (λ made. made.0.value ≡ chain) }
+    ensures stripes { IfOk result (λ made. made.1.stripes ≡ stripes) }
+    ensures none { IfOk result (λ made. (t : ℕ) → marks_of made.1 t ≡ false) }
+    ensures back { IfErr result (λ back. back ≡ chain) }
+{
+    let Ok(copied) = Marks::new(alloc, stripes) else {
+        return Err(chain);
+    };
+    match Box::new(alloc, chain) {
+        Ok(chain) => Ok((chain, copied)),
+        Err(AllocFailed { value }) => Err(value),
+    }
+}
+
+// Whether the merge was finished, or none was found, behind the answer of the copy of a stripe.
+fn finished_by_copy(finished: bool, stripe: u32, done: Result<(), ChainRefusal>) -> bool
+    ensures { result ≡ finished_behind (copies stripe) done finished }
+{
+    finished || is_no_merge(done)
+}
+
+// Whether the merge was finished, behind the answer of a finish.
+fn finished_by(finished: bool, done: Result<(), ChainRefusal>) -> bool
+    ensures { result ≡ finished_behind finishes done finished }
+{
+    finished || done.is_ok()
+}
+
+// Keeps a stripe in mind that was copied, if it is one of those.
+fn mark_copied(copied: &mut Marks, stripe: u32, done: Result<(), ChainRefusal>)
+    ensures stripes { copied.new.stripes ≡ copied.old.stripes }
+    ensures marks { (t : ℕ) → marks_of copied.new t ≡ copied_behind (copies stripe) done copied.old t }
+{
+    if done.is_ok() && stripe < copied.stripes() {
+        copied.mark(stripe);
+    }
+}
+
 // Whether no merge was found.
 fn is_no_merge(answer: Result<(), ChainRefusal>) -> bool
     ensures { result ≡ is_no_merge answer }
@@ -145,24 +194,27 @@ fn merge_rest<S: Store>(
 }
 
 impl<S: Store> SharedChain<S> {
-    /// A chain whose session has just begun. Where there is no memory for it the session is ended, as by `close`: the store comes back, and
-    /// how the session ended.
+    /// A chain whose session has just begun, with room to keep in mind so many stripes of its merge once they are copied. Where there is no memory
+    /// for it the session is ended, as by `close`: the store comes back, and how the session ended.
     pub fn new(
         alloc: Global,
         chain: Chain<S, KeepAll>,
+        stripes: u32,
     ) -> Result<SharedChain<S>, (S, Result<(), StoreFault>)>
         requires sound { IsSound (session_of S.disk chain) }
         requires fresh { (chain.events ≡ 0) × (chain.broken ≡ None) × (chain.recorder ≡ []) }
-        ensures ok { IfOk result (λ s. s ≡ record { chain = chain; first = chain; full = None; broke = None; fault = None }) }
+        ensures ok { IfOk result (λ s. s ≡ record { chain = chain; first = chain; full = None; broke = None; fault = None; copied = s.copied; finished = false }) }
+        ensures stripes { IfOk result (λ s. s.copied.stripes ≡ stripes) }
+        ensures none { IfOk result (λ s. (t : ℕ) → marks_of s.copied t ≡ false) }
         ensures ended { IfErr result (λ left. IsEnded (session_of S.disk chain) (S.disk left.0) left.1) }
         ensures counted { IfErr result (λ left. EndsCounted (S.disk chain.store) (S.disk left.0) None left.1) }
         ensures leaves { IfErr result (λ left. LeavesHistory (session_of S.disk chain) [] None None (has_merge chain.layers) left.1 (S.disk left.0)) }
     {
         let first = Snapshot::of(&chain);
-        let chain = match Box::new(alloc, chain) {
-            Ok(chain) => chain,
-            Err(AllocFailed { value }) => {
-                let (store, _, closed) = value.close();
+        let (chain, copied) = match room_for(alloc, chain, stripes) {
+            Ok(made) => made,
+            Err(chain) => {
+                let (store, _, closed) = chain.close();
                 return Err((store, closed));
             }
         };
@@ -172,6 +224,8 @@ impl<S: Store> SharedChain<S> {
             full: None,
             broke: None,
             fault: None,
+            copied,
+            finished: false,
         })
     }
 
@@ -241,9 +295,12 @@ impl<S: Store> SharedChain<S> {
 
     /// Fetches a stripe of the merge's source and puts it into the target. Whatever is answered, no piece is left.
     pub fn copy_stripe(&mut self, stripe: u32, piece: &mut Piece) -> Result<(), ChainRefusal>
-        ensures { IsStepped S.disk 2 self.old self.new result }
+        ensures stepped { IsStepped S.disk (copies stripe) self.old self.new result }
+        ensures stopped { IfErr result (StopsCopy S.disk stripe self.old self.new) }
     {
         let done = move_stripe(&mut *self.chain, stripe, piece);
+        mark_copied(&mut self.copied, stripe, done);
+        self.finished = finished_by_copy(self.finished, stripe, done);
         let answer = as_answer(done);
         self.full = full_behind(self.full, answer);
         self.broke = broke_by_merge(self.broke, answer);
@@ -253,10 +310,11 @@ impl<S: Store> SharedChain<S> {
 
     /// Finishes the merge, whose stripes are all copied.
     pub fn finish(&mut self) -> Result<(), ChainRefusal>
-        ensures stepped { IsStepped S.disk 1 self.old self.new result }
+        ensures stepped { IsStepped S.disk finishes self.old self.new result }
         ensures done { OnOk result (HasNoMerge self.new.chain.layers) }
     {
         let done = finish(&mut *self.chain);
+        self.finished = finished_by(self.finished, done);
         let answer = as_answer(done);
         self.full = full_behind(self.full, answer);
         self.broke = broke_by_merge(self.broke, answer);
@@ -269,6 +327,7 @@ impl<S: Store> SharedChain<S> {
         ensures { IsMerged S.disk self.old self.new result }
     {
         piece.clear();
+        self.finished = true;
         let done = merge_rest(&mut *self.chain, piece);
         let answer = as_answer(done);
         self.full = full_behind(self.full, answer);
@@ -293,6 +352,8 @@ impl<S: Store> SharedChain<S> {
             full: _,
             broke: _,
             fault,
+            copied: _,
+            finished: _,
         } = self;
         let (store, history, closed) = Box::into_inner(chain).close();
         (store, history, fault, closed)

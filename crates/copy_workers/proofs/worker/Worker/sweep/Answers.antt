@@ -3,7 +3,7 @@ use Rattle.std.specs.Prelude.{IfNone}
 use Rattle.std.specs.Option.{IsSome}
 use Rattle.seats.specs.Counting.{HasNoRepeats}
 use Rattle.layer_session.proofs.Equal.{false_true}
-use Rattle.copy_workers.proofs.Claimed.{Swept, none_swept, swept_all, swept_on, swept_same}
+use Rattle.copy_workers.proofs.Claimed.{Swept, none_swept, swept_all, swept_on, swept_same, swept_then}
 use Rattle.copy_workers.proofs.worker.Worker.sweep.Goals as goal
 use Rattle.copy_workers.proofs.worker.Worker.sweep.Goals.{in-None, in-Some+in_default}
 
@@ -26,7 +26,7 @@ loop-preserved g c =
       next = tt;
       finite = tt;
       free = (d.worked.keeps.lock ∙ i.free.0, d.worked.keeps.free);
-      swept = swept_on c.args.claims.now.limit c.in-Some-claim.stripe c.args.self.now c.loop.self c.deliver.new.self i.swept c.in-Some-claim.ensures.some.0 (ap (λ s. s.numbers) (d.claim ∙ claimed)) d.worked;
+      swept = swept_on c.args.claims.now.limit c.in-Some-claim.stripe c.args.self.now c.loop.self c.deliver.new.self i.swept c.in-Some-claim.ensures.some.0 (ap (λ s. s.numbers) (d.claim ∙ claimed)) d.worked d.swept;
       counter = ap (λ s. s.counter) (d.claim ∙ claimed) ∙ i.counter;
       family = ap (λ s. s.family) (d.claim ∙ claimed) ∙ i.family;
     }
@@ -45,3 +45,18 @@ returns-clause-worked g c =
         (swept_same limit old c.loop.self mid c.loop.invariant.swept (ap (λ s. s.numbers) claim ∙ ap (λ s. s.numbers) none) seat, subst (λ s. HasNoRepeats s.numbers) (sym claim) w.claim.ensures.once)
     ] in
     swept_all limit old mid c.finish.new.self swept.0 swept.1 c.finish.ensures.worked
+
+pub returns-clause-swept : goal.returns-clause-swept
+returns-clause-swept g c =
+    let limit = c.args.claims.now.limit in
+    let old = c.args.self.now in
+    let mid = c.match-next.self in
+    let swept : Swept limit old mid × HasNoRepeats mid.claim.numbers = elim c.match-next.branch [
+      | in-None w ↦ absurd (false_true (subst (λ o. IsSome o) w.in-None.is c.next.ensures.steps))
+      | in-Some+in_default w ↦
+        let none = subst (λ o. IfNone o (w.claim.new.seat ≡ record (c.loop.self.claim) { is_closed = true })) w.in_default.is w.claim.ensures.none in
+        let claim : mid.claim ≡ w.claim.new.seat = ap (λ s. s.claim) w.self-is in
+        let seat : mid.seat ≡ c.loop.self.seat = ap (λ s. s.seat) w.self-is in
+        (swept_same limit old c.loop.self mid c.loop.invariant.swept (ap (λ s. s.numbers) claim ∙ ap (λ s. s.numbers) none) seat, subst (λ s. HasNoRepeats s.numbers) (sym claim) w.claim.ensures.once)
+    ] in
+    swept_then limit old mid c.finish.new.self swept.0 c.finish.ensures.worked (ap (λ s. s.numbers) c.finish.ensures.claim)

@@ -14,7 +14,7 @@ returns-clause-called g c =
     let new = c.flush-answer.new.self in
     let a = subst (λ o. Answered c.args.who calls.Flush (session_of disk o) (session_of disk new) c.flush-answer.result) c.deref_mut.ensures.value
     (answered disk lent new c.args.who calls.Flush c.flush-answer.result e.sound e.events e.geometry e.session e.leaf e.early e.notes e.cause e.room e.merge e.told) in
-    called_as disk old new c.args.who calls.Flush c.flush-answer.result a c.self.inside.first.value c.self.inside.full c.self.inside.broke c.self.inside.fault c.self.invariant c.full_behind-self-inside.result
+    called_as disk old new c.args.who calls.Flush c.flush-answer.result a c.self.inside.first.value c.self.inside.full c.self.inside.broke c.self.inside.fault c.self.invariant c.full_behind-self-inside.result c.self.inside.copied c.self.inside.finished
     c.full_behind-self-inside.ensures c.broke_behind-self-inside.result c.fault_behind-self-inside.result c.broke_behind-self-inside.ensures c.fault_behind-self-inside.ensures c.args.self.now c.self.view_is
 
 pub invariant_of-self : goal.invariant_of-self

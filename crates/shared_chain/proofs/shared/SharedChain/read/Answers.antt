@@ -21,7 +21,7 @@ returns-clause-called g c =
     let a = subst (λ o. Answered c.args.who (calls.Read c.args.first (n / 512)) (session_of disk o) (session_of disk new) c.read-answer.result) is
     (subst (λ z. Answered c.args.who (calls.Read c.args.first (n / z)) (session_of disk lent) (session_of disk new) c.read-answer.result) sector
     (answered disk lent new c.args.who (calls.Read c.args.first (n / lent.layers.geometry.sector)) c.read-answer.result e.sound e.events e.geometry e.session e.leaf e.early e.notes e.cause tt e.merge e.told)) in
-    called_as disk old new c.args.who (calls.Read c.args.first (n / 512)) c.read-answer.result a c.self.inside.first.value c.self.inside.full c.self.inside.broke c.self.inside.fault c.self.invariant c.full_behind-self-inside.result
+    called_as disk old new c.args.who (calls.Read c.args.first (n / 512)) c.read-answer.result a c.self.inside.first.value c.self.inside.full c.self.inside.broke c.self.inside.fault c.self.invariant c.full_behind-self-inside.result c.self.inside.copied c.self.inside.finished
     c.full_behind-self-inside.ensures c.broke_behind-self-inside.result c.fault_behind-self-inside.result c.broke_behind-self-inside.ensures c.fault_behind-self-inside.ensures c.args.self.now c.self.view_is
 
 pub returns-clause-replies : goal.returns-clause-replies
