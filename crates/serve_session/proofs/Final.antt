@@ -54,6 +54,10 @@ use Rattle.serve_session.proofs.Filled.{ends_told, full_noted}
 use Rattle.serve_session.proofs.Joining.{all_run, fresh_ready, none_joined}
 use Rattle.serve_session.proofs.Ending.{all_called, faults_told, first_is, served_all, transcript_is, which}
 
+any_ok : {T E P : Type 0} (r : Result T E) → P → OnOk r P
+any_ok (Ok done) p = p
+any_ok (Err e) p = tt
+
 each_empty : (P : ℕ → List Outcome → Type 0) → ((g : ℕ) → P g []) → (n g : ℕ) → EachGuest P g (replicate n [])
 each_empty P h zero g = tt
 each_empty P h (suc n) g = (h g, each_empty P h n (g + 1))
@@ -192,7 +196,7 @@ module _ {S T : Type 0} (disk : S → Disk) where
     stops_run small (Broken file count) k = (subst (λ o. IfSome o (λ f. (run.closed ≡ Err f) × (after ≡ disk v.chain.store))) k ended.broken).0
     stops_run small (Spent t) k = absurd (omega (arith, k.0, k.1, small))
     stops_run small (FileFull next) k = tt
-    stops_run small (ReadFault file count) k = fault ∙ k
+    stops_run small (ReadFault file count) k = fault ∙ k.1
     stops_run small NoMerge k = absurd k
     stops_run small (Stale taken now) k = absurd k
     stops_run small (NotYet stripe) k = absurd k
@@ -201,6 +205,23 @@ module _ {S T : Type 0} (disk : S → Disk) where
     stops_run small NoPiece k = absurd k
     stops_run small NoMemory k = absurd k
 
+    kept_run : v.chain.events < 2 ^ 63 → (x : ChainRefusal) → StopsEnd disk v x → OnOk run.closed (has_merge v.chain.layers ≡ true)
+    kept_run small EmptyRange k = absurd k
+    kept_run small (OutOfRange a b c) k = absurd k
+    kept_run small (TooLong a b) k = absurd k
+    kept_run small ReadOnly k = absurd k
+    kept_run small (Broken file count) k = subst (λ r. OnOk r (has_merge v.chain.layers ≡ true)) (sym (subst (λ o. IfSome o (λ f. (run.closed ≡ Err f) × (after ≡ disk v.chain.store))) k ended.broken).0) tt
+    kept_run small (Spent t) k = absurd (omega (arith, k.0, k.1, small))
+    kept_run small (FileFull next) k = any_ok run.closed k.0
+    kept_run small (ReadFault file count) k = any_ok run.closed k.0
+    kept_run small NoMerge k = absurd k
+    kept_run small (Stale taken now) k = absurd k
+    kept_run small (NotYet stripe) k = absurd k
+    kept_run small (Abandoned file count) k = absurd k
+    kept_run small (NoStripe stripe stripes) k = absurd k
+    kept_run small NoPiece k = absurd k
+    kept_run small NoMemory k = absurd k
+
     near_run : (x : ChainRefusal) → StopsEnd disk v x → IsNearEnd disk v.first v.full x
     near_run EmptyRange k = absurd k
     near_run (OutOfRange a b c) k = absurd k
@@ -208,7 +229,7 @@ module _ {S T : Type 0} (disk : S → Disk) where
     near_run ReadOnly k = absurd k
     near_run (Broken file count) k = tt
     near_run (Spent t) k = tt
-    near_run (FileFull next) k = (full_noted next (disk v.chain.store) v.chain.broken v.full k.0, k.1)
+    near_run (FileFull next) k = (full_noted next (disk v.chain.store) v.chain.broken v.full k.1, k.2)
     near_run (ReadFault file count) k = tt
     near_run NoMerge k = absurd k
     near_run (Stale taken now) k = absurd k
@@ -248,6 +269,7 @@ module _ {S T : Type 0} (disk : S → Disk) where
           under_way = has_merge v.chain.layers;
           leaves = subst (λ (c : Chain S KeepAll T). LeavesHistory (session_of disk c) v.chain.recorder v.full v.broke (has_merge v.chain.layers) run.closed after) same leaves;
           finished = so.finished;
+          kept = λ some. each_err (StopsEnd disk v) (λ x. OnOk run.closed (has_merge v.chain.layers ≡ true)) (kept_run small) merged so.stopped;
           stopped = each_err (StopsEnd disk v) (StopsMerge run) (stops_run small) merged so.stopped;
           near = subst (λ (c : Chain S KeepAll T). IfErr merged (IsNearEnd disk c v.full)) same (each_err (StopsEnd disk v) (IsNearEnd disk v.first v.full) near_run merged so.stopped);
         }
@@ -288,6 +310,7 @@ module _ {S T : Type 0} (disk : S → Disk) where
           leaves = subst (λ h. LeavesHistory (session_of disk old.first) h v.full v.broke (has_merge v.chain.layers) run.closed after) empty
               (subst (λ (c : Chain S KeepAll T). LeavesHistory (session_of disk c) v.chain.recorder v.full v.broke (has_merge v.chain.layers) run.closed after) same leaves);
           finished = so.finished;
+          kept = λ some. each_err (StopsEnd disk v) (λ x. OnOk run.closed (has_merge v.chain.layers ≡ true)) (kept_run small) merged so.stopped;
           stopped = each_err (StopsEnd disk v) (StopsMerge run) (stops_run small) merged so.stopped;
           near = subst (λ (c : Chain S KeepAll T). IfErr merged (IsNearEnd disk c v.full)) same (each_err (StopsEnd disk v) (IsNearEnd disk v.first v.full) near_run merged so.stopped);
         }
@@ -346,8 +369,8 @@ module _ {S T : Type 0} (disk : S → Disk) where
 
   -- memory ran out before the chain could be shared, and its session was ended
   pub unserved_is : (merges : Bool) (first : Chain S KeepAll T) → first.recorder ≡ [] → (names : List (List ℕ)) (lines : List Line) (run : MergeRun) (after : Disk) → IfOk run.run.transcript (λ text. ⊥) → run.run.fault ≡ None → run.merged ≡ Err NoMemory
-      → EndsCounted (disk first.store) after None run.run.closed → LeavesHistory (session_of disk first) [] None None (has_merge first.layers) run.run.closed after → HasServed disk merges first names lines run after
-  unserved_is merges first empty names lines run after none fault merged counted leaves = record {
+      → (merges ≡ true → has_merge first.layers ≡ true) → EndsCounted (disk first.store) after None run.run.closed → LeavesHistory (session_of disk first) [] None None (has_merge first.layers) run.run.closed after → HasServed disk merges first names lines run after
+  unserved_is merges first empty names lines run after none fault merged has counted leaves = record {
     guests = replicate (guest_count lines) [];
     history = [];
     broken = None;
@@ -372,6 +395,7 @@ module _ {S T : Type 0} (disk : S → Disk) where
     under_way = has_merge first.layers;
     leaves = leaves;
     finished = λ some. subst (λ r. OnOk r (has_merge first.layers ≡ false)) (sym merged) tt;
+    kept = λ some. subst (λ r. IfErr r (λ x. OnOk run.run.closed (has_merge first.layers ≡ true))) (sym merged) (any_ok run.run.closed (has some));
     stopped = subst (λ r. IfErr r (StopsMerge run.run)) (sym merged) none;
     near = subst (λ r. IfErr r (IsNearEnd disk first None)) (sym merged) tt;
   }

@@ -1,10 +1,11 @@
 -- A session with several guests and a merge beside them, from its start to its end.
 use Rattle.std.proofs.Common.{◌≡◌, ◌||◌, ℕ, Bool, true, false, List, [], Option, Some, None, Result, Ok, Err, refl, sym, ap, ap₂, subst, ◌∙◌}
-use Rattle.std.specs.Prelude.{IfErr, is_some, not}
+use Rattle.std.specs.Prelude.{IfErr, OnOk, is_some}
 use Rattle.std.proofs.lemmas.Bool.{or_from, or_parts}
 use Rattle.std.proofs.lemmas.Result.{on_ok_weaker}
 use Rattle.store_model.specs.Disk.{Disk, WhereBothTold}
 use Rattle.store_model.specs.Trace.{Trace}
+use Rattle.store_model.specs.declared.fault.StoreFault.{StoreFault}
 use Rattle.store_model.proofs.Told.{counts_join}
 use Rattle.vx_base.specs.declared.parts.Geometry.{Geometry}
 use Rattle.guest_model.specs.History.{is_dirty}
@@ -12,7 +13,6 @@ use Rattle.guest_model.specs.declared.recorder.KeepAll.{KeepAll}
 use Rattle.guest_model.specs.declared.refusal.ChainRefusal.{ChainRefusal}
 use Rattle.guest_model.specs.declared.refusal.ChainRefusal.TheVariants.{Abandoned, Broken, EmptyRange, FileFull, NoMerge, NoPiece, NoRoom, NoStripe, NotYet, OutOfRange, ReadFault, ReadOnly, Spent, Stale, TooLong}
 use Rattle.chain_model.specs.Moments.{EachOpensToPrefix}
-use Rattle.layer_session.proofs.Equal.{false_true}
 use Rattle.link_rules.specs.declared.linked.LinkedFile.{LinkedFile}
 use Rattle.merge_plan.specs.Attached.{AreAsOpened, CanStart}
 use Rattle.merge_plan.specs.LeafMerging.{LeafFiles}
@@ -46,13 +46,11 @@ use Rattle.serve_session.specs.declared.merging.MergeRun.{MergeRun}
 use Rattle.serve_session.proofs.Filled.{long_up}
 use Rattle.serve_session.proofs.Sessions.{counts_change, last_as, whole_as}
 
-not_true : (b : Bool) → not b ≡ true → b ≡ false
-not_true false e = refl
-not_true true e = absurd (false_true e)
-
-not_false : (b : Bool) → not b ≡ false → b ≡ true
-not_false true e = refl
-not_false false e = absurd (false_true (sym e))
+-- what holds of an end that didn't fail, where the merge was stopped
+stays_by : (P Q : Type 0) (merged : Result (Unit {0}) ChainRefusal) (closed : Result (Unit {0}) StoreFault) → IfErr merged (λ x. OnOk closed P) → OnOk closed (P → Q) → IfErr merged (λ x. OnOk closed Q)
+stays_by P Q (Ok done) closed p f = tt
+stays_by P Q (Err x) (Ok done) p f = f p
+stays_by P Q (Err x) (Err fault) p f = tt
 
 module _ {S T : Type 0} (disk : S → Disk) (first : Chain S KeepAll T) (names : List (List ℕ)) (lines : List Line) (run : MergeRun) (after : Disk) (h : HasServed disk true first names lines run after) (sector : first.layers.geometry.sector ≡ 512) where
   module _ (scope : Scope) (geometry : first.layers.geometry ≡ scope.geometry) (session : is_some first.layers.leaf ≡ true) (v : State) (trace mid : Trace) (is : IsScope scope v trace mid) (mid_is : (disk first.store).told ≡ Some mid) (serving : IsServing first.layers v mid) where
@@ -112,10 +110,8 @@ module _ {S T : Type 0} (disk : S → Disk) (first : Chain S KeepAll T) (names :
           no_log = all_unnamed scope v trace mid is h.history left.to same now left.still (w.no_log session);
           opens = whole_as (sector_of left.to) sector_size left.to.opening (opening_disk trace scope.files) left.to.leaf scope.leaf left.to.history h.history now to_size (same.opening ∙ is.opening) (same.leaf ∙ is.leaf) same.history w.opens;
         }) left.whole;
-        gone = not h.under_way;
-        finished = on_ok_weaker run.merged (λ none. ap not none) (h.finished refl);
-        linked = λ none. on_ok_weaker run.run.closed (λ w. links_left scope v trace mid is h.history left.to same now (w.under_way ∙ not_true h.under_way none) w.links) left.whole;
-        stays = λ some. on_ok_weaker run.run.closed (λ w. links_all scope v trace mid is h.history left.to same now (w.under_way ∙ not_false h.under_way some) w.links) left.whole;
+        linked = on_ok_weaker run.merged (λ none. on_ok_weaker run.run.closed (λ w. links_left scope v trace mid is h.history left.to same now (w.under_way ∙ none) w.links) left.whole) (h.finished refl);
+        stays = stays_by _ _ run.merged run.run.closed (h.kept refl) (on_ok_weaker run.run.closed (λ w some. links_all scope v trace mid is h.history left.to same now (w.under_way ∙ some) w.links) left.whole);
         stopped = stopped run.merged h.near;
       }
 

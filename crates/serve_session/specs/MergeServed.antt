@@ -35,7 +35,7 @@ IsStopTold may now other = ⊤
 
 -- What stands behind guests that were told so, over the files of a store, whatever of the merge was done between their calls. At each moment
 -- each image opens from the leaf's name to the disk of a prefix of the history, outside the sectors that are open then, and at the end to that
--- of all. No file but those was changed. Where the merge was finished the leaf's name leads to the files that stay, and else to these or to all.
+-- of all. No file but those was changed. Where the merge was finished the leaf's name leads to the files that stay, and where it was stopped to all.
 pub record HasServedOver (scope : Scope) (lines : List Line) (guests : List (List Outcome)) (history : History) (broken : Option Break) (merged : Result (Unit {0}) ChainRefusal) (closed : Result (Unit {0}) StoreFault) (trace now : Trace) : Type 0 where
   pub served : AreServed true (drive_over scope trace) lines guests history (failed_by closed) broken
   pub moments : EachOpensToPrefix sector_size (opening_disk trace scope.files) history (open_by broken) scope.leaf trace now
@@ -43,10 +43,8 @@ pub record HasServedOver (scope : Scope) (lines : List Line) (guests : List (Lis
   pub full : AllByRecursion (IsEndTold (IsSoLong scope.changes now)) (all_told guests)
   pub still : (other : ℕ) → scope.changes other ≡ false → file_of now other ≡ file_of trace other
   pub at_rest : OnOk closed (IsAtRestOver scope (drive_over scope trace) history now)
-  pub gone : Bool
-  pub finished : OnOk merged (gone ≡ true)
-  pub linked : gone ≡ true → OnOk closed (EachLinks scope.leaf.name scope.staying now)
-  pub stays : gone ≡ false → OnOk closed (EachLinks scope.leaf.name (map (λ (f : LinkedFile). f.name) scope.files) now)
+  pub linked : OnOk merged (OnOk closed (EachLinks scope.leaf.name scope.staying now))
+  pub stays : IfErr merged (λ x. OnOk closed (EachLinks scope.leaf.name (map (λ (f : LinkedFile). f.name) scope.files) now))
   pub stopped : IfErr merged (IsStopTold scope.changes now)
 
 -- Why a merge isn't finished at the end: a file is full; a read failed, as the last fault that was met; or a fault has broken the session. Where

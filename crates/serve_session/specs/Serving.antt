@@ -81,7 +81,8 @@ IsNearEnd disk first full other = ⊤
 -- Guests were served over a chain whose session had begun with no call, beside a merge if there is one, and then it ended. What they were told is one
 -- history's; if there is a transcript it is of all calls of the script. What was told of faults the store counts, and what was told of a full file
 -- is noted; each moment since the session began leaves what the history says; the sectors that are open for the call that broke the session are
--- among those that it names. At the end a merge is under way, or none is, and none if it was finished.
+-- among those that it names. At the end a merge is under way, or none is: none if it was finished, and where the end of the session didn't fail
+-- it is under way if that was stopped.
 pub record HasServed {S T : Type 0} (disk : S → Disk) (merges : Bool) (first : Chain S KeepAll T) (names : List (List ℕ)) (lines : List Line) (run : MergeRun) (after : Disk) : Type 0 where
   pub guests : List (List Outcome)
   pub history : History
@@ -98,5 +99,6 @@ pub record HasServed {S T : Type 0} (disk : S → Disk) (merges : Bool) (first :
   pub under_way : Bool
   pub leaves : LeavesHistory (session_of disk first) history full breach under_way run.run.closed after
   pub finished : merges ≡ true → OnOk run.merged (under_way ≡ false)
+  pub kept : merges ≡ true → IfErr run.merged (λ x. OnOk run.run.closed (under_way ≡ true))
   pub stopped : IfErr run.merged (StopsMerge run.run)
   pub near : IfErr run.merged (IsNearEnd disk first full)

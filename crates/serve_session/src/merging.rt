@@ -1,7 +1,7 @@
 //! A script's session with several guests over the files of a chain, in which a file is merged beside them.
 
 ghost use Rattle.std.specs.Prelude.{◌≡◌, ◌≤◌, ◌^◌, All, [], None, true, length, map, IfErr, IfOk, OnErr};
-ghost use Rattle.chain_core.specs.Sessions.{IsSound};
+ghost use Rattle.chain_core.specs.Sessions.{IsSound, has_merge};
 ghost use Rattle.shared_chain.specs.Homes.{session_of};
 ghost use Rattle.serve_session.specs.Serving.{HasServed};
 ghost use Rattle.chain_core.specs.Starting.{EachOpensAlike};
@@ -75,6 +75,7 @@ fn serve_merging<S: Store + Send, R: Threads + Wait + Sync, G: Gate + Sync, N: A
 where
     S::R: Send,
     requires sound { IsSound (session_of S.disk chain) }
+    requires under_way { has_merge chain.layers ≡ true }
     requires fresh { (chain.events ≡ 0) × (chain.broken ≡ None) × (chain.recorder ≡ []) }
     requires few { length lines.now ≤ 2 ^ 20 }
     requires count { length rooms.items ≡ guest_count lines.now }

@@ -24,7 +24,7 @@ use Rattle.chain_core.specs.Answering.{fault_of}
 use Rattle.chain_core.specs.Copying.{FetchCause, HasMarked, IfStopped, IsMissing, MarksIn, MarksToo, PutCause, fetch_refused, merge_refused, no_merge, no_stripe, past_stripes, put_refused, stale, stamp_in, stamp_of, unfilled}
 use Rattle.chain_core.specs.Finished.{FinishCause}
 use Rattle.chain_core.specs.Refusing.{broken_by, or_else, unfit}
-use Rattle.chain_core.specs.Sessions.{HasNoMerge, IsSound, Session, has_merge, kept_marks, marks_in}
+use Rattle.chain_core.specs.Sessions.{HasNoMerge, IsSound, KeepsMerge, Session, has_merge, kept_marks, marks_in}
 use Rattle.chain_core.specs.States.{IsServing, State}
 use Rattle.layer_session.proofs.Equal.{none_some, ok_err, some_none, some_same, true_false}
 use Rattle.script_session.specs.MergeSteps.{AnswersCopy, AnswersFetch, AnswersFinish, AnswersPut, AnswersTurn, AnswersTurns, EndsCopy, IsNext, IsUnchanged, KeepsHistory, all_moved, fetched_and, no_turn, not_fetched, one_more, one_refused}
@@ -224,8 +224,8 @@ marks_there layers = go layers.merge layers.retiring
 pub data EndsBy (new : Session) : ChainRefusal → Type 0 where
   by_spent : (t : ℕ) → 2 ^ 63 ≤ t → t ≤ new.events → EndsBy new (Spent t)
   by_broken : (file count : ℕ) → new.broken ≡ Some (fault_of file count) → EndsBy new (Broken file count)
-  by_read : (file count : ℕ) → EndsBy new (ReadFault file count)
-  by_full : (next : ℕ) → EndsBy new (FileFull next)
+  by_read : (file count : ℕ) → has_merge new.layers ≡ true → EndsBy new (ReadFault file count)
+  by_full : (next : ℕ) → has_merge new.layers ≡ true → EndsBy new (FileFull next)
 
 -- it is one of these
 abbrev IsEnd : ChainRefusal → Type 0
@@ -238,8 +238,8 @@ IsEnd other = ⊥
 is_end : (new : Session) (x : ChainRefusal) → EndsBy new x → IsEnd x
 is_end new _ (by_spent t high low) = tt
 is_end new _ (by_broken file count is) = tt
-is_end new _ (by_read file count) = tt
-is_end new _ (by_full next) = tt
+is_end new _ (by_read file count has) = tt
+is_end new _ (by_full next has) = tt
 
 -- a cause that is there before a merge is looked for
 unfit_ends : (events : ℕ) (broken : Option StoreFault) (new : Session) (x : ChainRefusal) → events ≤ new.events → new.broken ≡ broken → unfit events broken ≡ Some x → EndsBy new x
@@ -305,20 +305,27 @@ next_fits stripe s sound whole next = go (kept_marks s.layers) refl next.missing
         ap (λ b. if b then past_stripes stripe (stripe_count s.layers.geometry.sector s.layers.geometry.sectors) else Some NoMerge) (merge_kept m s.layers is)
         ∙ ap (λ b. if b then None else Some (NoStripe stripe (stripe_count s.layers.geometry.sector s.layers.geometry.sectors))) (lt-ltb stripe (stripe_count s.layers.geometry.sector s.layers.geometry.sectors) (subst (λ n. stripe < n) each low.there))
 
+-- a stripe is one of a merge that is under way
+stripe_has : (stripe : ℕ) (layers : Layers) → no_stripe stripe layers ≡ None → has_merge layers ≡ true
+stripe_has stripe layers is = go (has_merge layers) refl
+  where
+    go : (b : Bool) → has_merge layers ≡ b → has_merge layers ≡ true
+    go true e = e
+    go false e = absurd (some_none (sym (ap (λ b. if b then past_stripes stripe (stripe_count layers.geometry.sector layers.geometry.sectors) else Some NoMerge) e) ∙ is))
+
+has_still : (old new : Layers) → KeepsMerge old new → has_merge old ≡ true → has_merge new ≡ true
+has_still old new k has = ap₂ (λ (o : Option Underway) (r : Option Retiring). is_some o || is_some r) k.0 k.1 ∙ has
+
 -- what was just fetched can be put
 module _ (stripe stamp : ℕ) (old mid : Session) (piece : Piece) (h : AnswersFetch stripe (Ok stamp) old mid piece) where
   found : no_stripe stripe old.layers ≡ None
   found = (parts_none (unfit old.events old.broken) (no_stripe stripe old.layers) (ok_reached _ (fetch_refused stripe old) stamp h.early)).1
 
   there : has_merge old.layers ≡ true
-  there = go (has_merge old.layers) refl
-    where
-      go : (b : Bool) → has_merge old.layers ≡ b → has_merge old.layers ≡ true
-      go true e = e
-      go false e = absurd (some_none (sym (ap (λ b. if b then past_stripes stripe (stripe_count old.layers.geometry.sector old.layers.geometry.sectors) else Some NoMerge) e) ∙ found))
+  there = stripe_has stripe old.layers found
 
   same_merge : has_merge mid.layers ≡ true
-  same_merge = ap₂ (λ (o : Option Underway) (r : Option Retiring). is_some o || is_some r) h.merge.0 h.merge.1 ∙ there
+  same_merge = has_still old.layers mid.layers h.merge there
 
   can_put : or_else (no_merge mid.layers) (or_else (unfilled piece) (or_else (no_stripe piece.stripe mid.layers) (stale piece.stamp (stamp_of mid.layers piece.stripe)))) ≡ None
   can_put =
@@ -330,39 +337,39 @@ module _ (stripe stamp : ℕ) (old mid : Session) (piece : Piece) (h : AnswersFe
       let stamp_now : stamp_of mid.layers piece.stripe ≡ piece.stamp = ap₂ stamp_in h.merge.1 h.taken.stripe_is ∙ sym h.taken.stamp_is in
       ap₂ or_else merge (ap₂ or_else full (ap₂ or_else within (ap (stale piece.stamp) stamp_now ∙ never_stale piece.stamp)))
 
-put_ends : (piece : Piece) (old new : Session) (x : ChainRefusal) → PutCause piece old new (Err x) → EndsBy new x
-put_ends piece old new EmptyRange c = absurd c
-put_ends piece old new (OutOfRange first count sectors) c = absurd c
-put_ends piece old new (TooLong count limit) c = absurd c
-put_ends piece old new ReadOnly c = absurd c
-put_ends piece old new (Broken file count) c = by_broken file count c.3
-put_ends piece old new (Spent t) c = absurd c
-put_ends piece old new (FileFull next) c = by_full next
-put_ends piece old new (ReadFault file count) c = by_read file count
-put_ends piece old new NoMerge c = absurd c
-put_ends piece old new (Stale taken at) c = absurd c
-put_ends piece old new (NotYet stripe) c = absurd c
-put_ends piece old new (Abandoned file count) c = absurd c
-put_ends piece old new (NoStripe stripe stripes) c = absurd c
-put_ends piece old new NoPiece c = absurd c
-put_ends piece old new NoRoom c = absurd c
+put_ends : (piece : Piece) (old new : Session) (x : ChainRefusal) → has_merge old.layers ≡ true → PutCause piece old new (Err x) → EndsBy new x
+put_ends piece old new EmptyRange has c = absurd c
+put_ends piece old new (OutOfRange first count sectors) has c = absurd c
+put_ends piece old new (TooLong count limit) has c = absurd c
+put_ends piece old new ReadOnly has c = absurd c
+put_ends piece old new (Broken file count) has c = by_broken file count c.3
+put_ends piece old new (Spent t) has c = absurd c
+put_ends piece old new (FileFull next) has c = by_full next (has_still old.layers new.layers c.0 has)
+put_ends piece old new (ReadFault file count) has c = by_read file count (has_still old.layers new.layers c.0 has)
+put_ends piece old new NoMerge has c = absurd c
+put_ends piece old new (Stale taken at) has c = absurd c
+put_ends piece old new (NotYet stripe) has c = absurd c
+put_ends piece old new (Abandoned file count) has c = absurd c
+put_ends piece old new (NoStripe stripe stripes) has c = absurd c
+put_ends piece old new NoPiece has c = absurd c
+put_ends piece old new NoRoom has c = absurd c
 
-fetch_ends : (piece : Piece) (old new : Session) (x : ChainRefusal) → FetchCause old new piece (Err x) → EndsBy new x
-fetch_ends piece old new EmptyRange c = absurd c
-fetch_ends piece old new (OutOfRange first count sectors) c = absurd c
-fetch_ends piece old new (TooLong count limit) c = absurd c
-fetch_ends piece old new ReadOnly c = absurd c
-fetch_ends piece old new (Broken file count) c = absurd c
-fetch_ends piece old new (Spent t) c = absurd c
-fetch_ends piece old new (FileFull next) c = absurd c
-fetch_ends piece old new (ReadFault file count) c = by_read file count
-fetch_ends piece old new NoMerge c = absurd c
-fetch_ends piece old new (Stale taken at) c = absurd c
-fetch_ends piece old new (NotYet stripe) c = absurd c
-fetch_ends piece old new (Abandoned file count) c = absurd c
-fetch_ends piece old new (NoStripe stripe stripes) c = absurd c
-fetch_ends piece old new NoPiece c = absurd c
-fetch_ends piece old new NoRoom c = absurd c
+fetch_ends : (piece : Piece) (old new : Session) (x : ChainRefusal) → has_merge new.layers ≡ true → FetchCause old new piece (Err x) → EndsBy new x
+fetch_ends piece old new EmptyRange has c = absurd c
+fetch_ends piece old new (OutOfRange first count sectors) has c = absurd c
+fetch_ends piece old new (TooLong count limit) has c = absurd c
+fetch_ends piece old new ReadOnly has c = absurd c
+fetch_ends piece old new (Broken file count) has c = absurd c
+fetch_ends piece old new (Spent t) has c = absurd c
+fetch_ends piece old new (FileFull next) has c = absurd c
+fetch_ends piece old new (ReadFault file count) has c = by_read file count has
+fetch_ends piece old new NoMerge has c = absurd c
+fetch_ends piece old new (Stale taken at) has c = absurd c
+fetch_ends piece old new (NotYet stripe) has c = absurd c
+fetch_ends piece old new (Abandoned file count) has c = absurd c
+fetch_ends piece old new (NoStripe stripe stripes) has c = absurd c
+fetch_ends piece old new NoPiece has c = absurd c
+fetch_ends piece old new NoRoom has c = absurd c
 
 still_broken : (old new : Session) → IsUnchanged old new → new.broken ≡ old.broken
 still_broken old new is = ap (λ (s : Session). s.broken) is
@@ -374,7 +381,10 @@ put_stops stripe stamp old mid new piece x h p = go (put_refused piece mid) refl
     go (Some e) is =
         let early = subst (λ o. IfStopped {T = Unit {0}} o (Err x) (IsUnchanged mid new)) is p.early in
         subst (EndsBy new) (sym (same_err {T = Unit {0}} x e early.0)) (early_ends mid new _ e p.later (still_broken mid new early.1) (λ whole. can_put stripe stamp old mid piece h) is)
-    go None is = put_ends piece mid new x (p.cause is)
+    go None is = put_ends piece mid new x (same_merge stripe stamp old mid piece h) (p.cause is)
+
+still_has : (stripe : ℕ) (answer : Result ℕ ChainRefusal) (old new : Session) (left : Piece) → AnswersFetch stripe answer old new left → fetch_refused stripe old ≡ None → has_merge new.layers ≡ true
+still_has stripe answer old new left h fit = has_still old.layers new.layers h.merge (stripe_has stripe old.layers (parts_none (unfit old.events old.broken) (no_stripe stripe old.layers) fit).1)
 
 fetch_stops : (stripe : ℕ) (old new : Session) (left : Piece) (x : ChainRefusal) → IsNext stripe old → AnswersFetch stripe (Err x) old new left → EndsBy new x
 fetch_stops stripe old new left x next h = go (fetch_refused stripe old) refl
@@ -383,7 +393,7 @@ fetch_stops stripe old new left x next h = go (fetch_refused stripe old) refl
     go (Some e) is =
         let early = subst (λ o. IfStopped {T = ℕ} o (Err x) (IsUnchanged old new)) is h.early in
         subst (EndsBy new) (sym (same_err {T = ℕ} x e early.0)) (early_ends old new (no_stripe stripe old.layers) e h.later (still_broken old new early.1) (λ whole. next_fits stripe old h.sound whole next) is)
-    go None is = fetch_ends left old new x (h.cause is)
+    go None is = fetch_ends left old new x (still_has stripe (Err x) old new left h is) (h.cause is)
 
 turn_stops : (stripe : ℕ) (answer : Result (Unit {0}) ChainRefusal) (x : ChainRefusal) (old new : Session) → answer ≡ Err x → IsNext stripe old → AnswersTurn stripe answer old new → EndsBy new x
 turn_stops stripe _ x _ _ is next (not_fetched e old new left h) = subst (EndsBy new) (same_err {T = Unit {0}} e x is) (fetch_stops stripe old new left e next h)
@@ -422,8 +432,8 @@ turn_early stripe old new e same grown is = go (nat_lt old.events (2 ^ 63)) refl
 of_end : (stripe : ℕ) (old new : Session) (x : ChainRefusal) → EndsBy new x → TurnEnds stripe old new x
 of_end stripe old new _ (by_spent t high low) = turn_spent t high low
 of_end stripe old new _ (by_broken file count is) = turn_broken file count
-of_end stripe old new _ (by_read file count) = turn_read file count
-of_end stripe old new _ (by_full next) = turn_full next
+of_end stripe old new _ (by_read file count has) = turn_read file count
+of_end stripe old new _ (by_full next has) = turn_full next
 
 turn_refused : (stripe : ℕ) (answer : Result (Unit {0}) ChainRefusal) (x : ChainRefusal) (old new : Session) → answer ≡ Err x → AnswersTurn stripe answer old new → TurnEnds stripe old new x
 turn_refused stripe _ x _ _ is (not_fetched e old new left h) = subst (TurnEnds stripe old new) (same_err {T = Unit {0}} e x is) (go (fetch_refused stripe old) refl)
@@ -432,7 +442,7 @@ turn_refused stripe _ x _ _ is (not_fetched e old new left h) = subst (TurnEnds 
     go (Some f) first =
         let early = subst (λ o. IfStopped {T = ℕ} o (Err e) (IsUnchanged old new)) first h.early in
         subst (TurnEnds stripe old new) (sym (same_err {T = ℕ} e f early.0)) (turn_early stripe old new f early.1 h.later first)
-    go None fit = of_end stripe old new e (fetch_ends left old new e (h.cause fit))
+    go None fit = of_end stripe old new e (fetch_ends left old new e (still_has stripe (Err e) old new left h fit) (h.cause fit))
 turn_refused stripe _ x _ _ is (fetched_and answer stamp old mid new piece h p) = of_end stripe old new x (put_stops stripe stamp old mid new piece x h (subst (λ r. AnswersPut piece r mid new) is p))
 
 -- ---- a copy
@@ -603,11 +613,10 @@ turn_copies stripe front old new next below turn = by_turn (Ok tt) refl turn
         let low : IsLowest m.0.stripes (marks_of m.0) stripe = subst (λ o. IsMissing o (Some stripe)) m.1 next.missing in
         let put = subst (λ r. AnswersPut piece r mid new) is p in
         let cause = put.cause (ok_reached _ (put_refused piece mid) tt put.early) in
-        let kept : kept_marks mid.layers ≡ Some m.0 = ap₂ marks_in h.merge.0 h.merge.1 ∙ m.1 in
-        (
+        let kept : kept_marks mid.layers ≡ Some m.0 = ap₂ marks_in h.merge.0 h.merge.1 ∙ m.1 in (
           not_below (marks_of m.0) front stripe (below m.0 m.1) low.unmarked,
           λ n is t less. marks_behind stripe mid.layers new.layers m.0 n (subst (λ u. HasMarked u mid.layers new.layers (Ok tt)) h.taken.stripe_is cause.0) kept is t
-            ∙ marked_to (marks_of m.0) stripe t low.below less,
+              ∙ marked_to (marks_of m.0) stripe t low.below less,
         )
 
 turns_copied : (old : Session) (slot : Piece) (new : Session) (left : Piece) → AnswersTurns old slot new left → HasTurned old new
@@ -701,8 +710,9 @@ module _ {S T : Type 0} (disk : S → Disk) (old new first : Chain S KeepAll T) 
   stops : (x : ChainRefusal) → answer ≡ Err x → EndsBy (session_of disk new) x → StopsEnd disk after x
   stops _ is (by_spent t high low) = (high, low)
   stops _ is (by_broken file count broken) = broken
-  stops _ is (by_read file count) = fault_is ∙ ap (λ r. fault_after fault (as_answer r)) is
-  stops _ is (by_full next) = (
+  stops _ is (by_read file count has) = (has, fault_is ∙ ap (λ r. fault_after fault (as_answer r)) is)
+  stops _ is (by_full next has) = (
+    has,
     (is_stepped.noted (notes.Full next)).1 (inl (subst (λ r. HasNote (noted_in (as_answer r)) (notes.Full next)) (sym is) (inl (omega arith)))),
     end_near (session_of disk first) old.recorder full broke fault (session_of disk old) slot (session_of disk new) answer next is home e,
   )
@@ -739,9 +749,10 @@ module _ {S T : Type 0} (disk : S → Disk) (old new first : Chain S KeepAll T) 
   stops_copy stripe _ is (turn_spent t high low) = (high, low)
   stops_copy stripe _ is (turn_broken file count) = has_noted (Broken file count) (notes.ChangeFailed file count) is (inl (refl, refl))
   stops_copy stripe _ is (turn_read file count) =
-      let change = subst (λ r. IsChange (as_answer r) (disk old.store) (disk new.store) old.broken new.broken) is c.change in
-      (has_noted (ReadFault file count) (notes.ReadFailed file count) is (inl (refl, omega arith)),
-      λ was. at_end ((disk old.store).failed_reads file) ((disk new.store).failed_reads file) count change.2.rose change.2.told (noted_reads (disk old.store) old.broken full file count was))
+      let change = subst (λ r. IsChange (as_answer r) (disk old.store) (disk new.store) old.broken new.broken) is c.change in (
+        has_noted (ReadFault file count) (notes.ReadFailed file count) is (inl (refl, omega arith)),
+        λ was. at_end ((disk old.store).failed_reads file) ((disk new.store).failed_reads file) count change.2.rose change.2.told (noted_reads (disk old.store) old.broken full file count was),
+      )
   stops_copy stripe _ is (turn_full next) = has_noted (FileFull next) (notes.Full next) is (inl (omega arith))
   stops_copy stripe _ is (turn_none none) = none
   stops_copy stripe _ is (turn_past s n same past count) = (same, past, count)

@@ -9,7 +9,7 @@ use Rattle.chain_model.specs.Stripes.{stripe_count}
 use Rattle.merge_core.specs.Copied.{marks_of}
 use Rattle.merge_core.specs.declared.marks.Marks.{Marks}
 use Rattle.chain_core.specs.declared.chain.Chain.{Chain}
-use Rattle.chain_core.specs.Sessions.{HasNoMerge}
+use Rattle.chain_core.specs.Sessions.{HasNoMerge, has_merge}
 use Rattle.chain_core.specs.States.{IsServing, State}
 use Rattle.shared_chain.specs.declared.basis.Note.TheVariants as notes
 use Rattle.shared_chain.specs.Bases.{notes_of}
@@ -74,13 +74,14 @@ module _ {S T : Type 0} where
   StopsCopy disk stripe old new (refusals.Broken file count) = HasNote (notes_of disk new) (notes.ChangeFailed file count)
   StopsCopy disk stripe old new other = ⊥
 
-  -- Why a merge isn't finished at the end: the count of events is used up; a file is full, near the greatest place that a block may have; a read
-  -- failed; or a fault has broken the session.
+  -- Why a merge isn't finished at the end: the count of events is used up; a file is full, near the greatest place that a block may have, or a
+  -- read failed, the merge being under way still; or a fault has broken the session.
   abbrev pub StopsEnd : (S → Disk) → Shared (Chain S KeepAll T) → ChainRefusal → Type 0
   StopsEnd disk new (refusals.Spent t) = (2 ^ 63 ≤ t) × (t ≤ new.chain.events)
   StopsEnd disk new (refusals.FileFull next) =
-      HasNote (notes_of disk new) (notes.Full next) × WhereTold (disk new.first.store).told (λ trace. (from : State) → IsServing new.first.layers from trace → from.history ≡ [] → 2 ^ 43 < next + 1024)
-  StopsEnd disk new (refusals.ReadFault file count) = new.fault ≡ Some (record { file = file; count = count })
+      (has_merge new.chain.layers ≡ true) × HasNote (notes_of disk new) (notes.Full next)
+      × WhereTold (disk new.first.store).told (λ trace. (from : State) → IsServing new.first.layers from trace → from.history ≡ [] → 2 ^ 43 < next + 1024)
+  StopsEnd disk new (refusals.ReadFault file count) = (has_merge new.chain.layers ≡ true) × (new.fault ≡ Some (record { file = file; count = count }))
   StopsEnd disk new (refusals.Broken file count) = new.chain.broken ≡ Some (record { file = file; count = count })
   StopsEnd disk new other = ⊥
 

@@ -61,4 +61,3 @@ module _ {S T : Type 0} where
   -- so it is of each stripe that was claimed meanwhile
   pub record AreSwept (claimed numbers : List ℕ) (old new : Known Step (Basis S T)) : Type 0 where
     pub each : (stripe : ℕ) → HasStripe stripe numbers → HasStripe stripe claimed ⊎ IsSwept stripe old new
-

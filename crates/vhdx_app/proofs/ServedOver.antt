@@ -202,12 +202,11 @@ module _ (retired : List (List ℕ)) (leaf : LinkedFile) (others : List LinkedFi
       stopped_as (Err refusals.NoRoom) k = tt
 
       -- what the merge has left of the chain
-      left_by : (gone : Bool) (merged : Result (Unit {0}) ChainRefusal) (closed : Result (Unit {0}) StoreFault) → OnOk closed Resting → OnOk merged (gone ≡ true) → (gone ≡ true → OnOk closed (EachLinks leaf.name staying later_is.0))
-          → (gone ≡ false → OnOk closed (EachLinks leaf.name (names_of (leaf ∷ others)) later_is.0)) → OnOk closed (IsMergeLeft (stopped_by merged) (leaf_name L) L now name)
-      left_by gone merged (Err fault) a finished links stays = tt
-      left_by gone (Ok done) (Ok well) a finished links stays = scope_dropped retired leaf others old mid now lent disk idle served once chain lends back_is past_is count before after name changes staying may became f told h a are_left (links finished)
-      left_by true (Err e) (Ok well) a finished links stays = inl (scope_dropped retired leaf others old mid now lent disk idle served once chain lends back_is past_is count before after name changes staying may became f told h a are_left (links refl))
-      left_by false (Err e) (Ok well) a finished links stays = inr (scope_stays retired leaf others old mid now lent disk idle served once chain lends back_is past_is count before after name changes staying may became f told h a (stays refl))
+      left_by : (merged : Result (Unit {0}) ChainRefusal) (closed : Result (Unit {0}) StoreFault) → OnOk closed Resting → OnOk merged (OnOk closed (EachLinks leaf.name staying later_is.0))
+          → IfErr merged (λ x. OnOk closed (EachLinks leaf.name (names_of (leaf ∷ others)) later_is.0)) → OnOk closed (IsMergeLeft (stopped_by merged) (leaf_name L) L now name)
+      left_by merged (Err fault) a links stays = tt
+      left_by (Ok done) (Ok well) a links stays = scope_dropped retired leaf others old mid now lent disk idle served once chain lends back_is past_is count before after name changes staying may became f told h a are_left links
+      left_by (Err e) (Ok well) a links stays = scope_stays retired leaf others old mid now lent disk idle served once chain lends back_is past_is count before after name changes staying may became f told h a stays
 
       beside_in : ServedIn (Some name) L lines guests h broken run.merged run.run.closed f old now
       beside_in = record {
@@ -219,7 +218,7 @@ module _ (retired : List (List ℕ)) (leaf : LinkedFile) (others : List LinkedFi
         stopped = stopped_as run.merged over.stopped;
         rests = scope_rests_by run.run.closed over.at_rest;
         no_log = scope_logs_by run.run.closed over.at_rest;
-        left = left_by over.gone run.merged run.run.closed over.at_rest over.finished over.linked over.stays;
+        left = left_by run.merged run.run.closed over.at_rest over.linked over.stays;
       }
 
     beside_over : length guests ≡ guest_count lines → IfOk run.run.transcript (λ text. IsTranscript (names_of (leaf ∷ others)) lines guests h (string_bytes text)) → IfSome run.run.fault (Counts disk) → IfErr run.run.closed (Counts disk)

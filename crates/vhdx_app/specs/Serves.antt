@@ -93,11 +93,11 @@ abbrev pub IsStopTold : (ℕ → Type 0) → ChainRefusal → Type 0
 IsStopTold P (FileFull next) = (2 ^ 43 < next + 1024) × P next
 IsStopTold P other = ⊤
 
--- What a session with a merge leaves of the chain: a merge that is finished has dropped its source; one that isn't has, or the leaf's name leads
--- to all files.
+-- What a session with a merge leaves of the chain: a merge that is finished has dropped its source; of one that isn't the leaf's name leads to
+-- all files.
 abbrev pub IsMergeLeft : Option ChainRefusal → List ℕ → Linked → Hosted → List ℕ → Type 0
 IsMergeLeft None leaf linked now name = IsDropped leaf linked now name
-IsMergeLeft (Some stopped) leaf linked now name = IsDropped leaf linked now name ⊎ WhereTold now.folder (λ folder. LeadsTo (files_of folder) leaf (names_of linked.files))
+IsMergeLeft (Some stopped) leaf linked now name = WhereTold now.folder (λ folder. LeadsTo (files_of folder) leaf (names_of linked.files))
 
 -- What stands of the files since the chain was opened to this disk. The guests were told so over it. Each image of each moment opens to the disk
 -- of the first calls of the history, by the chain's files or by these without the one that is merged, of the last moment to that of all, and no

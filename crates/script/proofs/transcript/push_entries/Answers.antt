@@ -28,8 +28,8 @@ loop-entry-preserved c =
     let who = c.caller-guest.result in
     let is : IsTold guests e = subst (IsTold guests) (sym c.entry-item.is) (c.requires i e c.loop-entry-test.true) in
     let line : served_line (Some (i + 1)) e.guest e.no (told_of guests e.guest e.no) ≡ served_line (Some (i + 1)) who.guest who.no c.as_str.result.now =
-        told_at guests e who.guest who.no c.as_slice.result.now _ c.index-as_slice-no.result c.caller-guest.ensures.guest c.caller-guest.ensures.number is
-            (c.as_slice.ensures ∙ c.index-guests-guest.is) c.index-as_slice-no.is (Some (i + 1)) ∙ ap (served_line (Some (i + 1)) who.guest who.no) (sym c.as_str.ensures) in
+    told_at guests e who.guest who.no c.as_slice.result.now _ c.index-as_slice-no.result c.caller-guest.ensures.guest c.caller-guest.ensures.number is
+    (c.as_slice.ensures ∙ c.index-guests-guest.is) c.index-as_slice-no.is (Some (i + 1)) ∙ ap (served_line (Some (i + 1)) who.guest who.no) (sym c.as_str.ensures) in
     record {
       placed = ap (λ n. n + 1) c.loop-entry.invariant.placed;
       text = next_line (λ hs. entry_lines guests (i + 1) hs) history i e _ _ _ _ _ c.loop-entry-test.true c.in_ok-push_served_line.ensures

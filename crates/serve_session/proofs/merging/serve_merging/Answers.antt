@@ -20,6 +20,6 @@ returns-in-Err g c =
     let disk = g.S.Store.disk in
     let first = c.args.chain in
     unserved_is disk true first c.requires.fresh.2 (map g.N.AsStr.text c.args.names.now) c.args.lines.now c.unserved.result (disk c.in-Err.store)
-    c.unserved.ensures.transcript c.unserved.ensures.fault c.unserved.ensures.merged
+    c.unserved.ensures.transcript c.unserved.ensures.fault c.unserved.ensures.merged (λ some. c.requires.under_way)
     (subst (λ r. EndsCounted (disk first.store) (disk c.in-Err.store) None r) (sym c.unserved.ensures.closed) c.in-Err.ensures.counted)
     (subst (λ r. LeavesHistory (session_of disk first) [] None None (has_merge first.layers) r (disk c.in-Err.store)) (sym c.unserved.ensures.closed) c.in-Err.ensures.leaves)

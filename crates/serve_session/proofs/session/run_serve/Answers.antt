@@ -4,6 +4,7 @@ use Rattle.shared_chain.specs.Closing.{LeavesHistory}
 use Rattle.shared_chain.specs.Faults.{EndsCounted}
 use Rattle.shared_chain.specs.Homes.{session_of}
 use Rattle.serve_session.specs.Serving.{HasServed}
+use Rattle.layer_session.proofs.Equal.{false_true}
 use Rattle.serve_session.proofs.Final.{begun_is, unserved_is}
 use Rattle.serve_session.proofs.Sessions.{serve_ran}
 use Rattle.serve_session.proofs.session.run_serve.Goals as goal
@@ -25,7 +26,7 @@ returns-clause-ran g c =
           (subst (λ f. HasServed disk false f names lines w.serve.result.1 (disk w.serve.result.0)) (ap (λ v. v.first) w.in-Ok-new.ensures.ok) w.serve.ensures)
       | in-Err-new w ↦ subst (λ r. HasServed disk false first names lines r.1 (disk r.0)) (sym w.store-is)
           (unserved_is disk false first empty names lines w.unserved.result (disk w.in-Err-new.store)
-          w.unserved.ensures.transcript w.unserved.ensures.fault w.unserved.ensures.merged
+          w.unserved.ensures.transcript w.unserved.ensures.fault w.unserved.ensures.merged (λ never. absurd (false_true never))
           (subst (λ r. EndsCounted (disk first.store) (disk w.in-Err-new.store) None r) (sym w.unserved.ensures.closed) w.in-Err-new.ensures.counted)
           (subst (λ r. LeavesHistory (session_of disk first) [] None None (has_merge first.layers) r (disk w.in-Err-new.store)) (sym w.unserved.ensures.closed) w.in-Err-new.ensures.leaves))
     ] in

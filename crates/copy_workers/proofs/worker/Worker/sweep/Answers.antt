@@ -39,10 +39,10 @@ returns-clause-worked g c =
     let swept : Swept limit old mid × HasNoRepeats mid.claim.numbers = elim c.match-next.branch [
       | in-None w ↦ absurd (false_true (subst (λ o. IsSome o) w.in-None.is c.next.ensures.steps))
       | in-Some+in_default w ↦
-        let none = subst (λ o. IfNone o (w.claim.new.seat ≡ record (c.loop.self.claim) { is_closed = true })) w.in_default.is w.claim.ensures.none in
-        let claim : mid.claim ≡ w.claim.new.seat = ap (λ s. s.claim) w.self-is in
-        let seat : mid.seat ≡ c.loop.self.seat = ap (λ s. s.seat) w.self-is in
-        (swept_same limit old c.loop.self mid c.loop.invariant.swept (ap (λ s. s.numbers) claim ∙ ap (λ s. s.numbers) none) seat, subst (λ s. HasNoRepeats s.numbers) (sym claim) w.claim.ensures.once)
+          let none = subst (λ o. IfNone o (w.claim.new.seat ≡ record (c.loop.self.claim) { is_closed = true })) w.in_default.is w.claim.ensures.none in
+          let claim : mid.claim ≡ w.claim.new.seat = ap (λ s. s.claim) w.self-is in
+          let seat : mid.seat ≡ c.loop.self.seat = ap (λ s. s.seat) w.self-is in
+          (swept_same limit old c.loop.self mid c.loop.invariant.swept (ap (λ s. s.numbers) claim ∙ ap (λ s. s.numbers) none) seat, subst (λ s. HasNoRepeats s.numbers) (sym claim) w.claim.ensures.once)
     ] in
     swept_all limit old mid c.finish.new.self swept.0 swept.1 c.finish.ensures.worked
 
@@ -54,9 +54,9 @@ returns-clause-swept g c =
     let swept : Swept limit old mid × HasNoRepeats mid.claim.numbers = elim c.match-next.branch [
       | in-None w ↦ absurd (false_true (subst (λ o. IsSome o) w.in-None.is c.next.ensures.steps))
       | in-Some+in_default w ↦
-        let none = subst (λ o. IfNone o (w.claim.new.seat ≡ record (c.loop.self.claim) { is_closed = true })) w.in_default.is w.claim.ensures.none in
-        let claim : mid.claim ≡ w.claim.new.seat = ap (λ s. s.claim) w.self-is in
-        let seat : mid.seat ≡ c.loop.self.seat = ap (λ s. s.seat) w.self-is in
-        (swept_same limit old c.loop.self mid c.loop.invariant.swept (ap (λ s. s.numbers) claim ∙ ap (λ s. s.numbers) none) seat, subst (λ s. HasNoRepeats s.numbers) (sym claim) w.claim.ensures.once)
+          let none = subst (λ o. IfNone o (w.claim.new.seat ≡ record (c.loop.self.claim) { is_closed = true })) w.in_default.is w.claim.ensures.none in
+          let claim : mid.claim ≡ w.claim.new.seat = ap (λ s. s.claim) w.self-is in
+          let seat : mid.seat ≡ c.loop.self.seat = ap (λ s. s.seat) w.self-is in
+          (swept_same limit old c.loop.self mid c.loop.invariant.swept (ap (λ s. s.numbers) claim ∙ ap (λ s. s.numbers) none) seat, subst (λ s. HasNoRepeats s.numbers) (sym claim) w.claim.ensures.once)
     ] in
     swept_then limit old mid c.finish.new.self swept.0 c.finish.ensures.worked (ap (λ s. s.numbers) c.finish.ensures.claim)
