@@ -20,7 +20,7 @@ use Rattle.merge_core.specs.declared.piece.Piece.{Piece}
 use Rattle.chain_core.specs.Answering.{HasBroken, HasRoom, IsCausedBy, IsCausedByRead, IsDone, IsRefused, fault_of}
 use Rattle.chain_core.specs.Answering as chain
 use Rattle.chain_core.specs.Copying.{MergeFollows}
-use Rattle.chain_core.specs.Events.{IsCaused}
+use Rattle.chain_core.specs.Events.{IsCaused, placed}
 use Rattle.chain_core.specs.Merging.{IsTrueOf, IsTruePiece}
 use Rattle.chain_core.specs.Refusing.{barred as barred_call, broken_by, is_read, misplaced, or_else, out_of, range_of, refused}
 use Rattle.chain_core.specs.Sessions.{KeepsMerge, Session}
@@ -36,7 +36,8 @@ use Rattle.script_session.proofs.Lengths.{end_later, long_later, moments_grow}
 use Rattle.script_session.proofs.Marked.{marked_called, marked_kept, none_called_on, none_kept}
 use Rattle.script_session.proofs.Moving.{counted_low}
 use Rattle.script_session.proofs.Room.{IsFull, call_is_far}
-use Rattle.script_session.proofs.Telling.{both_told, kept_same, last_moment, names_entry, numbers_entry, same_err}
+use Rattle.script_session.specs.Answers.{HasCauseOf}
+use Rattle.script_session.proofs.Telling.{IsCallFar, Outcome, both_told, cause_same, done_whole, ends, kept_more, kept_same, last_moment, names_entry, next_place, no_cause_none, numbers_entry, outcome, same_err, stays, still_true}
 use Rattle.event_list.specs.Answered.{AnswersCall, as_reply}
 use Rattle.event_list.specs.Histories.{IsAt, IsEventTold, Stage, behind_call, call_breaks, is_done, is_stopped, no_merge, under_way}
 use Rattle.event_list.specs.declared.event.Event.TheVariants.{Guest}
@@ -45,46 +46,6 @@ use Rattle.event_list.specs.declared.event.EventAnswer.TheVariants as told
 use Rattle.event_list.specs.declared.event.EventAnswer.TheVariants.{Refused}
 use Rattle.event_list.proofs.Exchanged.{HoldsEach, waits_still}
 use Rattle.event_list.proofs.OneTold.{EventTold, StandsWith, barred, broken_by_it, broken_with, serves_with}
-
--- ---- small steps
-
--- the place of the next call
-next_place : (v : State) (noted : ℕ) → noted ≡ length v.history → IsNextPlace (noted + 1) v
-next_place v noted same = by_rest v.rest
-  where
-    by_rest : (rest : Rest) → NextIn rest (noted + 1 ≡ length v.history + 1)
-    by_rest (plain others) = tt
-    by_rest (merging above source target below m) = tt
-    by_rest (retiring target below first before) = ap (λ n. n + 1) same
-
-cause_same : (drive : Drive) (v : State) (s : Session) (call : Call) → IsOver drive v s → s.events < 2 ^ 63 → refused call s ≡ cause_of drive s.broken call
-cause_same drive v s call over few =
-    ap (λ b. or_else (if b then broken_by s.broken else Some (Spent s.events)) (misplaced call s.layers)) (lt-ltb s.events (2 ^ 63) few)
-    ∙ ap₂ (λ (g : Geometry) (c : Bool). or_else (broken_by s.broken) (out_of (range_of g call) (barred_call call c))) over.geometry over.change
-
-no_cause_none : (drive : Drive) (broken : Option Break) (call : Call) → cause_of drive (fault_in broken) call ≡ None → broken ≡ None
-no_cause_none drive None call h = refl
-no_cause_none drive (Some b) call h = cc
-
--- a piece stays true of its source, as it was at its stamp, whatever call is made
-still_true : (v : State) (e : Entry) (p : merges.Piece) → IsTruePiece v p → IsTruePiece (with_entry e v) p
-still_true v e p = by_rest v.rest
-  where
-    by_rest : (rest : Rest) → IsTrueOf (sector_of v) v.history rest p → IsTrueOf (sector_of v) (v.history ++ e ∷ []) rest p
-    by_rest (plain others) is = tt
-    by_rest (merging above source target below m) is = is
-    by_rest (retiring target below first before) is = record {
-      reached = omega (arith, is.reached, length-append v.history (e ∷ []));
-      within = is.within;
-      taken = λ s own. is.taken s own ∙ ap (λ h. with_history (sector_of v) first h s) (sym (take-append-le p.stamp v.history (e ∷ []) is.reached));
-    }
-
-kept_more : (before after : Option (List Entry)) (h : History) (e : Entry) → IfSome before (λ t. t ≡ h) → after ≡ option_map (λ t. t ++ e ∷ []) before → IfSome after (λ t. t ≡ h ++ e ∷ [])
-kept_more before after h e is f = subst (λ o. IfSome o (λ t. t ≡ h ++ e ∷ [])) (sym f) (go before is)
-  where
-    go : (o : Option (List Entry)) → IfSome o (λ t. t ≡ h) → IfSome (option_map (λ t. t ++ e ∷ []) o) (λ t. t ≡ h ++ e ∷ [])
-    go None is = tt
-    go (Some t) is = ap (λ t. t ++ e ∷ []) is
 
 -- ---- what a call makes of the merge and of what waits
 
@@ -103,62 +64,14 @@ holds_called v e g h pieces (under_way l copied waits) same holds = λ slot piec
 holds_still : (v : State) (g h : Geometry) (pieces : List Piece) (stage : Stage) → h ≡ g → HoldsEach v g pieces stage → HoldsEach v h pieces stage
 holds_still v g h pieces stage same holds = subst (λ k. HoldsEach v k pieces stage) (sym same) holds
 
--- ---- what the answer of a call that reached the files comes to
+-- ---- its cause
 
-data Outcome (call : Call) (e : Entry) (v : State) (s : Session) (trace now : Trace) : ChainRefusal → Type 0 where
-  stays : (x : ChainRefusal) → Stops call x → IsEndTold (IsSoLong v.writes trace) (Err x) → s.broken ≡ None → IsRefused v s.layers trace now → Outcome call e v s trace now x
-  ends : (file count : ℕ) → is_read call ≡ false → s.broken ≡ Some (fault_of file count) → HasBroken e v trace now → Outcome call e v s trace now (Broken file count)
-
--- a change that is stopped for want of room is near the file's last place, and that is the end of one that may be changed
-abbrev IsCallFar : Call → (ℕ → Bool) → Trace → ChainRefusal → Type 0
-IsCallFar call may trace x = (next : ℕ) → x ≡ FileFull next → (asks_room call ≡ true) × IsFull may trace next
-
-module _ (e : Entry) (v : State) (old new : Session) (trace now : Trace) where
-  read_outcome : (first count : ℕ) (x : ChainRefusal) → IsCausedByRead old new (Err x) → chain.Answers e v new.layers trace now (Err x) → Outcome (calls.Read first count) e v new trace now x
-  read_outcome first count EmptyRange c a = absurd c
-  read_outcome first count (OutOfRange from size sectors) c a = absurd c
-  read_outcome first count (TooLong size limit) c a = absurd c
-  read_outcome first count ReadOnly c a = absurd c
-  read_outcome first count (Broken file times) c a = absurd c
-  read_outcome first count (Spent t) c a = absurd c
-  read_outcome first count (FileFull next) c a = absurd c
-  read_outcome first count (ReadFault file times) c a = stays (ReadFault file times) tt tt c.1 a
-  read_outcome first count NoMerge c a = absurd c
-  read_outcome first count (Stale taken at) c a = absurd c
-  read_outcome first count (NotYet stripe) c a = absurd c
-  read_outcome first count (Abandoned file times) c a = absurd c
-  read_outcome first count (NoStripe stripe stripes) c a = absurd c
-  read_outcome first count NoPiece c a = absurd c
-  read_outcome first count NoRoom c a = stays NoRoom tt tt c.1 a
-
-  change_outcome : (call : Call) → is_read call ≡ false → (x : ChainRefusal) → IsCallFar call v.writes trace x → IsCausedBy old new (Err x) → chain.Answers e v new.layers trace now (Err x) → Outcome call e v new trace now x
-  change_outcome call changes EmptyRange far c a = absurd c
-  change_outcome call changes (OutOfRange first count sectors) far c a = absurd c
-  change_outcome call changes (TooLong count limit) far c a = absurd c
-  change_outcome call changes ReadOnly far c a = absurd c
-  change_outcome call changes (Broken file count) far c a = ends file count changes c.1 a
-  change_outcome call changes (Spent t) far c a = absurd c
-  change_outcome call changes (FileFull next) far c a = let f = far next refl in stays (FileFull next) (f.0, f.1.0) f.1.1 c.1 a
-  change_outcome call changes (ReadFault file count) far c a = stays (ReadFault file count) tt tt c.1 a
-  change_outcome call changes NoMerge far c a = absurd c
-  change_outcome call changes (Stale taken at) far c a = absurd c
-  change_outcome call changes (NotYet stripe) far c a = absurd c
-  change_outcome call changes (Abandoned file count) far c a = absurd c
-  change_outcome call changes (NoStripe stripe stripes) far c a = absurd c
-  change_outcome call changes NoPiece far c a = absurd c
-  change_outcome call changes NoRoom far c a = stays NoRoom tt tt c.1 a
-
-  outcome : (call : Call) (x : ChainRefusal) → (is_read call ≡ false → IsCallFar call v.writes trace x) → IsCaused call old new (answers.Refused x) → refused call old ≡ None → chain.Answers e v new.layers trace now (Err x) → Outcome call e v new trace now x
-  outcome (calls.Read first count) x far c fit a = read_outcome first count x (c fit) a
-  outcome (calls.Write first bytes) x far c fit a = change_outcome (calls.Write first bytes) refl x (far refl) (c fit) a
-  outcome (calls.Trim first count) x far c fit a = change_outcome (calls.Trim first count) refl x (far refl) (c fit) a
-  outcome calls.Flush x far c fit a = change_outcome calls.Flush refl x (far refl) (c fit) a
-
-done_whole : (call : Call) (place : ℕ) (r : Reply) (old new : Session) → IsCaused call old new (answers.Reply place r) → refused call old ≡ None → new.broken ≡ None
-done_whole (calls.Read first count) place r old new c fit = (c fit).1
-done_whole (calls.Write first bytes) place r old new c fit = (c fit).1
-done_whole (calls.Trim first count) place r old new c fit = (c fit).1
-done_whole calls.Flush place r old new c fit = (c fit).1
+-- an answer with a reply has the cause of its place
+cause_placed : (call : Call) (answer : Answer) (old new : Session) → IsCaused call old new answer → HasCauseOf call old new (placed answer)
+cause_placed (calls.Read first count) answer old new c = c
+cause_placed (calls.Write first bytes) answer old new c = c
+cause_placed (calls.Trim first count) answer old new c = c
+cause_placed calls.Flush answer old new c = c
 
 -- ---- one call
 
@@ -222,7 +135,7 @@ module _ (drive : Drive) (who : Caller) (call : Call) (v : State) (stage : Stage
       → AnswersCall who call (answers.Reply place r) old new → refused call old ≡ None → IsDone by_event v new.layers trace now → Line (told.Reply place r) None
   done place r now told_now cause serving at holds h fit is =
       let notes = h.notes fit in
-      let b : new.broken ≡ None = done_whole call place r old new h.cause fit in
+      let b : new.broken ≡ None = done_whole call place old new (cause_placed call (answers.Reply place r) old new h.cause) fit in
       let place_is : length v.history + 1 ≡ place = ap (λ n. n + 1) (sym over.noted) ∙ sym notes.1 ∙ sym notes.2 in
       let disk : disk_after drive v.history ≡ disk_now v = ap₂ (λ (z : ℕ) (o : Disk). replay z o v.history) (sym over.sector) (sym over.opening) in
       let replied : reply (disk_after drive v.history) call ≡ r = ap (λ k. reply k call) disk ∙ h.replies trace seen v serving in
@@ -278,7 +191,7 @@ module _ (drive : Drive) (who : Caller) (call : Call) (v : State) (stage : Stage
             by_none : (broken : Option Break) → broken ≡ None → StandsWith v old pieces trace stage broken → Line (Refused x) broken
             by_none None none (serves_with whole serving at holds) =
                 stopped x after.0 after.1 (cause_none is) h is at holds
-                (outcome by_event v old new trace after.0 call x (far serving) h.cause is (after.2 v serving (next_place v old.noted over.noted)))
+                (outcome by_event v old new trace after.0 call x (far serving) (cause_placed call (answers.Refused x) old new h.cause) is (after.2 v serving (next_place v old.noted over.noted)))
             by_none (Some b) none stands = let bad : ◌≡◌ {A = Option Break} (Some b) None = none in absurd (cc)
 
     done_told : (place : ℕ) (r : Reply) → AnswersCall who call (answers.Reply place r) old new → Line (told.Reply place r) broken

@@ -26,7 +26,7 @@ use Rattle.script_session.proofs.Copying.{FetchEnds, IsCopying, PutEnds, Unfetch
 use Rattle.script_session.proofs.LeftFiles.{later_put}
 use Rattle.script_session.proofs.Lengths.{grows_none, moments_grow, past_free}
 use Rattle.script_session.proofs.Moving.{unfilled_refused}
-use Rattle.script_session.proofs.Steps.{finish_left}
+use Rattle.script_session.proofs.Steps.{broken_refused, copy_none, fetch_none, finish_left, put_none}
 use Rattle.script_session.proofs.Telling.{both_told}
 use Rattle.event_list.specs.Answered.{FetchesInto, PutsFrom, as_copied, as_finished, as_stamp}
 use Rattle.event_list.specs.Histories.{IsAt, IsEventTold, Stage, emptied, event_cause, fetch_stopped, finish_breaks, is_fetched, is_finished, is_put, is_refused, no_merge, not_yet, put_breaks, put_stopped, under_way, with_slot}
@@ -36,29 +36,6 @@ use Rattle.event_list.specs.declared.event.EventAnswer.{EventAnswer}
 use Rattle.event_list.specs.declared.event.EventAnswer.TheVariants.{Copied, Finished, Refused, Stamp}
 use Rattle.event_list.proofs.Exchanged.{HoldsAll, HoldsEach, holds_emptied, holds_exchanged, true_put, waits_still}
 use Rattle.event_list.proofs.OneTold.{EventTold, StandsWith, barred, breaks, broken_with, goes_on, serves_with}
-
--- ---- causes
-
-broken_refused : (s : Session) (later : Option ChainRefusal) (fault : StoreFault) → s.events < 2 ^ 63 → s.broken ≡ Some fault → or_else (unfit s.events s.broken) later ≡ Some (Broken fault.file fault.count)
-broken_refused s later fault few e =
-    ap₂ (λ (b : Bool) (o : Option StoreFault). or_else (if b then broken_by o else Some (Spent s.events)) later) (lt-ltb s.events (2 ^ 63) few) e
-
--- with no merge under way
-module _ (s : Session) (few : s.events < 2 ^ 63) (whole : s.broken ≡ None) (none : s.layers.merge ≡ None) (alone : s.layers.retiring ≡ None) where
-  is_none : has_merge s.layers ≡ false
-  is_none = ap₂ (λ (o : Option Underway) (r : Option Retiring). is_some o || is_some r) none alone
-
-  barred_is : no_merge_in s.layers ≡ Some NoMerge
-  barred_is = ap (λ b. if b then None else Some NoMerge) is_none
-
-  fetch_none : (stripe : ℕ) → fetch_refused stripe s ≡ Some NoMerge
-  fetch_none stripe = ap₂ or_else (is_fit s few whole) (ap (λ b. if b then past_stripes stripe (stripe_count s.layers.geometry.sector s.layers.geometry.sectors) else Some NoMerge) is_none)
-
-  put_none : (piece : Piece) → put_refused piece s ≡ Some NoMerge
-  put_none piece = ap₂ or_else (is_fit s few whole) (ap (λ m. or_else m (or_else (unfilled piece) (or_else (no_stripe piece.stripe s.layers) (stale piece.stamp (stamp_of s.layers piece.stripe))))) barred_is)
-
-  finish_none : merge_refused s ≡ Some NoMerge
-  finish_none = ap₂ or_else (is_fit s few whole) barred_is
 
 -- ---- one step
 
@@ -261,7 +238,7 @@ module _ (drive : Drive) (v : State) (old new : Session) (pieces left : List Pie
   finish_told stage (Some b) answer (broken_with _ e others past last) h same =
       finish_barred stage (Some b) answer (Broken b.fault.file b.fault.count) (broken_refused old _ b.fault few e) refl (broken_with b e others past last) h same
   finish_told no_merge None answer (serves_with whole serving at holds) h same =
-      finish_barred no_merge None answer NoMerge (finish_none old few whole at.0 at.1) refl (serves_with whole serving at holds) h same
+      finish_barred no_merge None answer NoMerge (copy_none old few whole at.0 at.1) refl (serves_with whole serving at holds) h same
   finish_told (under_way l copied waits) None answer (serves_with whole serving at holds) h same =
       let c = copying_of l copied whole serving at in
       finish_under l copied waits c holds same answer h (merge_cause drive v old trace l copied c few)

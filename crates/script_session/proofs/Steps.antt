@@ -40,7 +40,7 @@ use Rattle.script_session.proofs.Turns.{Moved, Stopped, Turned, moved_none, move
 
 -- ---- causes
 
-broken_refused : (s : Session) (later : Option ChainRefusal) (fault : StoreFault) → s.events < 2 ^ 63 → s.broken ≡ Some fault → or_else (unfit s.events s.broken) later ≡ Some (Broken fault.file fault.count)
+pub broken_refused : (s : Session) (later : Option ChainRefusal) (fault : StoreFault) → s.events < 2 ^ 63 → s.broken ≡ Some fault → or_else (unfit s.events s.broken) later ≡ Some (Broken fault.file fault.count)
 broken_refused s later fault few e =
     ap₂ (λ (b : Bool) (o : Option StoreFault). or_else (if b then broken_by o else Some (Spent s.events)) later) (lt-ltb s.events (2 ^ 63) few) e
 
@@ -52,13 +52,13 @@ module _ (s : Session) (few : s.events < 2 ^ 63) (whole : s.broken ≡ None) (no
   barred_is : no_merge_in s.layers ≡ Some NoMerge
   barred_is = ap (λ b. if b then None else Some NoMerge) is_none
 
-  fetch_none : (stripe : ℕ) → fetch_refused stripe s ≡ Some NoMerge
+  pub fetch_none : (stripe : ℕ) → fetch_refused stripe s ≡ Some NoMerge
   fetch_none stripe = ap₂ or_else (is_fit s few whole) (ap (λ b. if b then past_stripes stripe (stripe_count s.layers.geometry.sector s.layers.geometry.sectors) else Some NoMerge) is_none)
 
-  put_none : (piece : Piece) → put_refused piece s ≡ Some NoMerge
+  pub put_none : (piece : Piece) → put_refused piece s ≡ Some NoMerge
   put_none piece = ap₂ or_else (is_fit s few whole) (ap (λ m. or_else m (or_else (unfilled piece) (or_else (no_stripe piece.stripe s.layers) (stale piece.stamp (stamp_of s.layers piece.stripe))))) barred_is)
 
-  copy_none : merge_refused s ≡ Some NoMerge
+  pub copy_none : merge_refused s ≡ Some NoMerge
   copy_none = ap₂ or_else (is_fit s few whole) barred_is
 
 -- ---- what a finish leaves

@@ -64,7 +64,7 @@ opens_last v from now moments image is =
     first_false false e = e
 
 -- the place of the next call
-next_place : (v : State) (noted : ℕ) → noted ≡ length v.history → IsNextPlace (noted + 1) v
+pub next_place : (v : State) (noted : ℕ) → noted ≡ length v.history → IsNextPlace (noted + 1) v
 next_place v noted same = by_rest v.rest
   where
     by_rest : (rest : Rest) → NextIn rest (noted + 1 ≡ length v.history + 1)
@@ -72,12 +72,12 @@ next_place v noted same = by_rest v.rest
     by_rest (merging above source target below m) = tt
     by_rest (retiring target below first before) = ap (λ n. n + 1) same
 
-cause_same : (drive : Drive) (v : State) (s : Session) (call : Call) → IsOver drive v s → s.events < 2 ^ 63 → refused call s ≡ cause_of drive s.broken call
+pub cause_same : (drive : Drive) (v : State) (s : Session) (call : Call) → IsOver drive v s → s.events < 2 ^ 63 → refused call s ≡ cause_of drive s.broken call
 cause_same drive v s call over few =
     ap (λ b. or_else (if b then broken_by s.broken else Some (Spent s.events)) (misplaced call s.layers)) (lt-ltb s.events (2 ^ 63) few)
     ∙ ap₂ (λ (g : Geometry) (c : Bool). or_else (broken_by s.broken) (out_of (range_of g call) (barred call c))) over.geometry over.change
 
-no_cause_none : (drive : Drive) (broken : Option Break) (call : Call) → cause_of drive (fault_in broken) call ≡ None → broken ≡ None
+pub no_cause_none : (drive : Drive) (broken : Option Break) (call : Call) → cause_of drive (fault_in broken) call ≡ None → broken ≡ None
 no_cause_none drive None call h = refl
 no_cause_none drive (Some b) call h = cc
 
@@ -92,7 +92,7 @@ serving_of v s slot trace course None (serves whole h on) e = (h, on)
 serving_of v s slot trace course (Some b) (is_broken _ is others past last) e = let bad : ◌≡◌ {A = Option Break} (Some b) None = e in absurd (cc)
 
 -- a piece stays true of its source, as it was at its stamp, whatever call is made
-still_true : (v : State) (e : Entry) (p : merges.Piece) → IsTruePiece v p → IsTruePiece (with_entry e v) p
+pub still_true : (v : State) (e : Entry) (p : merges.Piece) → IsTruePiece v p → IsTruePiece (with_entry e v) p
 still_true v e p = by_rest v.rest
   where
     by_rest : (rest : Rest) → IsTrueOf (sector_of v) v.history rest p → IsTrueOf (sector_of v) (v.history ++ e ∷ []) rest p
@@ -129,7 +129,7 @@ same_err x e h = IfErr-at_err (λ y. x ≡ y) h refl
 
 -- ---- what the answer of a call that reached the files comes to
 
-data Outcome (call : Call) (e : Entry) (v : State) (s : Session) (trace now : Trace) : ChainRefusal → Type 0 where
+pub data Outcome (call : Call) (e : Entry) (v : State) (s : Session) (trace now : Trace) : ChainRefusal → Type 0 where
   stays : (x : ChainRefusal) → Stops call x → IsEndTold (IsSoLong v.writes trace) (Err x) → s.broken ≡ None → IsRefused v s.layers trace now → Outcome call e v s trace now x
   ends : (file count : ℕ) → is_read call ≡ false → s.broken ≡ Some (fault_of file count) → HasBroken e v trace now → Outcome call e v s trace now (Broken file count)
 
@@ -137,7 +137,7 @@ data Outcome (call : Call) (e : Entry) (v : State) (s : Session) (trace now : Tr
 abbrev pub IsFar : (ℕ → Bool) → Trace → ChainRefusal → Type 0
 IsFar may trace x = (next : ℕ) → x ≡ FileFull next → IsFull may trace next
 
-abbrev IsCallFar : Call → (ℕ → Bool) → Trace → ChainRefusal → Type 0
+abbrev pub IsCallFar : Call → (ℕ → Bool) → Trace → ChainRefusal → Type 0
 IsCallFar call may trace x = (next : ℕ) → x ≡ FileFull next → (asks_room call ≡ true) × IsFull may trace next
 
 module _ (e : Entry) (v : State) (old new : Session) (trace now : Trace) where
@@ -175,13 +175,13 @@ module _ (e : Entry) (v : State) (old new : Session) (trace now : Trace) where
   change_outcome call changes NoPiece far c a = absurd c
   change_outcome call changes NoRoom far c a = stays NoRoom tt tt c.1 a
 
-  outcome : (call : Call) (x : ChainRefusal) → (is_read call ≡ false → IsCallFar call v.writes trace x) → HasCauseOf call old new (Err x) → refused call old ≡ None → chain.Answers e v new.layers trace now (Err x) → Outcome call e v new trace now x
+  pub outcome : (call : Call) (x : ChainRefusal) → (is_read call ≡ false → IsCallFar call v.writes trace x) → HasCauseOf call old new (Err x) → refused call old ≡ None → chain.Answers e v new.layers trace now (Err x) → Outcome call e v new trace now x
   outcome (calls.Read first count) x far c fit a = read_outcome first count x (c fit) a
   outcome (calls.Write first bytes) x far c fit a = change_outcome (calls.Write first bytes) refl x (far refl) (c fit) a
   outcome (calls.Trim first count) x far c fit a = change_outcome (calls.Trim first count) refl x (far refl) (c fit) a
   outcome calls.Flush x far c fit a = change_outcome calls.Flush refl x (far refl) (c fit) a
 
-done_whole : (call : Call) (place : ℕ) (old new : Session) → HasCauseOf call old new (Ok place) → refused call old ≡ None → new.broken ≡ None
+pub done_whole : (call : Call) (place : ℕ) (old new : Session) → HasCauseOf call old new (Ok place) → refused call old ≡ None → new.broken ≡ None
 done_whole (calls.Read first count) place old new c fit = (c fit).1
 done_whole (calls.Write first bytes) place old new c fit = (c fit).1
 done_whole (calls.Trim first count) place old new c fit = (c fit).1
@@ -225,7 +225,7 @@ pub record LineTold (drive : Drive) (number : ℕ) (step : Asked) (t : Told) (v 
 pub kept_same : (before after : Option (List Entry)) (h : History) → IfSome before (λ t. t ≡ h) → after ≡ before → IfSome after (λ t. t ≡ h)
 kept_same before after h is e = subst (λ o. IfSome o (λ t. t ≡ h)) (sym e) is
 
-kept_more : (before after : Option (List Entry)) (h : History) (e : Entry) → IfSome before (λ t. t ≡ h) → after ≡ option_map (λ t. t ++ e ∷ []) before → IfSome after (λ t. t ≡ h ++ e ∷ [])
+pub kept_more : (before after : Option (List Entry)) (h : History) (e : Entry) → IfSome before (λ t. t ≡ h) → after ≡ option_map (λ t. t ++ e ∷ []) before → IfSome after (λ t. t ≡ h ++ e ∷ [])
 kept_more before after h e is f = subst (λ o. IfSome o (λ t. t ≡ h ++ e ∷ [])) (sym f) (go before is)
   where
     go : (o : Option (List Entry)) → IfSome o (λ t. t ≡ h) → IfSome (option_map (λ t. t ++ e ∷ []) o) (λ t. t ≡ h ++ e ∷ [])
