@@ -67,8 +67,8 @@ impl<S: Store> Worker<S> {
     }
 
     /// Claims stripes until none is left, and copies each once; a stripe that is refused is left. Then it finishes the merge, and answers what
-    /// that answered. It draws a ticket for each stripe that it claims, and one to finish. Each of these stripes is copied then, or what stopped
-    /// that shows.
+    /// that answered. It draws a ticket for each stripe that it claims, and one to finish. Of each of these that the chain keeps in mind
+    /// a turn has answered then that it was copied, or what stopped that shows.
     pub fn sweep<T: Wait, G: Gate>(
         &mut self,
         rt: &T,

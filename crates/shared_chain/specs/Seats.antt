@@ -54,7 +54,7 @@ module _ {S T : Type 0} where
   StopsTurn stripe old new (refusals.Broken file count) = HasNote new.basis.notes (notes.ChangeFailed file count)
   StopsTurn stripe old new other = ⊥
 
-  -- A stripe is copied, or is none of those that are kept in mind; or what stopped that shows.
+  -- A turn answered that the stripe was copied, or it is none of those that are kept in mind; or what stopped that shows.
   abbrev pub IsSwept : ℕ → Known Step (Basis S T) → Known Step (Basis S T) → Type 0
   IsSwept stripe old new = HasStripe stripe new.basis.copied ⊎ (new.basis.stripes ≤ stripe) ⊎ ((x : ChainRefusal) × StopsTurn stripe old new x)
 
