@@ -1,12 +1,14 @@
 #!/usr/bin/env bash
 # Time and peak memory of `serve`, beside `steps` with the same calls: 40,000 writes of 4 KB into blocks that are there, and a flush, by one
-# guest and by four at once; and 10,000 reads of 4 KB. Run by hand; needs the kit, and the package time.
+# guest and by four at once; 10,000 reads of 4 KB; and 4,000 reads of 1 MB of a child's parent, which the session seals. Run by hand; needs the
+# kit, and the package time.
 . "$(dirname "$0")/common.sh"
 
 awk 'BEGIN { for (i = 0; i < 256; i++) printf "write %d 2048 11\n", 2048 * i; print "flush" }' > full
 awk 'BEGIN { for (i = 0; i < 40000; i++) printf "write %d 8 %02x\n", 8 * (i * 40503 % 65536), i % 256; print "flush" }' > writes
 awk 'BEGIN { for (i = 0; i < 10000; i++) printf "read %d 8\n", 8 * (i * 40503 % 65536) }' > reads
-for calls in writes reads; do
+awk 'BEGIN { for (i = 0; i < 4000; i++) printf "read %d 2048\n", 2048 * (i * 131 % 256) }' > sealed
+for calls in writes reads sealed; do
   awk '{ print 1, $0 }' $calls > $calls.1
   awk '{ print NR % 4 + 1, $0 }' $calls > $calls.4
 done
@@ -25,3 +27,7 @@ for calls in writes reads; do
   echo "$calls, serve, one guest:  $(best $calls.1 serve disk.vhdx --workers 0)"
   echo "$calls, serve, four:       $(best $calls.4 serve disk.vhdx --workers 0)"
 done
+"$program" make child child.vhdx --parent disk.vhdx > /dev/null
+echo "sealed, steps:             $(best sealed steps child.vhdx)"
+echo "sealed, serve, one guest:  $(best sealed.1 serve child.vhdx --workers 0)"
+echo "sealed, serve, four:       $(best sealed.4 serve child.vhdx --workers 0)"

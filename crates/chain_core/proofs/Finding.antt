@@ -34,7 +34,7 @@ use Rattle.layer_session.proofs.Standing.{layers_stand}
 use Rattle.chain_core.specs.declared.layers.Layers.{Layers}
 use Rattle.read_plan.specs.Plans.{filled}
 use Rattle.read_plan.specs.declared.plan.Extent.{Extent}
-use Rattle.sealed_layer.specs.Planned.{AreNamedRead, PlanHad, files_in}
+use Rattle.sealed_layer.specs.Planned.{PlanHad, files_in}
 use Rattle.chain_core.specs.Planned.{FindsPlanned, PlansPart}
 use Rattle.chain_core.specs.Reading.{AddsPart, HasOnlyRead, of_read, of_session}
 use Rattle.chain_core.specs.declared.layers.Underway.{Underway}
@@ -446,7 +446,3 @@ finds_planned old mid disk mid_disk first count mask1 mask2 plan out out1 out2 (
     replied z first count v old trace after (ap (λ (g : Geometry). g.sector) serving.geometry) serving (subst (λ (g : Geometry). first + count ≤ g.sectors) serving.geometry inside) (b.len ∙ a.len ∙ len)
     (λ k bytes below is. found (of_session old.leaf v) (of_read mid.leaf v) z first count k bytes (replicate 256 0) mask1 mask2 out out1 after a b below (blank k (omega arith))
     (all_parts old.leaf mid.leaf v (first + k) heads ∙ is))
-
--- the same files are named
-pub named_so : (old new : Layers) (of : ℕ → Bool) → new.below ≡ old.below → AreNamedRead of old.below.items → AreNamedRead of new.below.items
-named_so old new of same named = subst (λ below. AreNamedRead of below.items) (sym same) named

@@ -61,4 +61,3 @@ pub mod SealedServing
 pub mod SealedReady
 pub mod SealedSteps
 pub mod SealedReaders
-pub mod SealedPlans

@@ -1,11 +1,12 @@
 -- Files that are sealed one after another, and the readers of them.
-use Rattle.std.proofs.Common.{◌≡◌, ◌≢◌, ℕ, ◌==◌, Bool, true, false, is_some, get_or, List, [], ◌∷◌, ◌++◌, length, map, replicate, refl, sym, ap, subst, ◌∙◌, suc, zero, arith}
+use Rattle.std.proofs.Common.{◌≡◌, ◌≢◌, ℕ, ◌==◌, ◌||◌, Bool, true, false, is_some, get_or, List, [], ◌∷◌, ◌++◌, length, map, replicate, refl, sym, ap, subst, ◌∙◌, suc, zero, arith}
 use Rattle.std.specs.Prelude.{if◌then◌else◌, Option, Some, None, option_map, IfErr, IfOk, IfSome, OnOk, Result, Ok, Err}
 use Rattle.std.specs.List.{AllByRecursion}
+use Rattle.std.proofs.lemmas.Bool.{eqb-true}
 use Rattle.std.proofs.lemmas.List.{append-nil, append_assoc, length-map, map-append}
 use Rattle.std.proofs.lemmas.List.Elements.{All-from_recursion}
 use Rattle.store_model.specs.Disk.{Disk, Sealed, WhereBothTold, changed, reader_of, told_after}
-use Rattle.store_model.specs.File.{Seal, is_synced, seen}
+use Rattle.store_model.specs.File.{File, Seal, is_synced, seen}
 use Rattle.store_model.specs.Trace.{Trace, file_of}
 use Rattle.store_model.specs.declared.fault.SealFault.{SealFault}
 use Rattle.store_model.specs.declared.fault.SealFault.TheVariants.{NoRoom, Store}
@@ -15,18 +16,19 @@ use Rattle.layer_session.specs.declared.file.Layer.{Layer}
 use Rattle.layer_session.specs.declared.file_layer.FileLayer.{FileLayer}
 use Rattle.layer_session.specs.declared.file_layer.FileLayer.TheVariants.{Read, Session}
 use Rattle.layer_session.proofs.Equal.{false_true}
+use Rattle.read_plan.specs.Reading.{is_among}
 use Rattle.sealed_layer.specs.Planned.{files_in}
 use Rattle.chain_model.specs.Images.{Placed}
 use Rattle.chain_model.proofs.Showing.{all_left, all_right}
 use Rattle.chain_core.specs.Laws.{AllLeftBehind, IsLeftBehind}
 use Rattle.chain_core.specs.Planned.{AreReadersOf}
-use Rattle.chain_core.specs.Sealed.{AreSynced, CanSeal, GoesOnSealed, ReadFilesAreSynced, ReadForSession, ReadersSucceed, SessionsWriteTheirs, StopsAt, StopsSealing, read_numbers, readers_of, sealed_in}
+use Rattle.chain_core.specs.Sealed.{AreSynced, CanSeal, GoesOnSealed, IsKept, as_it_was, sealed, ReadFilesAreSynced, ReadForSession, ReadersOfSession, ReadersSucceed, SessionsWriteTheirs, StopsAt, StopsSealing, read_numbers, readers_of, sealed_in}
 use Rattle.chain_core.specs.Sessions.{AreReady}
 use Rattle.chain_core.specs.States.{AreHeld, AreWritten, State, WasSynced, files_of, others_of}
 use Rattle.chain_core.specs.declared.layers.Layers.{Layers}
 use Rattle.chain_core.proofs.SealedReady.{all_both, all_can, read_by, ready_resting, ready_sealed}
 use Rattle.chain_core.proofs.SealedServing.{IsReadBy, serving_now, serving_sealed}
-use Rattle.chain_core.proofs.SealedTraces.{sealed_at, seen_still, synced_still}
+use Rattle.chain_core.proofs.SealedTraces.{either_file, sealed_at, seen_still, synced_still}
 
 -- ---- one after another
 
@@ -108,6 +110,10 @@ readers_succeed id v target below layers now readers are done =
     by_test n unwritten true = refl
     by_test n unwritten false = unwritten
 
+kept_both : (a b c : File) → IsKept a b → IsKept b c → IsKept a c
+kept_both a b _ first as_it_was = first
+kept_both a b _ first (sealed file second) = sealed file (kept_both a b file first second)
+
 goes_still : (layers : Layers) (t : Trace) → GoesOnSealed layers t t
 goes_still layers t = record {
   serves = λ v s. serving_now layers v t s;
@@ -115,6 +121,7 @@ goes_still layers t = record {
   readers = λ v set s. readers_now v v.writes t set (λ n unwritten. (unwritten, ap seen (s.still n unwritten)));
   bytes = λ n. refl;
   synced = λ n. refl;
+  kept = λ n. as_it_was;
   others = λ n h. refl;
 }
 
@@ -125,6 +132,7 @@ goes_both layers a b c first second = record {
   readers = λ v set s are. second.readers (record v { since = b }) set (first.serves v s) (first.readers v set s are);
   bytes = λ n. second.bytes n ∙ first.bytes n;
   synced = λ n. second.synced n ∙ first.synced n;
+  kept = λ n. kept_both (file_of a n) (file_of b n) (file_of c n) (first.kept n) (second.kept n);
   others = λ n h. second.others n h ∙ first.others n h;
 }
 
@@ -135,6 +143,7 @@ goes_sealed layers n t read among = record {
   readers = λ v set s. readers_now v v.writes (sealed_at n t) set (λ m unwritten. (unwritten, seen_still n m t ∙ ap seen (s.still m unwritten)));
   bytes = λ m. seen_still n m t;
   synced = λ m. synced_still n m t;
+  kept = λ m. either_file (IsKept (file_of t m)) n m t as_it_was (sealed (file_of t m) as_it_was);
   others = λ m h. file_of-with_change_other n m Seal t (λ e. among m h (sym e));
 }
 
@@ -194,7 +203,7 @@ readers_still : (n : ℕ) (numbers : List ℕ) (disk : Disk) → readers_of numb
 readers_still n [] disk = refl
 readers_still n (m ∷ numbers) disk = ap (λ (r : Sealed). r ∷ readers_of numbers (changed n Seal disk)) (reader_still n m disk) ∙ ap (λ (rs : List Sealed). reader_of m disk ∷ rs) (readers_still n numbers disk)
 
-readers_later : (a b : List ℕ) (disk : Disk) → readers_of b (sealed_in a disk) ≡ readers_of b disk
+pub readers_later : (a b : List ℕ) (disk : Disk) → readers_of b (sealed_in a disk) ≡ readers_of b disk
 readers_later [] b disk = refl
 readers_later (n ∷ a) b disk = readers_later a b (changed n Seal disk) ∙ readers_still n b disk
 
@@ -340,3 +349,20 @@ read_files_are_synced layers v trace serving written = by_leaf layers.leaf servi
     by_leaf : (o : Option Layer) → AreHeld o layers.below.items trace v.top (others_of v.rest) → AreSynced (read_numbers layers.below.items) trace
     by_leaf None held = each layers.below.items (files_of v) held.1 serving.synced written
     by_leaf (Some l) held = each layers.below.items (others_of v.rest) held.1 serving.synced.1 written
+
+-- ---- other readers
+
+among_unwritten : (writes : ℕ → Bool) (numbers : List ℕ) (n : ℕ) → AllByRecursion (λ m. writes m ≡ false) numbers → is_among numbers n ≡ true → writes n ≡ false
+among_unwritten writes [] n unwritten among = absurd (false_true among)
+among_unwritten writes (m ∷ numbers) n unwritten among = by_test (among_unwritten writes numbers n unwritten.1) (m == n) refl among
+  where
+    by_test : (is_among numbers n ≡ true → writes n ≡ false) → (b : Bool) → (m == n) ≡ b → (b || is_among numbers n) ≡ true → writes n ≡ false
+    by_test rest true is among = subst (λ k. writes k ≡ false) (eqb-true m n is) unwritten.0
+    by_test rest false is among = rest among
+
+pub readers_of_session : ReadersOfSession
+readers_of_session layers v trace readers serving some are k d within =
+    let reader = get_or readers k d in
+    let told = are k d within in
+    let unwritten = among_unwritten v.writes (read_numbers layers.below.items) reader.file (of_read v.writes layers.below.items (sessions_write_theirs layers v trace serving some)) told.0 in
+    (unwritten, told.1 ∙ ap (λ (f : File). Some (seen f)) (serving.still reader.file unwritten))

@@ -1,16 +1,15 @@
 -- Sealing the files that a session only reads.
-use Rattle.std.specs.Prelude.{◌≡◌, ◌≢◌, ◌<◌, ◌==◌, ◌||◌, ℕ, Bool, true, false, is_some, All, List, [], ◌∷◌, ◌++◌, length, map}
+use Rattle.std.specs.Prelude.{◌≡◌, ◌≢◌, ◌<◌, ℕ, true, is_some, All, List, [], ◌∷◌, ◌++◌, length, map, Some}
 use Rattle.std.specs.List.{AllByRecursion}
 use Rattle.store_model.specs.Disk.{Disk, ReadFailed, Sealed, WhereTold, changed, reader_of}
-use Rattle.store_model.specs.File.{Seal, is_synced, seen}
+use Rattle.store_model.specs.File.{File, Seal, is_synced, seen, with_op}
 use Rattle.store_model.specs.Trace.{Trace, file_of}
 use Rattle.store_model.specs.declared.fault.SealFault.{SealFault}
 use Rattle.store_model.specs.declared.fault.SealFault.TheVariants.{NoRoom, Store}
 use Rattle.layer_session.specs.declared.file_layer.FileLayer.{FileLayer}
 use Rattle.layer_session.specs.declared.file_layer.FileLayer.TheVariants.{Read, Session}
-use Rattle.read_plan.specs.Reading.{AreThere}
-use Rattle.read_plan.specs.declared.plan.Extent.{Extent}
-use Rattle.sealed_layer.specs.Planned.{AreNamedRead, AreOfFiles}
+use Rattle.read_plan.specs.Reading.{is_among}
+use Rattle.sealed_layer.specs.Planned.{files_in}
 use Rattle.chain_model.specs.Images.{Placed}
 use Rattle.chain_core.specs.Finished.{IsSucceeded, succeeded_by}
 use Rattle.chain_core.specs.Laws.{AllLeftBehind}
@@ -62,6 +61,11 @@ pub record StopsSealing (numbers : List ℕ) (old new : Disk) (fault : SealFault
 
 -- ---- what stays
 
+-- A file is as it was, but that it may have been sealed since.
+pub data IsKept (old : File) : File → Type 0 where
+  as_it_was : IsKept old old
+  sealed : (file : File) → IsKept old file → IsKept old (with_op Seal file)
+
 -- The session goes on: each state that it served it serves, and what it doesn't change stays from now on; what it left behind is left
 -- behind, and readers that it had are its readers. Each file has the bytes that it had, and is synced where it was; and none is changed but
 -- those that are only read.
@@ -71,6 +75,7 @@ pub record GoesOnSealed (layers : Layers) (old new : Trace) : Type 0 where
   pub readers : (v : State) (set : List Sealed) → IsServing layers v old → AreReadersOf v set → AreReadersOf (record v { since = new }) set
   pub bytes : (n : ℕ) → seen (file_of new n) ≡ seen (file_of old n)
   pub synced : (n : ℕ) → is_synced (file_of new n) ≡ is_synced (file_of old n)
+  pub kept : (n : ℕ) → IsKept (file_of old n) (file_of new n)
   pub others : (n : ℕ) → AllByRecursion (λ read. read ≢ n) (read_numbers layers.below.items) → file_of new n ≡ file_of old n
 
 -- Of each state that it served, and by which it changes just the files in sessions, each set has readers of that state as it is now.
@@ -87,20 +92,16 @@ SessionsWriteTheirs = (layers : Layers) (v : State) (trace : Trace) → IsServin
 abbrev pub ReadFilesAreSynced : Type 0
 ReadFilesAreSynced = (layers : Layers) (v : State) (trace : Trace) → IsServing layers v trace → AreWritten v.writes layers.below.items → AreSynced (read_numbers layers.below.items) trace
 
--- ---- readers later
+-- ---- readers
+
+-- In a session whose leaf is in one: readers of files that are only read, each of which tells what its file has, are readers of its state.
+abbrev pub ReadersOfSession : Type 0
+ReadersOfSession =
+    (layers : Layers) (v : State) (trace : Trace) (readers : List Sealed) → IsServing layers v trace → is_some layers.leaf ≡ true
+    → All (λ s. (is_among (read_numbers layers.below.items) s.file ≡ true) × (s.content ≡ Some (files_in trace s.file))) readers → AreReadersOf v readers
 
 -- Readers of a state are those of the state behind the merge of its leaf.
 abbrev pub ReadersSucceed : Type 0
 ReadersSucceed =
     (id : List ℕ) (v : State) (target : Placed) (below : List Placed) (layers : Layers) (now : Trace) (readers : List Sealed)
     → AreReadersOf v readers → (done : IsSucceeded id v target below layers now) → AreReadersOf (succeeded_by v done.top done.others done.leaf now) readers
-
--- a number is one of these
-abbrev pub is_among : List ℕ → ℕ → Bool
-is_among [] n = false
-is_among (m ∷ numbers) n = (m == n) || is_among numbers n
-
--- The files that are only read are those of these numbers; and of a plan that names no others each set has the readers.
-pub record SetsServePlans : Type 0 where
-  pub named : (layers : List FileLayer) → AreNamedRead (is_among (read_numbers layers)) layers
-  pub there : (numbers : List ℕ) (disk : Disk) (plan : List Extent) → AreOfFiles (is_among numbers) plan → AreThere (readers_of numbers disk) plan

@@ -10,7 +10,8 @@ ghost use Rattle.chain_core.specs.Finished.{FinishCause, FinishTold, IsJudged};
 ghost use Rattle.chain_core.specs.Events.{HasWholeSectors, IsCaused, RepliesBy, answer_by, placed};
 ghost use Rattle.chain_core.specs.Planned.{FindsPlanned};
 ghost use Rattle.chain_core.specs.Reading.{Finds};
-ghost use Rattle.sealed_layer.specs.Planned.{AreNamedRead, AreOfFiles, EndsBy, LieInStore};
+ghost use Rattle.read_plan.specs.Reading.{AreThere};
+ghost use Rattle.sealed_layer.specs.Planned.{EndsBy, LieInStore};
 ghost use Rattle.std.specs.List.{AllByRecursion};
 ghost use Rattle.store_model.specs.Disk.{WhereBothTold, WhereTold};
 ghost use Rattle.chain_core.specs.Refusing.{IfRefused, counted, is_read, misplaced, range_of, fill, refused, unfit};
@@ -29,7 +30,7 @@ use guest_model::{Call, CallRef, Caller, ChainRefusal, Recorder, Reply, check_ra
 use layer_session::LayerFault;
 use link_rules::LinkedFile;
 use merge_core::Piece;
-use read_plan::{Plan, Readers};
+use read_plan::{Plan, ReaderSet, Readers};
 use std::alloc::Global;
 use store_model::{Ids, SealFault, Store, StoreFault};
 use vx_base::{Bytes, Geometry, Name, NoRoom};
@@ -320,12 +321,13 @@ impl<S: Store, R: Recorder> Chain<S, R> {
         self.conclude(done)
     }
 
-    /// Reads what files in sessions have of whole sectors, and plans what the others have. Answers the call's place in the history: the read
-    /// is done once the plan is filled.
+    /// Plans what those files have of whole sectors that are only read and have a reader, and reads what the others have. Answers the call's
+    /// place in the history: the read is done once the plan is filled, for which there are the readers.
     pub fn read_plan(
         &mut self,
         who: Caller,
         first: u64,
+        readers: &ReaderSet<S::R>,
         plan: &mut Plan,
         out: &mut [u8],
     ) -> Result<u64, ChainRefusal>
@@ -344,13 +346,16 @@ impl<S: Store, R: Recorder> Chain<S, R> {
         ensures finds { OnOk result (FindsPlanned first (length out.old / self.old.layers.geometry.sector) plan.new out.new self.old.layers (S.disk self.old.store)) }
         ensures fit { AllByRecursion (EndsBy (length out.old / self.old.layers.geometry.sector)) plan.new }
         ensures lie { LieInStore self.old.layers.geometry.sector (S.disk self.old.store) plan.new }
-        ensures files { (of : ℕ → Bool) → AreNamedRead of self.old.layers.below.items → AreOfFiles of plan.new }
+        ensures there { AreThere readers.now plan.new }
         ensures told { AnswersTold who (fill self.old.layers first out.old) (seen S.disk R.noted R.told self.old) (seen S.disk R.noted R.told self.new) result }
     {
         plan.clear();
         let count = out.len() as u64 / u64::from(self.layers.geometry.sector);
         self.accept(who, CallRef::Read { first, count })?;
-        let done = unread(self.layers.plan(&mut self.store, first, count, plan, out));
+        let done = unread(
+            self.layers
+                .plan(&mut self.store, readers, first, count, plan, out),
+        );
         self.conclude(done)
     }
 

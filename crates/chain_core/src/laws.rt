@@ -2,7 +2,7 @@
 
 ghost use Rattle.chain_core.specs.Laws.{LeavesAreLeft, ReadingsAreHeld, SessionsAreHeld, SessionsLinkAlike};
 ghost use Rattle.chain_core.specs.Planned.{PlansAnswer, PlansCanBeFilled};
-ghost use Rattle.chain_core.specs.Sealed.{ReadFilesAreSynced, ReadersSucceed, SessionsWriteTheirs, SetsServePlans};
+ghost use Rattle.chain_core.specs.Sealed.{ReadFilesAreSynced, ReadersOfSession, ReadersSucceed, SessionsWriteTheirs};
 
 /// Between any two calls the files, as a session holds them, open to the disk of its history, behind a merge of its leaf too; and so
 /// do those that are only read.
@@ -34,8 +34,12 @@ pub fn files_can_be_sealed()
     ensures synced { ReadFilesAreSynced }
 {}
 
-/// Whatever a session plans of a read finds its readers: those of the files that are only read. Behind a merge of its leaf too.
-pub fn sets_serve_plans()
-    ensures plans { SetsServePlans }
+/// Readers of files that a session only reads, each of which tells what its file has now, are readers of the session.
+pub fn readers_of_sessions()
+    ensures { ReadersOfSession }
+{}
+
+/// Readers of a session are its readers behind a merge of its leaf too.
+pub fn readers_succeed()
     ensures later { ReadersSucceed }
 {}

@@ -12,7 +12,8 @@ ghost use Rattle.store_model.specs.Disk.{WhereBothTold};
 ghost use Rattle.chain_core.specs.Ending.{AreAllReady, AreNumbered, EndsOnTold, IsInSession, IsOfSession, SomeChangeFailed};
 ghost use Rattle.chain_core.specs.Planned.{FindsPlanned, PlansPart};
 ghost use Rattle.chain_core.specs.Reading.{AddsPart, Finds, HasOnlyRead, of_read, of_session};
-ghost use Rattle.sealed_layer.specs.Planned.{AreNamedRead, AreOfFiles, EndsBy, IsPlan, LieInStore};
+ghost use Rattle.read_plan.specs.Reading.{AreThere};
+ghost use Rattle.sealed_layer.specs.Planned.{EndsBy, IsPlan, LieInStore};
 ghost use Rattle.std.specs.List.{AllByRecursion};
 ghost use Rattle.chain_core.specs.Copying.{IsSized, LayerFollows, TouchesIf, stamp_of};
 ghost use Rattle.chain_core.specs.Sessions.{AreApart, AreReady, IsLow, KeepsMerge, kept_marks, leaf_number};
@@ -21,9 +22,9 @@ ghost use Rattle.vhdx_format.specs.AllocationTables.{IsSectorSize};
 use layer_session::{FileLayer, Layer, LayerFault, own_files};
 use merge_core::{Marks, Stamps, stripes_touched};
 use meta_edit::Updates;
-use read_plan::Plan;
+use read_plan::{Plan, ReaderSet};
 use sealed_layer::plan_files;
-use store_model::{Store, StoreFault};
+use store_model::{Reader, Store, StoreFault};
 use vx_base::{Geometry, Guid};
 
 /// A merge that is under way, of the file at a place below the leaf into the one behind it.
@@ -190,10 +191,11 @@ impl Layers {
         self.own_below(store, first, count, out, &mut mask)
     }
 
-    // Reads what the other files that are in sessions have, and plans what the others have.
-    fn plan_below<S: Store>(
+    // Of the other files plans what those have that are only read and have a reader, and reads what the rest have.
+    fn plan_below<S: Store, R: Reader>(
         &mut self,
         store: &mut S,
+        readers: &ReaderSet<R>,
         first: u64,
         count: u64,
         plan: &mut Plan,
@@ -211,18 +213,23 @@ impl Layers {
         ensures plans { OnOk result (PlansPart of_read first count self.old (S.disk store.old) mask.old mask.new plan.old plan.new out.old out.new) }
         ensures plan { IsPlan count mask.new plan.new }
         ensures lie { LieInStore self.old.geometry.sector (S.disk store.old) plan.new }
-        ensures files { (of : ℕ → Bool) → AreNamedRead of self.old.below.items → AreOfFiles of plan.old → AreOfFiles of plan.new }
+        ensures there { AreThere readers.now plan.old → AreThere readers.now plan.new }
         ensures stays { OnOk result (S.disk store.new ≡ S.disk store.old) }
         ensures err { IfErr result (SomeReadFailed (S.disk store.old) (S.disk store.new)) }
     {
         let below = self.below.as_mut_slice();
-        plan_files(below, store, self.geometry, first, count, plan, out, mask)
+        let geometry = self.geometry;
+        plan_files(
+            below, store, readers, geometry, first, count, plan, out, mask,
+        )
     }
 
-    /// Finds sectors of the disk, file by file: what files in sessions have is read, and what the others have is planned.
-    pub fn plan<S: Store>(
+    /// Finds sectors of the disk, file by file: what a file has that is only read is planned where there is a reader of it, and what any
+    /// other has is read.
+    pub fn plan<S: Store, R: Reader>(
         &mut self,
         store: &mut S,
+        readers: &ReaderSet<R>,
         first: u64,
         count: u64,
         plan: &mut Plan,
@@ -237,13 +244,13 @@ impl Layers {
         ensures finds { OnOk result (FindsPlanned first count plan.new out.new self.old (S.disk store.old)) }
         ensures fit { AllByRecursion (EndsBy count) plan.new }
         ensures lie { LieInStore self.old.geometry.sector (S.disk store.old) plan.new }
-        ensures files { (of : ℕ → Bool) → AreNamedRead of self.old.below.items → AreOfFiles of plan.new }
+        ensures there { AreThere readers.now plan.new }
         ensures stays { OnOk result (S.disk store.new ≡ S.disk store.old) }
         ensures err { IfErr result (SomeReadFailed (S.disk store.old) (S.disk store.new)) }
     {
         let mut mask = [0; 256];
         self.own_leaf(store, first, count, out, &mut mask)?;
-        self.plan_below(store, first, count, plan, out, &mut mask)
+        self.plan_below(store, readers, first, count, plan, out, &mut mask)
     }
 
     /// Writes sectors into the leaf, by the call that has this place in the history.

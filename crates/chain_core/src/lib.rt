@@ -15,8 +15,8 @@ mod starting;
 pub use answer::Answer;
 pub use chain::Chain;
 pub use laws::{
-    files_can_be_sealed, plans_answer, plans_can_be_filled, sessions_are_held, sessions_link_alike,
-    sets_serve_plans,
+    files_can_be_sealed, plans_answer, plans_can_be_filled, readers_of_sessions, readers_succeed,
+    sessions_are_held, sessions_link_alike,
 };
 pub use layers::Layers;
 pub use merge_start::MergeStartRefusal;

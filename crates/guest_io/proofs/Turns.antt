@@ -1,8 +1,9 @@
 -- A guest's turn, from its beginning to its end.
 use Rattle.std.proofs.Common.{◌≡◌, ◌⊎◌, ◌+◌, ◌-◌, ◌≤◌, ◌==◌, ◌++◌, ◌∷◌, ℕ, List, [], length, inl, ap₂, Some, None, Result, Ok, Err, inr, refl, sym, ap, subst, ◌∙◌, arith, length-append, take_at}
-use Rattle.std.specs.Prelude.{Option, OnOk, if◌then◌else◌}
+use Rattle.std.specs.Prelude.{All, IfSome, Option, OnOk, if◌then◌else◌}
 use Rattle.std.proofs.lemmas.List.{append-nil, length-map, map-append}
-use Rattle.store_model.specs.Disk.{Disk}
+use Rattle.store_model.specs.Disk.{Disk, Sealed}
+use Rattle.store_model.specs.declared.fault.StoreFault.{StoreFault}
 use Rattle.guest_model.specs.declared.call.Call.{Call}
 use Rattle.guest_model.specs.declared.call.Caller.{Caller}
 use Rattle.guest_model.specs.declared.call.Entry.{Entry}
@@ -34,7 +35,10 @@ use Rattle.turn_lock.specs.Steps.{places_after}
 use Rattle.turn_lock.proofs.Fronts.{starts-itself, starts-through}
 use Rattle.turn_lock.proofs.Using.{may_unlock-entry, may_unlock-same, turn_ended}
 use Rattle.script_session.proofs.Moving.{counted_high, counted_low}
-use Rattle.guest_io.specs.Guests.{AddsNothing, Answers, HasBroken, IsCall, IsShown}
+use Rattle.guest_io.specs.Guests.{AddsNothing, Answers, HasBroken, HaveReaders, IsCall, IsShown, found_in}
+use Rattle.read_plan.specs.Reading.{HasFilled}
+use Rattle.read_plan.specs.declared.plan.Extent.{Extent}
+use Rattle.shared_chain.specs.Planned.{IsPlanned, IsReaderFor}
 use Rattle.shared_chain.specs.Seats.{KeepsSeat}
 
 -- ---- steps
@@ -115,7 +119,7 @@ module _ {S T : Type 0} where
       go NoPiece h = absurd h
       go NoRoom h = whole NoRoom h
 
-  module _ (disk : S → Disk) (who : Caller) (call : Call) (r : Reply) (before after locked : Known Step (Basis S T)) (old new : Shared (Chain S KeepAll T)) (answer : Result ℕ ChainRefusal)
+  module _ (disk : S → Disk) (who : Caller) (call : Call) (r : Option Reply) (before after locked : Known Step (Basis S T)) (old new : Shared (Chain S KeepAll T)) (answer : Result ℕ ChainRefusal)
       (turn : HasTurn Contains before after locked (told_of old) (basis_of disk old)) (k : IsCalled disk who call old new answer) where
     covers : Contains (basis_of disk new) (basis_of disk old)
     covers = record { first = ap Some k.first; notes = λ n h. (k.noted n).1 (inr h); events = omega (arith, k.answered.events, counted_high old.chain.events); stripes = ap (λ (m : Marks). m.stripes) k.copied; copied = λ t h. subst (λ (m : Marks). HasStripe t (marked_below (marks_of m) m.stripes)) (sym k.copied) h; finished = λ e. k.finished ∙ e }
@@ -226,7 +230,7 @@ module _ {S T : Type 0} where
         go NoRoom e = still e
 
     by_answer : (a : Result ℕ ChainRefusal) → IsEntered (entry who call) old.chain.recorder new.chain.recorder a → IsBroke (breach_of who call) old.broke new.broke a → IsCausedIn disk call (basis_of disk old) (basis_of disk new) a
-        → OnOk a (RepliesBehind disk old.first old.chain.recorder call r) → Answers disk who call r before ended a
+        → OnOk a (IfSome r (λ r. RepliesBehind disk old.first old.chain.recorder call r)) → Answers disk who call r before ended a
     by_answer (Ok place) e b c behind =
         let seen : told_of new ≡ done_steps old.chain.recorder ++ Done (entry who call) ∷ [] = done_told old.chain.recorder new.chain.recorder (entry who call) new.broke e.0 b.1 in
         let long : length new.chain.recorder ≡ length old.chain.recorder + 1 = ap length e.0 ∙ length-append old.chain.recorder (entry who call ∷ []) in
@@ -238,14 +242,14 @@ module _ {S T : Type 0} where
           place_is = place_is;
           mine = mine_is (Done (entry who call)) b.0 seen ∙ ap (λ p. before.mine ++ p ∷ []) (sym place_is);
           placed = c;
-          replies = subst (λ first. RepliesBehind disk first old.chain.recorder call r) (sym k.first) behind;
+          replies = subst (λ first. IfSome r (λ r. RepliesBehind disk first old.chain.recorder call r)) (sym k.first) behind;
         }
     by_answer (Err x) e b c behind = (
       adds x e b,
       shown disk call before.basis (basis_of disk old) (basis_of disk new) x turn.covers c before ended refl refl,
     )
 
-    pub turn_called : (last : Known Step (Basis S T)) → last ≡ after_turn after (told_of new) (basis_of disk new) → OnOk answer (RepliesBehind disk old.first old.chain.recorder call r) → IsCall disk who call r before last answer
+    pub turn_called : (last : Known Step (Basis S T)) → last ≡ after_turn after (told_of new) (basis_of disk new) → OnOk answer (IfSome r (λ r. RepliesBehind disk old.first old.chain.recorder call r)) → IsCall disk who call r before last answer
     turn_called last is behind =
         subst (λ s. IsCall disk who call r before s answer) (sym (turn_ended Contains work before after locked (told_of old) (basis_of disk old) turn last (told_of new) (basis_of disk new) is))
         (record { keeps = keeps; drawn = omega arith; answers = by_answer answer k.entered k.broke k.cause behind })
@@ -258,9 +262,9 @@ module _ {S T : Type 0} where
     has_turn = subst (λ (v : Shared (Chain S KeepAll T)). HasTurn Contains before after held.seat (told_of v) (basis_of disk v)) (sym is) turn
 
     pub may_turn : MayUnlock Contains work after held.seat (told_of new) (basis_of disk new)
-    may_turn = may_end disk who call replies.Done before after held.seat old new answer has_turn k
+    may_turn = may_end disk who call None before after held.seat old new answer has_turn k
 
-    pub ended_turn : (want : Caller) (r : Reply) (was last : Known Step (Basis S T)) → who ≡ want → before ≡ was → last ≡ after_turn after (told_of new) (basis_of disk new) → OnOk answer (RepliesBehind disk old.first old.chain.recorder call r)
+    pub ended_turn : (want : Caller) (r : Option Reply) (was last : Known Step (Basis S T)) → who ≡ want → before ≡ was → last ≡ after_turn after (told_of new) (basis_of disk new) → OnOk answer (IfSome r (λ r. RepliesBehind disk old.first old.chain.recorder call r))
         → IsCall disk want call r was last answer
     ended_turn want r was last is_who is_seat is_last behind =
         subst (λ w. IsCall disk w call r was last answer) is_who
@@ -269,6 +273,18 @@ module _ {S T : Type 0} where
 
     -- of a call whose reply says nothing
     pub ended_done : (want : Caller) (was last : Known Step (Basis S T)) → who ≡ want → before ≡ was → last ≡ after_turn after (told_of new) (basis_of disk new) → ((d : GuestDisk) → reply d call ≡ replies.Done)
-        → IsCall disk want call replies.Done was last answer
+        → IsCall disk want call (Some replies.Done) was last answer
     ended_done want was last is_who is_seat is_last none =
-        ended_turn want replies.Done was last is_who is_seat is_last (on_ok_any answer (RepliesBehind disk old.first old.chain.recorder call replies.Done) (λ t told from serving empty. none _))
+        ended_turn want (Some replies.Done) was last is_who is_seat is_last (on_ok_any answer (RepliesBehind disk old.first old.chain.recorder call replies.Done) (λ t told from serving empty. none _))
+
+    -- the readers of its seat are for the session that it found
+    pub readers_for : (readers : List Sealed) → (was : Known Step (Basis S T)) → before ≡ was → HaveReaders disk was.basis readers → All (IsReaderFor disk old.first) readers
+    readers_for readers was is have =
+        subst (λ o. IfSome o (λ first. All (IsReaderFor disk first) readers)) (sym has_turn.covers.first)
+        (subst (λ (s : Known Step (Basis S T)). HaveReaders disk s.basis readers) (sym is) have)
+
+-- what was planned has been read, or a reader failed
+pub filled_reply : {S T : Type 0} (disk : S → Disk) (s : Shared (Chain S KeepAll T)) (call : Call) (readers : List Sealed) (plan : List Extent) (out new : List ℕ) (read : Result (Unit {0}) StoreFault) → IsPlanned disk s call readers plan out
+    → All (IsReaderFor disk s.first) readers → OnOk read (HasFilled 512 readers plan out new) → IfSome (found_in read new) (λ r. RepliesBehind disk s.first s.chain.recorder call r)
+filled_reply disk s call readers plan out new (Ok done) planned are filled = planned.replies are new filled
+filled_reply disk s call readers plan out new (Err fault) planned are filled = tt

@@ -37,7 +37,7 @@ use Rattle.script_session.proofs.Ending.{end_counted, end_untold, faults_told, l
 use Rattle.script_session.proofs.LeftFiles.{names_placed}
 use Rattle.script_session.proofs.LinesTold.{lines_told}
 use Rattle.script_session.proofs.MergeEnds.{IsNewMerge, has_history}
-use Rattle.script_session.proofs.Resting.{IsScope}
+use Rattle.script_session.proofs.Resting.{IsSame, IsScope}
 
 -- leaf and target are the files that it writes
 own_numbers : (P : ℕ → Type 0) (rest : List ℕ) → P 0 → AllByRecursion P (1 ∷ rest) → (n : ℕ) → is_first_two n ≡ true → P n
@@ -51,7 +51,7 @@ names_started : (t now : Trace) (m : LeafFiles) (ids : LeafMergeIds) (pages : Li
 names_started t now m ids pages opened = ap₂ (λ (x : List ℕ) (xs : List (List ℕ)). x ∷ xs) opened.1.0.name (names_placed t 2 m.below opened.1.1)
 
 pub scope_is : (m : LeafFiles) (merge : LeafMerge) (trace mid : Trace) → ((other : ℕ) → is_first_two other ≡ false → file_of mid other ≡ file_of trace other) → AreAsOpened trace 0 (leaf_chain m)
-    → IsScope (leaf_scope_of m) (started_leaf_merge trace mid m merge.ids merge.twice) trace mid
+    → IsScope IsSame (leaf_scope_of m) (started_leaf_merge trace mid m merge.ids merge.twice) trace mid
 scope_is m merge trace mid rest opened = record {
   leaf = refl;
   history = refl;

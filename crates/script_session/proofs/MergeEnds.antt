@@ -28,11 +28,11 @@ use Rattle.script_session.specs.MergeRunning.{HasHistoryOver, IsAtRestOver, Scop
 use Rattle.script_session.specs.Running.{IsEnded, open_by, open_last}
 use Rattle.script_session.specs.Told.{Told, sector_size}
 use Rattle.script_session.proofs.Lengths.{ends_later, grows_none, long_later, moments_grow}
-use Rattle.script_session.proofs.Resting.{IsScope, all_synced, all_unnamed, links_all, links_left, may_change, others_as, under_way_is}
+use Rattle.script_session.proofs.Resting.{IsSame, IsScope, all_synced, all_unnamed, links_all, links_left, may_change, others_as, under_way_is}
 use Rattle.script_session.proofs.Scripts.{ended_of, last_as, past_as}
 use Rattle.script_session.proofs.Telling.{both_told, opens_last}
 
-module _ (scope : Scope) (v : State) (trace mid : Trace) (is : IsScope scope v trace mid) (lines : List Line) (told : List Told) (behind : Session) (after : Disk) (closed : Result (Unit {0}) StoreFault) (ended : IsEnded behind after closed) (left : Piece)
+module _ (scope : Scope) (v : State) (trace mid : Trace) (is : IsScope IsSame scope v trace mid) (lines : List Line) (told : List Told) (behind : Session) (after : Disk) (closed : Result (Unit {0}) StoreFault) (ended : IsEnded behind after closed) (left : Piece)
     (tells : TellsHistory (drive_over scope trace) 1 lines told v (just_started scope.of_leaf) None mid behind left) where
   abbrev drive : Drive
   drive = drive_over scope trace

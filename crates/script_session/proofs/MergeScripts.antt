@@ -43,7 +43,7 @@ use Rattle.script_session.proofs.Ending.{end_counted, end_untold, faults_told, l
 use Rattle.script_session.proofs.LeftFiles.{all_at, names_all, names_started, number_of}
 use Rattle.script_session.proofs.LinesTold.{lines_told}
 use Rattle.script_session.proofs.MergeEnds.{IsNewMerge, has_history}
-use Rattle.script_session.proofs.Resting.{IsScope}
+use Rattle.script_session.proofs.Resting.{IsSame, IsScope}
 
 -- ---- the history
 
@@ -104,7 +104,7 @@ only_source m n changed unwritten = elim (or_cases (is_written m n) (n == source
 ]
 
 pub scope_is : (m : MergeFiles) (merge : Merge) (trace mid : Trace) → ((other : ℕ) → is_changed m other ≡ false → file_of mid other ≡ file_of trace other) → is_synced (file_of mid (source_place m)) ≡ true → NamesNoLog (seen (file_of mid (source_place m)))
-    → names_left (started_merge trace mid m merge.ids merge.twice) ≡ names_without m → all_names (started_merge trace mid m merge.ids merge.twice) ≡ map (λ (f : LinkedFile). f.name) (chain_files m) → IsScope (scope_of m) (started_merge trace mid m merge.ids merge.twice) trace mid
+    → names_left (started_merge trace mid m merge.ids merge.twice) ≡ names_without m → all_names (started_merge trace mid m merge.ids merge.twice) ≡ map (λ (f : LinkedFile). f.name) (chain_files m) → IsScope IsSame (scope_of m) (started_merge trace mid m merge.ids merge.twice) trace mid
 scope_is m merge trace mid rest synced no_log names all = record {
   leaf = refl;
   history = refl;

@@ -9,6 +9,7 @@ use Rattle.guest_model.specs.History.{History}
 use Rattle.chain_model.specs.Images.{Placed, members_of}
 use Rattle.chain_model.specs.Members.{names_of}
 use Rattle.chain_core.specs.Answering.{EachLinks}
+use Rattle.chain_core.specs.Sealed.{GoesOnSealed, IsKept}
 use Rattle.chain_core.specs.Starting.{opening_disk}
 use Rattle.chain_core.specs.Sessions.{has_merge}
 use Rattle.chain_core.specs.declared.layers.Layers.{Layers}
@@ -20,22 +21,44 @@ use Rattle.script_session.specs.Histories.{IsLater, all_names, is_under_way, nam
 use Rattle.script_session.specs.MergeRunning.{Scope}
 use Rattle.script_session.proofs.LeftFiles.{all_numbers, all_stay, later_number, later_since, later_writes, own_synced, own_unnamed}
 
--- What the session's first state has of its scope: `mid` is the moment when its merge was prepared.
-pub record IsScope (scope : Scope) (v : State) (trace mid : Trace) : Type 1 where
+-- a file is the same
+abbrev pub IsSame : File → File → Type 0
+IsSame old new = new ≡ old
+
+-- What the session's first state has of its scope: `mid` is the moment when its merge was prepared, or when what it only reads was sealed. What
+-- isn't of the scope is left so.
+pub record IsScope (Left : File → File → Type 0) (scope : Scope) (v : State) (trace mid : Trace) : Type 1 where
   pub leaf : v.leaf ≡ scope.leaf
   pub history : v.history ≡ []
   pub opening : v.opening ≡ opening_disk trace scope.files
   pub began : v.began ≡ trace
   pub since : v.since ≡ mid
   pub changes : (n : ℕ) → scope.changes n ≡ false → v.writes n ≡ false
-  pub rest : (other : ℕ) → scope.changes other ≡ false → file_of mid other ≡ file_of trace other
+  pub rest : (other : ℕ) → scope.changes other ≡ false → Left (file_of trace other) (file_of mid other)
   pub quiet : (n : ℕ) → scope.changes n ≡ true → v.writes n ≡ false → is_synced (file_of mid n) ≡ true
   pub unnamed : (n : ℕ) → scope.changes n ≡ true → v.writes n ≡ false → NamesNoLog (seen (file_of mid n))
   pub own : (P : ℕ → Type 0) → P v.top.number → AllByRecursion P (numbers_left v) → (n : ℕ) → v.writes n ≡ true → P n
   pub names : names_left v ≡ scope.staying
   pub all : all_names v ≡ map (λ (f : LinkedFile). f.name) scope.files
 
-module _ (scope : Scope) (v : State) (trace mid : Trace) (is : IsScope scope v trace mid) (h : History) (later : State) (same : IsLater v h later) (now : Trace) where
+-- once what it only reads was sealed
+pub sealed_scope : (layers : Layers) (scope : Scope) (v : State) (trace mid now : Trace) → GoesOnSealed layers mid now → IsScope IsSame scope v trace mid → IsScope IsKept scope (record v { since = now }) trace now
+sealed_scope layers scope v trace mid now goes is = record {
+  leaf = is.leaf;
+  history = is.history;
+  opening = is.opening;
+  began = is.began;
+  since = refl;
+  changes = is.changes;
+  rest = λ other none. subst (λ f. IsKept f (file_of now other)) (is.rest other none) (goes.kept other);
+  quiet = λ n changed unwritten. goes.synced n ∙ is.quiet n changed unwritten;
+  unnamed = λ n changed unwritten. subst (λ (bytes : List ℕ). NamesNoLog bytes) (sym (goes.bytes n)) (is.unnamed n changed unwritten);
+  own = is.own;
+  names = is.names;
+  all = is.all;
+}
+
+module _ {Left : File → File → Type 0} (scope : Scope) (v : State) (trace mid : Trace) (is : IsScope Left scope v trace mid) (h : History) (later : State) (same : IsLater v h later) (now : Trace) where
   -- what it may change its scope may
   pub may_change : (n : ℕ) → v.writes n ≡ true → scope.changes n ≡ true
   may_change n written = by_change (scope.changes n) refl
@@ -66,10 +89,10 @@ module _ (scope : Scope) (v : State) (trace mid : Trace) (is : IsScope scope v t
 
   module _ (still : (other : ℕ) → later.writes other ≡ false → file_of now other ≡ file_of later.since other) where
     -- no file was changed but those of the scope
-    pub others_as : (other : ℕ) → scope.changes other ≡ false → file_of now other ≡ file_of trace other
+    pub others_as : (other : ℕ) → scope.changes other ≡ false → Left (file_of trace other) (file_of now other)
     others_as other none =
         let unwritten : v.writes other ≡ false = is.changes other none in
-        still other (later_writes v later same.goes other unwritten) ∙ later_since v later same.goes other unwritten ∙ ap (λ t. file_of t other) is.since ∙ is.rest other none
+        subst (Left (file_of trace other)) (sym (still other (later_writes v later same.goes other unwritten) ∙ later_since v later same.goes other unwritten ∙ ap (λ t. file_of t other) is.since)) (is.rest other none)
 
     -- nothing of the files that are changed is unsynced
     module _ (synced : AllByRecursion (λ f. is_synced (file_of now f.number) ≡ true) (files_of later)) where

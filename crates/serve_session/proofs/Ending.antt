@@ -1,8 +1,9 @@
 -- What guests were told, once all seats are joined and the session has ended.
-use Rattle.std.proofs.Common.{◌≡◌, ◌⊎◌, ◌+◌, ◌-◌, ◌^◌, ◌<◌, ◌≤◌, ◌++◌, ◌∷◌, ℕ, zero, suc, Bool, true, false, [], List, length, map, take, Option, None, Some, Result, Ok, Err, inl, inr, refl, sym, ap, ap₂, subst, ◌∙◌, arith, length-append}
+use Rattle.std.proofs.Common.{◌≡◌, ◌⊎◌, ◌+◌, ◌-◌, ◌^◌, ◌<◌, ◌≤◌, ◌++◌, ◌∷◌, ℕ, zero, suc, Bool, true, false, [], List, length, take, Option, None, Some, Result, Ok, Err, inl, inr, refl, sym, ap, ap₂, subst, ◌∙◌, arith, length-append}
 use Rattle.std.specs.Prelude.{All, IfErr, IfOk, IfSome, IsErr, OnOk, String, get_or, string_bytes}
-use Rattle.std.specs.List.{AllByRecursion}
+use Rattle.std.specs.List.{AllByRecursion, flat_map}
 use Rattle.std.proofs.lemmas.List.{append-nil, get_or-take, length-map, map-append}
+use Rattle.std.proofs.lemmas.Result.{IfErr-weaker, IfOk-weaker}
 use Rattle.std.proofs.Math.Seq.{get_or-append_seam}
 use Rattle.store_model.specs.Disk.{Disk, WhereTold}
 use Rattle.store_model.specs.Trace.{Trace}
@@ -49,7 +50,7 @@ use Rattle.shared_chain.specs.Shared.{Shared}
 use Rattle.shared_chain.specs.Steps.{broke_step, done_steps, merge_breach, open_by as opens_by, steps_of}
 use Rattle.shared_chain.specs.Seats.{MergeBreaksAt}
 use Rattle.serve_session.specs.Actors.{AreHeard, AreJoined, HasBreach, HasBreacher, IsHeard, IsHeardOf, IsOwned, OwnsAt, first_notes}
-use Rattle.serve_session.specs.Served.{AreOutcomes, AreServed, EachGuest, Has, HasBreaker, HasBroken, IsBreakOf, IsOutcome, IsRefused, IsTranscript, Outcome, SomeGuest, all_told, as_told, call_of, entry_of, forms_of, is_broken, is_full, is_misplaced, is_unread, places_in, told_guests}
+use Rattle.serve_session.specs.Served.{AreOutcomes, AreServed, EachGuest, Has, HasBreaker, HasBroken, IsBreakOf, IsOutcome, IsRefused, IsTranscript, Outcome, SomeGuest, all_told, all_unread, call_of, entry_of, forms_of, is_broken, is_full, is_misplaced, is_unread, places_in, told_guests, told_of, unread_in}
 use Rattle.serve_session.specs.Serving.{drive_from}
 use Rattle.serve_session.proofs.Hearing.{nothing}
 use Rattle.serve_session.proofs.Guests.{all_told_are, each_map, some_and, told_count, told_guests_count}
@@ -401,6 +402,21 @@ module _ {S T : Type 0} (disk : S → Disk) (first : Chain S KeepAll T) where
       pub which : Which closed
       which = let w = find v.broke refl in record { broken = w.0; by = w.1; opens = w.2 }
 
+    -- ---- reads that failed by a reader
+
+    abbrev IsOfStore : StoreFault → Type 0
+    IsOfStore fault = fault.file < (disk first.store).files
+
+    unread_heard : (guest number : ℕ) (forms : List Form) (outcomes : List Outcome) → AreHeard disk first seat guest number forms outcomes → AllByRecursion IsOfStore (unread_in outcomes)
+    unread_heard guest number forms [] k = tt
+    unread_heard guest number [] (o ∷ outcomes) k = absurd k
+    unread_heard guest number (f ∷ forms) (Ok (place, Ok reply) ∷ outcomes) k = unread_heard guest (number + 1) forms outcomes k.1
+    unread_heard guest number (f ∷ forms) (Ok (place, Err fault) ∷ outcomes) k = (k.0.unread.1, unread_heard guest (number + 1) forms outcomes k.1)
+    unread_heard guest number (f ∷ forms) (Err x ∷ outcomes) k = unread_heard guest (number + 1) forms outcomes k.1
+
+    pub unread_of_store : AllByRecursion (λ fault. fault.file < (disk first.store).files) (all_unread guests)
+    unread_of_store = all_told_are IsOfStore unread_in 1 guests (each_map Heard (λ g os. AllByRecursion IsOfStore (unread_in os)) 1 guests (λ g os. unread_heard g 1 (forms_of g lines) os) j.heard)
+
     -- ---- the transcript
 
     pub all_called : short ≡ false → All (IsTold told) h
@@ -459,7 +475,8 @@ module _ {S T : Type 0} (disk : S → Disk) (first : Chain S KeepAll T) where
           begins = starts_more h k.before broke (entry_of guest number (call_of form)) (as_history k.begins);
           place_is = k.place_is;
           placed = k.placed;
-          reply_is = sym (k.replies trace store_told from serving empty) ∙ ap (λ z. reply (replay z from.opening k.before) (call_of form)) size;
+          reply_is = IfOk-weaker done.1 _ _ (λ r replies. sym (replies trace store_told from serving empty) ∙ ap (λ z. reply (replay z from.opening k.before) (call_of form)) size) k.replies;
+          unread = IfErr-weaker done.1 _ _ (λ fault unread. unread.0) k.unread;
         }
         outcome_is guest number form (Err x) k = refused_by (call_of form) x k
 
@@ -472,6 +489,7 @@ module _ {S T : Type 0} (disk : S → Disk) (first : Chain S KeepAll T) where
         served = record {
           told = each_map Heard (λ guest outcomes. AreOutcomes (drive_from first from) h (failed_by closed) guest 1 (forms_of guest lines) outcomes) 1 guests (λ g os. outcomes_are g 1 (forms_of g lines) os) j.heard;
           order = j.order;
+          unread = j.unread;
           all = all_places;
           breaker = w.by;
         }
@@ -518,15 +536,16 @@ module _ {S T : Type 0} (disk : S → Disk) (first : Chain S KeepAll T) where
         fault_told call NoPiece k = tt
         fault_told call NoRoom k = tt
 
-        faults_heard : (guest number : ℕ) (forms : List Form) (outcomes : List Outcome) → AreHeard disk first seat guest number forms outcomes → AllByRecursion IsFault (map as_told outcomes)
+        faults_heard : (guest number : ℕ) (forms : List Form) (outcomes : List Outcome) → AreHeard disk first seat guest number forms outcomes → AllByRecursion IsFault (flat_map told_of outcomes)
         faults_heard guest number forms [] k = tt
         faults_heard guest number [] (o ∷ outcomes) k = absurd k
-        faults_heard guest number (f ∷ forms) (Ok done ∷ outcomes) k = (tt, faults_heard guest (number + 1) forms outcomes k.1)
+        faults_heard guest number (f ∷ forms) (Ok (place, Ok reply) ∷ outcomes) k = (tt, faults_heard guest (number + 1) forms outcomes k.1)
+        faults_heard guest number (f ∷ forms) (Ok (place, Err fault) ∷ outcomes) k = faults_heard guest (number + 1) forms outcomes k.1
         faults_heard guest number (f ∷ forms) (Err x ∷ outcomes) k = (fault_told (call_of f) x k.0, faults_heard guest (number + 1) forms outcomes k.1)
 
         pub faults_told : FaultsAreTold (all_told guests) (failed_by closed) (disk first.store).files (disk first.store).failed_changes after.failed_reads after.failed_changes
         faults_told = record {
-          each = all_told_are IsFault 1 guests (each_map Heard (λ g os. AllByRecursion IsFault (map as_told os)) 1 guests (λ g os. faults_heard g 1 (forms_of g lines) os) j.heard);
+          each = all_told_are IsFault (flat_map told_of) 1 guests (each_map Heard (λ g os. AllByRecursion IsFault (flat_map told_of os)) 1 guests (λ g os. faults_heard g 1 (forms_of g lines) os) j.heard);
           end = end closed counted.end;
           none = none closed counted.none;
         }

@@ -1,7 +1,7 @@
 -- What guests are told of the end of a file, by what is noted of it.
-use Rattle.std.proofs.Common.{◌⊎◌, ◌+◌, ◌++◌, ◌∷◌, ℕ, zero, suc, Bool, [], List, map, Option, None, Some, Ok, Err, inl, inr, arith}
+use Rattle.std.proofs.Common.{◌⊎◌, ◌+◌, ◌++◌, ◌∷◌, ℕ, zero, suc, Bool, [], List, Option, None, Some, Ok, Err, inl, inr, arith}
 use Rattle.std.specs.Prelude.{IfSome}
-use Rattle.std.specs.List.{AllByRecursion}
+use Rattle.std.specs.List.{AllByRecursion, flat_map}
 use Rattle.store_model.specs.Disk.{Disk}
 use Rattle.store_model.specs.Trace.{Trace}
 use Rattle.store_model.specs.declared.fault.StoreFault.{StoreFault}
@@ -22,7 +22,7 @@ use Rattle.shared_chain.specs.Notes.{HasNote}
 use Rattle.turn_lock.specs.Seats.{Known}
 use Rattle.shared_chain.specs.declared.basis.Basis.{Basis}
 use Rattle.serve_session.specs.Actors.{AreHeard, IsHeardOf}
-use Rattle.serve_session.specs.Served.{EachGuest, Outcome, all_told, as_told, call_of, forms_of}
+use Rattle.serve_session.specs.Served.{EachGuest, Outcome, all_told, call_of, forms_of, told_of}
 use Rattle.serve_session.specs.Serving.{IsUpTo}
 use Rattle.serve_session.proofs.Guests.{all_told_are, each_map}
 
@@ -64,10 +64,7 @@ module _ (next : ℕ) where
 -- ---- what guests are told
 
 module _ {S T : Type 0} (disk : S → Disk) (first : Chain S KeepAll T) (seat : Known Step (Basis S T)) (full : Option ℕ) (up : (next : ℕ) → HasNote seat.basis.notes (notes.Full next) → IsUpTo full next) where
-  abbrev IsEnd : Outcome → Type 0
-  IsEnd o = IsEndTold (IsUpTo full) (as_told o)
-
-  end_heard : (call : Call) (x : ChainRefusal) → IsHeardOf disk first seat call x → IsEnd (Err x)
+  end_heard : (call : Call) (x : ChainRefusal) → IsHeardOf disk first seat call x → IsEndTold (IsUpTo full) (Err x)
   end_heard call EmptyRange k = tt
   end_heard call (OutOfRange a b c) k = tt
   end_heard call (TooLong a b) k = tt
@@ -84,16 +81,17 @@ module _ {S T : Type 0} (disk : S → Disk) (first : Chain S KeepAll T) (seat : 
   end_heard call NoPiece k = tt
   end_heard call NoRoom k = tt
 
-  ends_heard : (guest number : ℕ) (forms : List Form) (outcomes : List Outcome) → AreHeard disk first seat guest number forms outcomes → AllByRecursion (IsEndTold (IsUpTo full)) (map as_told outcomes)
+  ends_heard : (guest number : ℕ) (forms : List Form) (outcomes : List Outcome) → AreHeard disk first seat guest number forms outcomes → AllByRecursion (IsEndTold (IsUpTo full)) (flat_map told_of outcomes)
   ends_heard guest number forms [] k = tt
   ends_heard guest number [] (o ∷ outcomes) k = absurd k
-  ends_heard guest number (f ∷ forms) (Ok done ∷ outcomes) k = (tt, ends_heard guest (number + 1) forms outcomes k.1)
+  ends_heard guest number (f ∷ forms) (Ok (place, Ok reply) ∷ outcomes) k = (tt, ends_heard guest (number + 1) forms outcomes k.1)
+  ends_heard guest number (f ∷ forms) (Ok (place, Err fault) ∷ outcomes) k = ends_heard guest (number + 1) forms outcomes k.1
   ends_heard guest number (f ∷ forms) (Err x ∷ outcomes) k = (end_heard (call_of f) x k.0, ends_heard guest (number + 1) forms outcomes k.1)
 
   pub ends_told : (lines : List Line) (guests : List (List Outcome)) → EachGuest (λ guest outcomes. AreHeard disk first seat guest 1 (forms_of guest lines) outcomes) 1 guests → AllByRecursion (IsEndTold (IsUpTo full)) (all_told guests)
   ends_told lines guests heard =
-      all_told_are (IsEndTold (IsUpTo full)) 1 guests
-      (each_map (λ g os. AreHeard disk first seat g 1 (forms_of g lines) os) (λ g os. AllByRecursion (IsEndTold (IsUpTo full)) (map as_told os)) 1 guests (λ g os. ends_heard g 1 (forms_of g lines) os) heard)
+      all_told_are (IsEndTold (IsUpTo full)) (flat_map told_of) 1 guests
+      (each_map (λ g os. AreHeard disk first seat g 1 (forms_of g lines) os) (λ g os. AllByRecursion (IsEndTold (IsUpTo full)) (flat_map told_of os)) 1 guests (λ g os. ends_heard g 1 (forms_of g lines) os) heard)
 
 -- a file that is so long reaches each lower unit
 pub long_up : (full : Option ℕ) (may : ℕ → Bool) (now : Trace) → IfSome full (IsSoLong may now) → (next : ℕ) → IsUpTo full next → IsSoLong may now next

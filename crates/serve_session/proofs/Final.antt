@@ -1,8 +1,8 @@
 -- What serving guests leaves, with the end of the session.
-use Rattle.std.proofs.Common.{◌≡◌, ◌⊎◌, ◌+◌, ◌-◌, ◌*◌, ◌^◌, ◌<◌, ◌≤◌, ℕ, zero, suc, Bool, true, false, [], List, length, min, replicate, Option, None, Some, Result, Ok, Err, inl, inr, refl, sym, ap, ap₂, subst, ◌∙◌, arith}
+use Rattle.std.proofs.Common.{◌≡◌, ◌⊎◌, ◌+◌, ◌-◌, ◌*◌, ◌^◌, ◌<◌, ◌≤◌, ◌++◌, ℕ, zero, suc, Bool, true, false, [], List, length, min, replicate, Option, None, Some, Result, Ok, Err, inl, inr, refl, sym, ap, ap₂, subst, ◌∙◌, arith}
 use Rattle.std.specs.Prelude.{◌||◌, All, IfErr, IfOk, IfSome, IsErr, OnOk, String, is_some, string_bytes}
 use Rattle.std.proofs.lemmas.Result.{on_ok_weaker}
-use Rattle.std.specs.List.{AllByRecursion}
+use Rattle.std.specs.List.{AllByRecursion, flat_map}
 use Rattle.std.proofs.lemmas.List.{length-replicate}
 use Rattle.store_model.specs.Disk.{Disk}
 use Rattle.store_model.specs.declared.fault.StoreFault.{StoreFault}
@@ -21,7 +21,7 @@ use Rattle.script.specs.declared.form.Line.{Line}
 use Rattle.script.specs.declared.told.ToldCall.{ToldCall}
 use Rattle.script.specs.Transcript.{IsTold, serve_text}
 use Rattle.script_session.specs.Faults.{IsFailedChange}
-use Rattle.script_session.specs.Told.{Told, failed_by}
+use Rattle.script_session.specs.Told.{failed_by}
 use Rattle.script_session.specs.declared.session.ScriptRun.{ScriptRun}
 use Rattle.seats.specs.declared.Family.{Family}
 use Rattle.turn_lock.specs.Seats.{Known, TableId, first_seat}
@@ -44,15 +44,16 @@ use Rattle.shared_chain.specs.Steps.{broke_after, first_breach, merge_breach, op
 use Rattle.script_session.specs.Histories.{Break}
 use Rattle.serve_session.specs.declared.actor.Actor.{Actor}
 use Rattle.serve_session.specs.Actors.{AreJoined, HasRun, IsFrom, first_notes}
+use Rattle.serve_session.specs.Sealing.{IsSetFor}
 use Rattle.serve_session.specs.Lists.{AreActors, AreFresh, IsReady, RunsEach, with_splits}
 use Rattle.serve_session.specs.MergeServed.{StopsMerge}
-use Rattle.serve_session.specs.Served.{EachGuest, IsBreakOf, IsTranscript, Outcome, all_told, greatest_from, guest_count}
+use Rattle.serve_session.specs.Served.{EachGuest, IsBreakOf, IsTranscript, Outcome, all_unread, greatest_from, guest_count, told_of, unread_in}
 use Rattle.serve_session.specs.Serving.{EndsAs, HasBegun, HasServed, IsNearEnd, IsShared, WasShared}
 use Rattle.serve_session.specs.declared.merging.MergeRun.{MergeRun}
 use Rattle.serve_session.proofs.Hearing.{nothing}
 use Rattle.serve_session.proofs.Filled.{ends_told, full_noted}
 use Rattle.serve_session.proofs.Joining.{all_run, fresh_ready, none_joined}
-use Rattle.serve_session.proofs.Ending.{all_called, faults_told, first_is, served_all, transcript_is, which}
+use Rattle.serve_session.proofs.Ending.{all_called, faults_told, first_is, served_all, transcript_is, unread_of_store, which}
 
 any_ok : {T E P : Type 0} (r : Result T E) → P → OnOk r P
 any_ok (Ok done) p = p
@@ -62,9 +63,13 @@ each_empty : (P : ℕ → List Outcome → Type 0) → ((g : ℕ) → P g []) �
 each_empty P h zero g = tt
 each_empty P h (suc n) g = (h g, each_empty P h n (g + 1))
 
-all_empty : (P : Told → Type 0) (n : ℕ) → AllByRecursion P (all_told (replicate n []))
-all_empty P zero = tt
-all_empty P (suc n) = all_empty P n
+all_empty : {X : Type 0} (P : X → Type 0) (told : List Outcome → List X) → told [] ≡ [] → (n : ℕ) → AllByRecursion P (flat_map told (replicate n []))
+all_empty P told none zero = tt
+all_empty P told none (suc n) = subst (λ xs. AllByRecursion P (xs ++ flat_map told (replicate n []))) (sym none) (all_empty P told none n)
+
+unread_none : (n : ℕ) → length (all_unread (replicate n [])) ≡ 0
+unread_none zero = refl
+unread_none (suc n) = unread_none n
 
 changed_end : (files : ℕ) (after : Disk) (r : Result (Unit {0}) StoreFault) → after.files ≡ files → IfErr r (CountsChange after) → IfSome (failed_by r) (IsFailedChange files after.failed_changes)
 changed_end files after (Ok done) same k = tt
@@ -77,6 +82,9 @@ changed_none old after (Err f) k e = absurd (some_none e)
 none_under : (layers : Layers) → HasNoMerge layers → has_merge layers ≡ false
 none_under layers none = ap₂ (λ (o : Option Underway) (r : Option Retiring). is_some o || is_some r) none.0 none.1
 
+pub few_guests : (n m : ℕ) → n ≡ min m 64 → n ≤ 64
+few_guests n m e = omega (arith, e)
+
 module _ {S T : Type 0} (disk : S → Disk) where
   -- the first seat of a lock over a chain whose session has just begun
   module _ (v : Shared (Chain S KeepAll T)) (fresh : v ≡ record { chain = v.first; first = v.first; full = None; broke = None; fault = None; copied = v.copied; finished = false }) (whole : v.first.broken ≡ None) (lock : TableId) (made : Known Step (Basis S T)) (is : made ≡ first_seat lock 0 (basis_of disk v)) where
@@ -86,10 +94,10 @@ module _ {S T : Type 0} (disk : S → Disk) where
     made_knows : IsFrom disk v.first made.basis
     made_knows = subst (λ (s : Known Step (Basis S T)). IsFrom disk v.first s.basis) (sym is) (record { began = refl; notes = λ n h. subst (λ ns. HasNote ns n) (sym fresh_notes) h })
 
-    pub made_ready : (n : ℕ) (actors : List (Actor S T)) → AreFresh made n actors → All (IsReady lock) actors
-    made_ready n actors h = fresh_ready made lock n actors (ap (λ (s : Known Step (Basis S T)). s.lock) is) h
+    pub made_ready : (n : ℕ) (actors : List (Actor S T)) → AreFresh (IsSetFor disk v.first) made n actors → All (IsReady disk lock) actors
+    made_ready n actors h = fresh_ready disk v.first made lock n actors (ap (λ (s : Known Step (Basis S T)). s.lock) is) made_knows.began h
 
-    pub made_run : v.first.layers.geometry.sector ≡ 512 → (names : List (List ℕ)) (lines : List Line) (n : ℕ) (old new : List (Actor S T)) → AreFresh made n old → RunsEach disk lock names lines old new → AreActors (HasRun disk v.first lock names lines) n new
+    pub made_run : v.first.layers.geometry.sector ≡ 512 → (names : List (List ℕ)) (lines : List Line) (n : ℕ) (old new : List (Actor S T)) → AreFresh (IsSetFor disk v.first) made n old → RunsEach disk lock names lines old new → AreActors (HasRun disk v.first lock names lines) n new
     made_run sector names lines n old new h runs = all_run disk v.first lock names lines made n old new (ap (λ (s : Known Step (Basis S T)). s.lock) is) made_knows sector h runs
 
     pub made_none : (names : List (List ℕ)) (lines : List Line) (n : ℕ) (seat : Known Step (Basis S T)) → seat ≡ with_splits made n → AreJoined disk v.first false lock names lines seat [] false []
@@ -244,9 +252,9 @@ module _ {S T : Type 0} (disk : S → Disk) where
     each_err P Q f (Err x) k = f x k
 
     -- threads shared the chain
-    pub all_served : (names : List (List ℕ)) (lines : List Line) (told : List (List ToldCall)) (short : Bool) → WasShared disk merges old names lines mid told short → old.first.layers.geometry.sector ≡ 512
-        → IfOk run.transcript (λ text. (short ≡ false) × (string_bytes text ≡ serve_text v.chain.recorder told)) → HasServed disk merges old.first names lines (record { run = run; merged = merged }) after
-    all_served names lines told short s sector text =
+    pub all_served : (names : List (List ℕ)) (lines : List Line) (told : List (List ToldCall)) (short : Bool) (unread : ℕ) → WasShared disk merges old names lines mid told short unread → old.first.layers.geometry.sector ≡ 512
+        → IfOk run.transcript (λ text. (short ≡ false) × (string_bytes text ≡ serve_text v.chain.recorder told)) → HasServed disk merges old.first names lines (record { run = run; unread = unread; merged = merged }) after
+    all_served names lines told short unread s sector text =
         let small : v.chain.events < 2 ^ 63 = omega (arith, so.few, s.few) in
         let history : steps_of v.chain.recorder mid.broke ≡ s.seat.seen = ap (λ k. steps_of k mid.broke) so.history ∙ s.history in
         let basis : Contains (basis_of disk v) s.seat.basis = contains_through (basis_of disk v) (basis_of disk mid) s.seat.basis so.basis s.basis in
@@ -264,6 +272,8 @@ module _ {S T : Type 0} (disk : S → Disk) where
           transcript = transcript_is disk old.first merges s.lock names lines s.seat told short s.guests s.joined v mid.broke history basis s.places s.refusals small run.transcript text;
           counted = subst (λ f. EndsCounted (disk old.first.store) after f run.closed) (sym fault) counted_first;
           faults = faults_told disk old.first merges s.lock names lines s.seat told short s.guests s.joined v mid.broke history basis s.places s.refusals small after run.closed ended w counted_first;
+          unread = unread_of_store disk old.first merges s.lock names lines s.seat told short s.guests s.joined v mid.broke history basis s.places s.refusals small;
+          unread_is = s.unread_is;
           full = v.full;
           ends = ends_told disk old.first s.seat v.full (λ next h. full_noted next (disk v.chain.store) v.chain.broken v.full (basis.notes (notes.Full next) h)) lines s.guests s.joined.heard;
           under_way = has_merge v.chain.layers;
@@ -275,8 +285,8 @@ module _ {S T : Type 0} (disk : S → Disk) where
         }
 
     -- memory ran out before a call was made
-    pub none_served : (names : List (List ℕ)) (lines : List Line) → HasBegun disk old → mid ≡ old → IfOk run.transcript (λ text. ⊥) → HasServed disk merges old.first names lines (record { run = run; merged = merged }) after
-    none_served names lines begun same_mid none =
+    pub none_served : (names : List (List ℕ)) (lines : List Line) (unread : ℕ) → unread ≡ 0 → HasBegun disk old → mid ≡ old → IfOk run.transcript (λ text. ⊥) → HasServed disk merges old.first names lines (record { run = run; unread = unread; merged = merged }) after
+    none_served names lines unread no_read begun same_mid none =
         let same : v.first ≡ old.first = so.first ∙ ap (λ (s : Shared (Chain S KeepAll T)). s.first) same_mid in
         let empty : v.chain.recorder ≡ [] = so.history ∙ ap (λ (s : Shared (Chain S KeepAll T)). s.chain.recorder) same_mid ∙ ap (λ (s : Shared (Chain S KeepAll T)). s.chain.recorder) begun.fresh ∙ begun.empty in
         let whole : mid.broke ≡ None = ap (λ (s : Shared (Chain S KeepAll T)). s.broke) same_mid ∙ ap (λ (s : Shared (Chain S KeepAll T)). s.broke) begun.fresh in
@@ -294,18 +304,21 @@ module _ {S T : Type 0} (disk : S → Disk) where
           served = λ trace told from serving began. record {
             told = each_empty _ (λ g. tt) (guest_count lines) 1;
             order = each_empty _ (λ g. tt) (guest_count lines) 1;
+            unread = each_empty _ (λ g. tt) (guest_count lines) 1;
             all = λ p low high. absurd (omega (arith, low, high));
             breaker = w.1 lines;
           };
           transcript = none_of (λ text. IsTranscript names lines (replicate (guest_count lines) []) [] (string_bytes text)) run.transcript none;
           counted = subst (λ f. EndsCounted (disk old.first.store) after f run.closed) (sym fault) counted_first;
           faults = record {
-            each = all_empty _ (guest_count lines);
+            each = all_empty _ (flat_map told_of) refl (guest_count lines);
             end = changed_end (disk old.first.store).files after run.closed counted_first.files counted_first.end;
             none = changed_none (disk old.first.store) after run.closed counted_first.none;
           };
+          unread = all_empty _ unread_in refl (guest_count lines);
+          unread_is = no_read ∙ sym (unread_none (guest_count lines));
           full = v.full;
-          ends = all_empty _ (guest_count lines);
+          ends = all_empty _ (flat_map told_of) refl (guest_count lines);
           under_way = has_merge v.chain.layers;
           leaves = subst (λ h. LeavesHistory (session_of disk old.first) h v.full v.broke (has_merge v.chain.layers) run.closed after) empty
               (subst (λ (c : Chain S KeepAll T). LeavesHistory (session_of disk c) v.chain.recorder v.full v.broke (has_merge v.chain.layers) run.closed after) same leaves);
@@ -335,42 +348,39 @@ module _ {S T : Type 0} (disk : S → Disk) where
 
   -- ---- what is left, however far it came
 
-  pub shared_as : (merges : Bool) (n : ℕ) (old mid : Shared (Chain S KeepAll T)) (names : List (List ℕ)) (lines : List Line) (told : List (List ToldCall)) (short : Bool) → (merges ≡ false → n ≡ 0) → (n ≡ 0 → IsShared disk false old names lines mid told short)
-      → IsShared disk true old names lines mid told short → IsShared disk merges old names lines mid told short
-  shared_as false n old mid names lines told short alone plain beside = plain (alone refl)
-  shared_as true n old mid names lines told short alone plain beside = beside
+  pub shared_as : (merges : Bool) (n : ℕ) (old mid : Shared (Chain S KeepAll T)) (names : List (List ℕ)) (lines : List Line) (told : List (List ToldCall)) (short : Bool) (unread : ℕ) → (merges ≡ false → n ≡ 0) → (n ≡ 0 → IsShared disk false old names lines mid told short unread)
+      → IsShared disk true old names lines mid told short unread → IsShared disk merges old names lines mid told short unread
+  shared_as false n old mid names lines told short unread alone plain beside = plain (alone refl)
+  shared_as true n old mid names lines told short unread alone plain beside = beside
 
-  pub few_told : (merges : Bool) (old mid : Shared (Chain S KeepAll T)) (names : List (List ℕ)) (lines : List Line) (told : List (List ToldCall)) (short : Bool) → IsShared disk merges old names lines mid told short → length told ≤ 64
-  few_told merges old mid names lines told short (IsShared.was_shared s) = few (length told) (greatest_from 0 lines) (s.joined.count ∙ s.count)
-    where
-      few : (n m : ℕ) → n ≡ min m 64 → n ≤ 64
-      few n m e = omega (arith, e)
-  few_told merges old mid names lines told short (IsShared.no_memory same short_is none) = omega (arith, ap length none)
+  pub few_told : (merges : Bool) (old mid : Shared (Chain S KeepAll T)) (names : List (List ℕ)) (lines : List Line) (told : List (List ToldCall)) (short : Bool) (unread : ℕ) → IsShared disk merges old names lines mid told short unread → length told ≤ 64
+  few_told merges old mid names lines told short unread (IsShared.was_shared s) = few_guests (length told) (greatest_from 0 lines) (s.joined.count ∙ s.count)
+  few_told merges old mid names lines told short unread (IsShared.no_memory same short_is none no_read) = omega (arith, ap length none)
 
-  pub called : (merges : Bool) (old mid v : Shared (Chain S KeepAll T)) (merged : Result (Unit {0}) ChainRefusal) → EndsAs disk merges mid v merged → (names : List (List ℕ)) (lines : List Line) (told : List (List ToldCall)) (short : Bool) → IsShared disk merges old names lines mid told short
+  pub called : (merges : Bool) (old mid v : Shared (Chain S KeepAll T)) (merged : Result (Unit {0}) ChainRefusal) → EndsAs disk merges mid v merged → (names : List (List ℕ)) (lines : List Line) (told : List (List ToldCall)) (short : Bool) (unread : ℕ) → IsShared disk merges old names lines mid told short unread
       → short ≡ false → All (IsTold told) v.chain.recorder
-  called merges old mid v merged e names lines told short (IsShared.was_shared s) =
+  called merges old mid v merged e names lines told short unread (IsShared.was_shared s) =
       let so = ended_so merges mid v merged e in
       all_called disk old.first merges s.lock names lines s.seat told short s.guests s.joined v mid.broke (ap (λ k. steps_of k mid.broke) so.history ∙ s.history) (contains_through (basis_of disk v) (basis_of disk mid) s.seat.basis so.basis s.basis) s.places s.refusals (omega (arith, so.few, s.few))
-  called merges old mid v merged e names lines told short (IsShared.no_memory same short_is none) = λ memory. absurd (false_true (sym memory ∙ short_is))
+  called merges old mid v merged e names lines told short unread (IsShared.no_memory same short_is none no_read) = λ memory. absurd (false_true (sym memory ∙ short_is))
 
   pub served_so : (merges : Bool) (old mid v : Shared (Chain S KeepAll T)) (merged : Result (Unit {0}) ChainRefusal) → EndsAs disk merges mid v merged → (run : ScriptRun) (after : Disk) → IsEnded (session_of disk v.chain) after run.closed → run.fault ≡ v.fault
       → EndsCounted (disk v.first.store) after v.fault run.closed → IfSome v.broke (λ b. IsErr run.closed) → LeavesHistory (session_of disk v.first) v.chain.recorder v.full v.broke (has_merge v.chain.layers) run.closed after
-      → HasBegun disk old → (names : List (List ℕ)) (lines : List Line) (told : List (List ToldCall)) (short : Bool) → IsShared disk merges old names lines mid told short
-      → IfOk run.transcript (λ text. (short ≡ false) × (string_bytes text ≡ serve_text v.chain.recorder told)) → HasServed disk merges old.first names lines (record { run = run; merged = merged }) after
-  served_so merges old mid v merged e run after ended fault counted errs leaves begun names lines told short (IsShared.was_shared s) text =
-      all_served merges old mid v merged (ended_so merges mid v merged e) run after ended fault counted errs leaves names lines told short s begun.sound.sector text
-  served_so merges old mid v merged e run after ended fault counted errs leaves begun names lines told short (IsShared.no_memory same short_is none) text =
-      none_served merges old mid v merged (ended_so merges mid v merged e) run after ended fault counted errs leaves names lines begun same (no_text _ run.transcript text)
+      → HasBegun disk old → (names : List (List ℕ)) (lines : List Line) (told : List (List ToldCall)) (short : Bool) (unread : ℕ) → IsShared disk merges old names lines mid told short unread
+      → IfOk run.transcript (λ text. (short ≡ false) × (string_bytes text ≡ serve_text v.chain.recorder told)) → HasServed disk merges old.first names lines (record { run = run; unread = unread; merged = merged }) after
+  served_so merges old mid v merged e run after ended fault counted errs leaves begun names lines told short unread (IsShared.was_shared s) text =
+      all_served merges old mid v merged (ended_so merges mid v merged e) run after ended fault counted errs leaves names lines told short unread s begun.sound.sector text
+  served_so merges old mid v merged e run after ended fault counted errs leaves begun names lines told short unread (IsShared.no_memory same short_is none no_read) text =
+      none_served merges old mid v merged (ended_so merges mid v merged e) run after ended fault counted errs leaves names lines unread no_read begun same (no_text _ run.transcript text)
     where
       no_text : {Z : Type 0} (P : String Z → Type 0) (r : Result (String Z) NoRoom) → IfOk r (λ t. (short ≡ false) × P t) → IfOk r (λ t. ⊥)
       no_text P (Ok t) h = absurd (false_true (sym h.0 ∙ short_is))
       no_text P (Err x) h = tt
 
   -- memory ran out before the chain could be shared, and its session was ended
-  pub unserved_is : (merges : Bool) (first : Chain S KeepAll T) → first.recorder ≡ [] → (names : List (List ℕ)) (lines : List Line) (run : MergeRun) (after : Disk) → IfOk run.run.transcript (λ text. ⊥) → run.run.fault ≡ None → run.merged ≡ Err NoMemory
-      → (merges ≡ true → has_merge first.layers ≡ true) → EndsCounted (disk first.store) after None run.run.closed → LeavesHistory (session_of disk first) [] None None (has_merge first.layers) run.run.closed after → HasServed disk merges first names lines run after
-  unserved_is merges first empty names lines run after none fault merged has counted leaves = record {
+  pub unserved_is : (merges : Bool) (first : Chain S KeepAll T) → first.recorder ≡ [] → (names : List (List ℕ)) (lines : List Line) (run : MergeRun) (after : Disk) → IfOk run.run.transcript (λ text. ⊥) → run.unread ≡ 0 → run.merged ≡ Err NoMemory
+      → (merges ≡ true → has_merge first.layers ≡ true) → EndsCounted (disk first.store) after run.run.fault run.run.closed → LeavesHistory (session_of disk first) [] None None (has_merge first.layers) run.run.closed after → HasServed disk merges first names lines run after
+  unserved_is merges first empty names lines run after none no_read merged has counted leaves = record {
     guests = replicate (guest_count lines) [];
     history = [];
     broken = None;
@@ -380,18 +390,21 @@ module _ {S T : Type 0} (disk : S → Disk) where
     served = λ trace told from serving began. record {
       told = each_empty _ (λ g. tt) (guest_count lines) 1;
       order = each_empty _ (λ g. tt) (guest_count lines) 1;
+      unread = each_empty _ (λ g. tt) (guest_count lines) 1;
       all = λ p low high. absurd (omega (arith, low, high));
       breaker = tt;
     };
     transcript = none_of (λ text. IsTranscript names lines (replicate (guest_count lines) []) [] (string_bytes text)) run.run.transcript none;
-    counted = subst (λ f. EndsCounted (disk first.store) after f run.run.closed) (sym fault) counted;
+    counted = counted;
     faults = record {
-      each = all_empty _ (guest_count lines);
+      each = all_empty _ (flat_map told_of) refl (guest_count lines);
       end = changed_end (disk first.store).files after run.run.closed counted.files counted.end;
       none = changed_none (disk first.store) after run.run.closed counted.none;
     };
+    unread = all_empty _ unread_in refl (guest_count lines);
+    unread_is = no_read ∙ sym (unread_none (guest_count lines));
     full = None;
-    ends = all_empty _ (guest_count lines);
+    ends = all_empty _ (flat_map told_of) refl (guest_count lines);
     under_way = has_merge first.layers;
     leaves = leaves;
     finished = λ some. subst (λ r. OnOk r (has_merge first.layers ≡ false)) (sym merged) tt;

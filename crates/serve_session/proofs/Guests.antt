@@ -1,15 +1,16 @@
 -- Lists of what guests were told, by one more call and by one more guest.
-use Rattle.std.proofs.Common.{◌≡◌, ◌≢◌, eq-eqb, ne_eqb, ◌+◌, ◌<◌, ◌≤◌, ◌==◌, ◌++◌, ◌∷◌, ℕ, Bool, true, false, [], List, length, Ok, Err, inl, inr, refl, ap, subst, ◌∙◌, arith}
-use Rattle.std.specs.Prelude.{◌&&◌, if◌then◌else◌, get_or, take, map}
-use Rattle.std.specs.List.{AllByRecursion}
+use Rattle.std.proofs.Common.{◌≡◌, ◌≢◌, eq-eqb, ne_eqb, ◌+◌, ◌<◌, ◌≤◌, ◌==◌, ◌++◌, ◌∷◌, ℕ, Bool, true, false, [], List, length, Ok, Err, inl, inr, refl, sym, ap, subst, ◌∙◌, arith, length-append}
+use Rattle.std.specs.Prelude.{◌&&◌, if◌then◌else◌, get_or, take}
+use Rattle.std.specs.List.{AllByRecursion, flat_map}
+use Rattle.std.proofs.lemmas.Grind.{flat_map-append}
 use Rattle.std.proofs.lemmas.List.{append-nil, take-append-le, take_all, take_more}
+use Rattle.store_model.specs.declared.fault.StoreFault.{StoreFault}
 use Rattle.script.specs.Grammar.{is_call}
 use Rattle.script.specs.declared.form.Form.{Form}
 use Rattle.script.specs.declared.form.Line.{Line}
-use Rattle.script_session.specs.Told.{Told}
 use Rattle.shared_chain.specs.declared.basis.Breach.{Breach}
 use Rattle.serve_session.specs.Actors.{HasBreach, HasBreacher, called_form}
-use Rattle.serve_session.specs.Served.{EachGuest, Has, IsRising, Outcome, SomeGuest, all_told, as_told, forms_of, places_in, told_call, told_calls, told_guests}
+use Rattle.serve_session.specs.Served.{EachGuest, Has, IsCountedUp, IsRising, Outcome, SomeGuest, all_unread, counts_behind, forms_of, none_failed, places_in, told_call, told_calls, told_guests, unread_in, unread_of, with_count}
 
 -- a slice that fills its vector is all that is in it then
 pub written_all : {X : Type 0} (n : ℕ) (xs ys : List X) → n ≡ length xs → take n (xs ++ ys) ≡ xs
@@ -69,6 +70,31 @@ breaker_last b guest number [] (x ∷ outcomes) form o same h = absurd (omega (a
 breaker_last b guest number (f ∷ forms) [] form o same h = absurd (omega (arith, same))
 breaker_last b guest number (f ∷ forms) (x ∷ outcomes) form o same h =
     inr (breaker_last b guest (number + 1) forms outcomes form o (omega (arith, same)) (subst (λ n. HasBreach guest n form b o) {x = number + length (x ∷ outcomes)} {y = number + 1 + length outcomes} (omega arith) h))
+
+-- ---- reads that failed by a reader
+
+pub unread_snoc : (outcomes : List Outcome) (o : Outcome) → unread_in (outcomes ++ o ∷ []) ≡ unread_in outcomes ++ unread_of o
+unread_snoc outcomes o = flat_map-append unread_of outcomes (o ∷ []) ∙ ap (λ fs. unread_in outcomes ++ fs) (append-nil (unread_of o))
+
+pub unread_count : (outcomes : List Outcome) (o : Outcome) → length (unread_in (outcomes ++ o ∷ [])) ≡ length (unread_in outcomes) + length (unread_of o)
+unread_count outcomes o = ap length (unread_snoc outcomes o) ∙ length-append (unread_in outcomes) (unread_of o)
+
+pub unread_few : (outcomes : List Outcome) → length (unread_in outcomes) ≤ length outcomes
+unread_few [] = omega arith
+unread_few (Ok (place, Ok reply) ∷ outcomes) = omega (arith, unread_few outcomes)
+unread_few (Ok (place, Err fault) ∷ outcomes) = omega (arith, unread_few outcomes)
+unread_few (Err x ∷ outcomes) = omega (arith, unread_few outcomes)
+
+counted_more : (counts : ℕ → ℕ) (faults more : List StoreFault) → IsCountedUp counts faults → IsCountedUp (counts_behind counts faults) more → IsCountedUp counts (faults ++ more)
+counted_more counts [] more h k = k
+counted_more counts (fault ∷ faults) more h k = (h.0, counted_more (with_count counts fault) faults more h.1 k)
+
+pub counted_snoc : (outcomes : List Outcome) (o : Outcome) → IsCountedUp none_failed (unread_in outcomes) → IsCountedUp (counts_behind none_failed (unread_in outcomes)) (unread_of o) → IsCountedUp none_failed (unread_in (outcomes ++ o ∷ []))
+counted_snoc outcomes o h k = subst (IsCountedUp none_failed) (sym (unread_snoc outcomes o)) (counted_more none_failed (unread_in outcomes) (unread_of o) h k)
+
+pub all_unread_count : (guests : List (List Outcome)) (outcomes : List Outcome) → length (all_unread (guests ++ outcomes ∷ [])) ≡ length (all_unread guests) + length (unread_in outcomes)
+all_unread_count guests outcomes =
+    ap length (flat_map-append unread_in guests (outcomes ∷ []) ∙ ap (λ fs. all_unread guests ++ fs) (append-nil (unread_in outcomes))) ∙ length-append (all_unread guests) (unread_in outcomes)
 
 -- ---- the forms of a guest's calls
 
@@ -155,10 +181,10 @@ told_guests_count names guest lines (os ∷ guests) = omega (arith, told_guests_
 
 -- ---- all that was told
 
-all_append : (P : Told → Type 0) (xs ys : List Told) → AllByRecursion P xs → AllByRecursion P ys → AllByRecursion P (xs ++ ys)
+all_append : {X : Type 0} (P : X → Type 0) (xs ys : List X) → AllByRecursion P xs → AllByRecursion P ys → AllByRecursion P (xs ++ ys)
 all_append P [] ys h k = k
 all_append P (x ∷ xs) ys h k = (h.0, all_append P xs ys h.1 k)
 
-pub all_told_are : (P : Told → Type 0) (guest : ℕ) (guests : List (List Outcome)) → EachGuest (λ g os. AllByRecursion P (map as_told os)) guest guests → AllByRecursion P (all_told guests)
-all_told_are P guest [] h = tt
-all_told_are P guest (os ∷ guests) h = all_append P (map as_told os) (all_told guests) h.0 (all_told_are P (guest + 1) guests h.1)
+pub all_told_are : {X : Type 0} (P : X → Type 0) (told : List Outcome → List X) (guest : ℕ) (guests : List (List Outcome)) → EachGuest (λ g os. AllByRecursion P (told os)) guest guests → AllByRecursion P (flat_map told guests)
+all_told_are P told guest [] h = tt
+all_told_are P told guest (os ∷ guests) h = all_append P (told os) (flat_map told guests) h.0 (all_told_are P told (guest + 1) guests h.1)

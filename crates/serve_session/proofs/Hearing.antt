@@ -1,9 +1,11 @@
 -- What a seat has heard of a guest's calls, as it sees more, and by one more call.
 use Rattle.std.proofs.Common.{◌≡◌, ◌⊎◌, ◌+◌, ◌*◌, ◌/◌, ◌^◌, ◌<◌, ◌≤◌, ◌==◌, ◌++◌, ◌∷◌, ℕ, Bool, true, false, [], List, length, replicate, Option, Some, None, Result, Ok, Err, inl, inr, refl, sym, ap, ap₂, subst, ◌∙◌, arith, eqb-true, length-append, lt-ltb, leb-true, take}
-use Rattle.std.specs.Prelude.{◌&&◌, IfSome, MatchBool, if◌then◌else◌, is_some, nat_le, nat_lt}
+use Rattle.std.specs.Prelude.{◌&&◌, IfErr, IfOk, IfSome, MatchBool, OnOk, if◌then◌else◌, is_some, nat_le, nat_lt}
 use Rattle.std.proofs.lemmas.Bool.{ltb-true, ne_eqb}
 use Rattle.std.proofs.lemmas.List.{length-map, length-replicate}
+use Rattle.store_model.specs.Cause.{Rose}
 use Rattle.store_model.specs.Disk.{Disk}
+use Rattle.store_model.specs.declared.fault.StoreFault.{StoreFault}
 use Rattle.guest_model.specs.declared.call.Call.{Call}
 use Rattle.guest_model.specs.declared.call.Call.TheVariants as calls
 use Rattle.guest_model.specs.declared.call.Caller.{Caller}
@@ -22,7 +24,6 @@ use Rattle.seats.specs.Counting.{once_at, times}
 use Rattle.seats.proofs.Counting.{times-push}
 use Rattle.script.specs.declared.form.Form.{Form}
 use Rattle.script.specs.declared.form.Form.TheVariants.{Copy, Fetch, Finish, Flush, Put, Read, Trim, Write}
-use Rattle.script_session.specs.Answers.{too_long}
 use Rattle.turn_lock.specs.Histories.{StartsWith}
 use Rattle.turn_lock.specs.Seats.{Known}
 use Rattle.turn_lock.proofs.Fronts.{starts-itself, starts-length, starts-through}
@@ -34,14 +35,14 @@ use Rattle.shared_chain.specs.declared.basis.Step.{Step}
 use Rattle.shared_chain.specs.declared.basis.Step.TheVariants.{Done}
 use Rattle.shared_chain.specs.Answers.{RepliesBehind, StopsOver}
 use Rattle.shared_chain.specs.Bases.{Contains}
-use Rattle.shared_chain.specs.Laws.{contains_through}
 use Rattle.shared_chain.specs.Notes.{HasNote}
 use Rattle.shared_chain.specs.Steps.{breach_of, done_steps, open_by}
-use Rattle.guest_io.specs.Guests.{Answers, HasBroken, IsCall, IsDone, caller_of}
-use Rattle.serve_session.specs.Actors.{AreHeard, BreaksAt, HasBreacher, HasHeard, HasPlace, IsHeard, IsHeardOf, IsFrom, OwnsAt}
-use Rattle.serve_session.specs.Asking.{IsAsked, asks_too_many, count_of, emptied, is_want, outcome_of, reply_in, shown_in}
-use Rattle.serve_session.specs.Served.{Has, IsRising, Outcome, call_of, entry_of, places_in}
-use Rattle.serve_session.proofs.Guests.{all_below, breaker_last, breaker_left, has_last, has_left, places_snoc, rising_snoc}
+use Rattle.guest_io.specs.Guests.{Answers, HasBroken, IsDone, caller_of, placed_at}
+use Rattle.serve_session.specs.Actors.{AreHeard, BreaksAt, HasBreacher, HasHeard, HasPlace, IsHeard, IsHeardOf, IsFrom, IsUnread, OwnsAt}
+use Rattle.guest_io.specs.declared.placed.Placed.{Placed}
+use Rattle.serve_session.specs.Asking.{IsAsked, IsMade, IsTooLong, asks_too_many, count_of, emptied, is_want, outcome_of, read_as, reply_by, reply_if, reply_in, shown_in, too_long}
+use Rattle.serve_session.specs.Served.{Has, IsCountedUp, IsRising, Outcome, call_of, counts_behind, entry_of, none_failed, places_in, unread_in, unread_of}
+use Rattle.serve_session.proofs.Guests.{all_below, breaker_last, breaker_left, counted_snoc, has_last, has_left, places_snoc, rising_snoc}
 
 -- the next call's number
 pub next_one : (n told : ℕ) → n ≡ told + 1 → told < 2 ^ 32 → one_more n ≡ told + 1 + 1
@@ -113,7 +114,7 @@ module _ {S T : Type 0} (disk : S → Disk) (first : Chain S KeepAll T) where
   heard_of_later seat more call NoRoom k h = absurd h
 
   heard_later : (seat more : Known Step (Basis S T)) (guest number : ℕ) (form : Form) (o : Outcome) → StartsWith more.seen seat.seen → Knows more seat → IsHeard disk first seat guest number form o → IsHeard disk first more guest number form o
-  heard_later seat more guest number form (Ok done) starts k h = record { before = h.before; begins = starts-through more.seen seat.seen _ starts h.begins; place_is = h.place_is; placed = h.placed; replies = h.replies }
+  heard_later seat more guest number form (Ok done) starts k h = record { before = h.before; begins = starts-through more.seen seat.seen _ starts h.begins; place_is = h.place_is; placed = h.placed; replies = h.replies; unread = h.unread }
   heard_later seat more guest number form (Err x) starts k h = heard_of_later seat more (call_of form) x k h
 
   pub all_heard_later : (seat more : Known Step (Basis S T)) (guest number : ℕ) (forms : List Form) (outcomes : List Outcome) → StartsWith more.seen seat.seen → Knows more seat → AreHeard disk first seat guest number forms outcomes
@@ -138,6 +139,11 @@ module _ {S T : Type 0} (disk : S → Disk) (first : Chain S KeepAll T) where
     heard_snoc seat guest (number + 1) forms outcomes form o (omega (arith, same)) h.1
         (subst (λ n. IsHeard disk first seat guest n form o) {x = number + length (x ∷ outcomes)} {y = number + 1 + length outcomes} (omega arith) last),
   )
+
+  pub heard_few : (seat : Known Step (Basis S T)) (guest number : ℕ) (forms : List Form) (outcomes : List Outcome) → AreHeard disk first seat guest number forms outcomes → length outcomes ≤ length forms
+  heard_few seat guest number forms [] h = omega arith
+  heard_few seat guest number [] (o ∷ outcomes) h = absurd h
+  heard_few seat guest number (f ∷ forms) (o ∷ outcomes) h = omega (arith, heard_few seat guest (number + 1) forms outcomes h.1)
 
   -- a place is within what was seen
   pub place_within : (seat : Known Step (Basis S T)) (guest number p : ℕ) (forms : List Form) (outcomes : List Outcome) → AreHeard disk first seat guest number forms outcomes → Has p (places_in outcomes) → (1 ≤ p) × (p ≤ length seat.seen)
@@ -174,6 +180,7 @@ module _ {S T : Type 0} (disk : S → Disk) (first : Chain S KeepAll T) where
         knows = knows_now;
         heard = old_heard fs;
         order = hears.order;
+        unread = hears.unread;
         owns = λ p own. go p (hears.owns p (subst (λ ms. 0 < times p ms) same own));
         drawn = omega (arith, drew, hears.drawn, length-append forms fs);
       }
@@ -203,6 +210,7 @@ module _ {S T : Type 0} (disk : S → Disk) (first : Chain S KeepAll T) where
           heard = heard_snoc new guest 1 forms outcomes form (Err x) all
               (all_heard_later old new guest 1 forms outcomes seen (knows_more new old basis refusals) hears.heard) heard;
           order = subst IsRising (sym (places_snoc outcomes (Err x) ∙ append_nil (places_in outcomes))) hears.order;
+          unread = counted_snoc outcomes (Err x) hears.unread tt;
           owns = λ p own. go p (mine p own);
           drawn = drawn_on;
         }
@@ -215,28 +223,51 @@ module _ {S T : Type 0} (disk : S → Disk) (first : Chain S KeepAll T) where
             go p (inl own) = owns_later old.seen new.seen p guest forms (form ∷ []) outcomes (Err x ∷ []) seen (places_snoc outcomes (Err x)) (hears.owns p own)
             go p (inr b) = inr b
 
+        -- a read of this call failed so by a reader
+        abbrev pub IsMissed : StoreFault → Type 0
+        IsMissed fault = IsUnread disk first (call_of form) fault × Rose (counts_behind none_failed (unread_in outcomes) fault.file) fault.count
+
         -- it was done
-        done : (place : ℕ) (r : Reply) → IsDone disk who (call_of form) r old new place → HasHeard disk first guest (forms ++ form ∷ []) new (outcomes ++ Ok (place, r) ∷ [])
-        done place r d = record {
+        done : (place : ℕ) (read : Result (Unit {0}) StoreFault) (shown : Reply) → IsDone disk who (call_of form) (reply_if shown read) old new place → IfErr read IsMissed
+            → HasHeard disk first guest (forms ++ form ∷ []) new (outcomes ++ Ok (place, read_as shown read) ∷ [])
+        done place read shown d missed = record {
           knows = knows_now;
-          heard = heard_snoc new guest 1 forms outcomes form (Ok (place, r)) all
+          heard = heard_snoc new guest 1 forms outcomes form last all
               (all_heard_later old new guest 1 forms outcomes seen (knows_more new old basis refusals) hears.heard)
-              (last_number (λ n. HasPlace disk first new.seen guest n (call_of form) (place, r)) here);
-          order = subst IsRising (sym (places_snoc outcomes (Ok (place, r)))) (rising_snoc (places_in outcomes) place hears.order (all_below (places_in outcomes) place earlier));
+              (last_number (λ n. HasPlace disk first new.seen guest n (call_of form) (place, read_as shown read)) here);
+          order = subst IsRising (sym (places_snoc outcomes last)) (rising_snoc (places_in outcomes) place hears.order (all_below (places_in outcomes) place earlier));
+          unread = counted_snoc outcomes last hears.unread (counted read missed);
           owns = λ p own. by_place p (place == p) refl (subst (λ ms. 0 < times p ms) d.mine own);
           drawn = drawn_on;
         }
           where
+            last : Outcome
+            last = Ok (place, read_as shown read)
+
             starts : StartsWith new.seen (done_steps d.before ++ Done (entry_of guest number (call_of form)) ∷ [])
             starts = subst (λ xs. StartsWith new.seen xs) d.seen (starts-itself new.seen)
 
-            here : HasPlace disk first new.seen guest number (call_of form) (place, r)
+            replies : (P : Reply → Type 0) (read : Result (Unit {0}) StoreFault) → IfSome (reply_if shown read) P → IfOk (read_as shown read) P
+            replies P (Ok done) p = p
+            replies P (Err fault) p = tt
+
+            unread_by : (read : Result (Unit {0}) StoreFault) → IfErr read IsMissed → IfErr (read_as shown read) (IsUnread disk first (call_of form))
+            unread_by (Ok done) m = tt
+            unread_by (Err fault) m = m.0
+
+            counted : (read : Result (Unit {0}) StoreFault) → IfErr read IsMissed → IsCountedUp (counts_behind none_failed (unread_in outcomes)) (unread_of (Ok (place, read_as shown read)))
+            counted (Ok done) m = tt
+            counted (Err fault) m = (m.1, tt)
+
+            here : HasPlace disk first new.seen guest number (call_of form) (place, read_as shown read)
             here = record {
               before = d.before;
               begins = starts;
               place_is = d.place_is;
               placed = subst (λ o. IfSome o (λ (chain : Chain S KeepAll T). misplaced (call_of form) chain.layers ≡ None)) knows_now.began d.placed;
-              replies = subst (λ o. IfSome o (λ (chain : Chain S KeepAll T). RepliesBehind disk chain d.before (call_of form) r)) knows_now.began d.replies;
+              replies = replies (RepliesBehind disk first d.before (call_of form)) read
+                  (subst (λ o. IfSome (reply_if shown read) (λ r. IfSome o (λ (chain : Chain S KeepAll T). RepliesBehind disk chain d.before (call_of form) r))) knows_now.began d.replies);
+              unread = unread_by read missed;
             }
 
             earlier : (p : ℕ) → Has p (places_in outcomes) → p < place
@@ -245,13 +276,13 @@ module _ {S T : Type 0} (disk : S → Disk) (first : Chain S KeepAll T) where
                 let long = starts-length (done_steps d.before) old.seen d.begins in
                 omega (arith, low.1, long, d.place_is, length-map d.before (λ e. Done e))
 
-            by_place : (p : ℕ) (b : Bool) → (place == p) ≡ b → 0 < times p (old.mine ++ place ∷ []) → OwnsAt new.seen p guest (forms ++ form ∷ []) (outcomes ++ Ok (place, r) ∷ [])
+            by_place : (p : ℕ) (b : Bool) → (place == p) ≡ b → 0 < times p (old.mine ++ place ∷ []) → OwnsAt new.seen p guest (forms ++ form ∷ []) (outcomes ++ last ∷ [])
             by_place p true same own =
                 let is : place ≡ p = eqb-true place p same in
-                inl (subst (Has p) (sym (places_snoc outcomes (Ok (place, r)))) (subst (λ q. Has p (places_in outcomes ++ q ∷ [])) (sym is) (has_last p (places_in outcomes))))
+                inl (subst (Has p) (sym (places_snoc outcomes last)) (subst (λ q. Has p (places_in outcomes ++ q ∷ [])) (sym is) (has_last p (places_in outcomes))))
             by_place p false other own =
                 let none : once_at p place ≡ 0 = ap (λ b. if b then 1 else 0) other in
-                owns_later old.seen new.seen p guest forms (form ∷ []) outcomes (Ok (place, r) ∷ []) seen (places_snoc outcomes (Ok (place, r))) (hears.owns p (omega (arith, own, times-push p old.mine place, none)))
+                owns_later old.seen new.seen p guest forms (form ∷ []) outcomes (last ∷ []) seen (places_snoc outcomes last) (hears.owns p (omega (arith, own, times-push p old.mine place, none)))
 
         -- the seat has the break for its own, if the call was what broke the session
         module _ (call : Call) (opens : (s : ℕ) → is_named 512 (call_of form) s ≡ false → open_by (Some (breach_of who call)) s ≡ false) where
@@ -283,10 +314,10 @@ module _ {S T : Type 0} (disk : S → Disk) (first : Chain S KeepAll T) where
         at_place x call h = subst (λ o. IfSome o (λ (chain : Chain S KeepAll T). misplaced call chain.layers ≡ x)) knows_now.began h
 
         -- what is kept of it
-        abbrev kept_outcomes : Reply → Result ℕ ChainRefusal → List Outcome
+        abbrev kept_outcomes : Reply → Result Placed ChainRefusal → List Outcome
         kept_outcomes r answer = if is_want answer then outcomes else outcomes ++ outcome_of r answer ∷ []
 
-        abbrev Kept : Result ℕ ChainRefusal → Reply → Type 0
+        abbrev Kept : Result Placed ChainRefusal → Reply → Type 0
         Kept answer r = HasHeard disk first guest (forms ++ form ∷ []) new (kept_outcomes r answer)
 
         own_opens : (s : ℕ) → is_named 512 (call_of form) s ≡ false → open_by (Some (breach_of who (call_of form))) s ≡ false
@@ -302,25 +333,25 @@ module _ {S T : Type 0} (disk : S → Disk) (first : Chain S KeepAll T) where
             go Copy h = nothing 0 s
             go Finish h = nothing 0 s
 
-        by_call : (r : Reply) (answer : Result ℕ ChainRefusal) → Answers disk who (call_of form) r old new answer → Kept answer r
-        by_call r (Ok place) a = done place r a
-        by_call r (Err EmptyRange) a = stays EmptyRange (at_place (Some EmptyRange) (call_of form) a.1) a.0
-        by_call r (Err (OutOfRange x y z)) a = stays (OutOfRange x y z) (at_place (Some (OutOfRange x y z)) (call_of form) a.1) a.0
-        by_call r (Err (TooLong x y)) a = stays (TooLong x y) (at_place (Some (TooLong x y)) (call_of form) a.1) a.0
-        by_call r (Err ReadOnly) a = stays ReadOnly (at_place (Some ReadOnly) (call_of form) a.1) a.0
-        by_call r (Err (Broken file count)) a = broken (call_of form) own_opens file count a.1 a.0
-        by_call r (Err (Spent t)) a = stays (Spent t) a.1 a.0
-        by_call r (Err (FileFull next)) a =
+        by_call : (shown : Reply) (answer : Result Placed ChainRefusal) → Answers disk who (call_of form) (reply_by shown answer) old new (placed_at answer) → IfOk answer (λ placed. IfErr placed.read IsMissed) → Kept answer shown
+        by_call shown (Ok placed) a missed = done placed.place placed.read shown a missed
+        by_call shown (Err EmptyRange) a missed = stays EmptyRange (at_place (Some EmptyRange) (call_of form) a.1) a.0
+        by_call shown (Err (OutOfRange x y z)) a missed = stays (OutOfRange x y z) (at_place (Some (OutOfRange x y z)) (call_of form) a.1) a.0
+        by_call shown (Err (TooLong x y)) a missed = stays (TooLong x y) (at_place (Some (TooLong x y)) (call_of form) a.1) a.0
+        by_call shown (Err ReadOnly) a missed = stays ReadOnly (at_place (Some ReadOnly) (call_of form) a.1) a.0
+        by_call shown (Err (Broken file count)) a missed = broken (call_of form) own_opens file count a.1 a.0
+        by_call shown (Err (Spent t)) a missed = stays (Spent t) a.1 a.0
+        by_call shown (Err (FileFull next)) a missed =
             stays (FileFull next) (at_place None (call_of form) a.1.0, a.1.1, subst (λ o. IfSome o (λ (chain : Chain S KeepAll T). StopsOver disk chain (call_of form) (FileFull next))) knows_now.began a.1.2) a.0
-        by_call r (Err (ReadFault file count)) a =
+        by_call shown (Err (ReadFault file count)) a missed =
             stays (ReadFault file count) (at_place None (call_of form) a.1.0, a.1.1, λ was. a.1.2 (hears.knows.notes (notes.ReadFailed file count) was)) a.0
-        by_call r (Err NoMerge) a = absurd a.1
-        by_call r (Err (Stale taken now)) a = absurd a.1
-        by_call r (Err (NotYet stripe)) a = absurd a.1
-        by_call r (Err (Abandoned file count)) a = absurd a.1
-        by_call r (Err (NoStripe stripe stripes)) a = absurd a.1
-        by_call r (Err NoPiece) a = absurd a.1
-        by_call r (Err NoRoom) a = nothing_more (form ∷ []) a.0 drew
+        by_call shown (Err NoMerge) a missed = absurd a.1
+        by_call shown (Err (Stale taken now)) a missed = absurd a.1
+        by_call shown (Err (NotYet stripe)) a missed = absurd a.1
+        by_call shown (Err (Abandoned file count)) a missed = absurd a.1
+        by_call shown (Err (NoStripe stripe stripes)) a missed = absurd a.1
+        by_call shown (Err NoPiece) a missed = absurd a.1
+        by_call shown (Err NoRoom) a missed = nothing_more (form ∷ []) a.0 drew
 
         module _ (sector : first.layers.geometry.sector ≡ 512) (many : asks_too_many form ≡ true) where
           -- without sectors it is an empty range
@@ -382,8 +413,8 @@ module _ {S T : Type 0} (disk : S → Disk) (first : Chain S KeepAll T) where
               go Copy = nothing 0 s
               go Finish = nothing 0 s
 
-          by_empty : (r kept : Reply) (made : Result ℕ ChainRefusal) → Answers disk who (emptied form) r old new made → Kept (too_long (count_of form) made) kept
-          by_empty r kept (Ok place) a = never_placed (at_place None (emptied form) a.placed)
+          by_empty : (r kept : Reply) (made : Result Placed ChainRefusal) → Answers disk who (emptied form) (reply_by r made) old new (placed_at made) → Kept (too_long (count_of form) made) kept
+          by_empty r kept (Ok placed) a = never_placed (at_place None (emptied form) a.placed)
           by_empty r kept (Err EmptyRange) a = stays (TooLong (count_of form) 2048) long a.0
           by_empty r kept (Err (OutOfRange x y z)) a = let e = never (OutOfRange x y z) (at_place (Some (OutOfRange x y z)) (emptied form) a.1) in cc
           by_empty r kept (Err (TooLong x y)) a = let e = never (TooLong x y) (at_place (Some (TooLong x y)) (emptied form) a.1) in cc
@@ -401,8 +432,8 @@ module _ {S T : Type 0} (disk : S → Disk) (first : Chain S KeepAll T) where
           by_empty r kept (Err NoRoom) a = nothing_more (form ∷ []) a.0 drew
 
         -- whichever it asks for
-        pub asked_kept : first.layers.geometry.sector ≡ 512 → (room : List ℕ) (answer : Result ℕ ChainRefusal) → IsAsked disk who form room old new answer → Kept answer (shown_in room form)
-        asked_kept sector room answer = go (asks_too_many form) refl
+        pub asked_kept : first.layers.geometry.sector ≡ 512 → (room : List ℕ) (answer : Result Placed ChainRefusal) → IsAsked disk who form room old new answer → IfOk answer (λ placed. IfErr placed.read IsMissed) → Kept answer (shown_in room form)
+        asked_kept sector room answer asked missed = go (asks_too_many form) refl asked
           where
             shown_is : (f : Form) → asks_too_many f ≡ false → shown_in room f ≡ reply_in room f
             shown_is (Read from count) e = ap (λ b. replies.Bytes (if b then [] else take (512 * count) room)) e
@@ -414,7 +445,6 @@ module _ {S T : Type 0} (disk : S → Disk) (first : Chain S KeepAll T) where
             shown_is Copy e = refl
             shown_is Finish e = refl
 
-            go : (b : Bool) → asks_too_many form ≡ b → MatchBool b ((made : Result ℕ ChainRefusal) × (r : Reply) × IsCall disk who (emptied form) r old new made × (answer ≡ too_long (count_of form) made)) (IsCall disk who (call_of form) (reply_in room form) old new answer)
-                → Kept answer (shown_in room form)
+            go : (b : Bool) → asks_too_many form ≡ b → MatchBool b (IsTooLong disk who (emptied form) (count_of form) old new answer) (IsMade disk who (call_of form) (reply_in room form) old new answer) → Kept answer (shown_in room form)
             go true many h = subst (λ a. Kept a (shown_in room form)) (sym h.3) (by_empty sector many h.1 (shown_in room form) h.0 h.2.answers)
-            go false few h = subst (λ r. Kept answer r) (sym (shown_is form few)) (by_call (reply_in room form) answer h.answers)
+            go false few h = subst (λ r. Kept answer r) (sym (shown_is form few)) (by_call (reply_in room form) answer h.answers missed)

@@ -1,9 +1,10 @@
 -- Guests' seats are split from the first, and joined into it again.
-use Rattle.std.proofs.Common.{◌≡◌, ◌≤◌, ◌^◌, ◌≢◌, ◌⊎◌, ◌+◌, ◌-◌, ◌<◌, ◌++◌, ◌∷◌, ℕ, zero, suc, Bool, true, false, [], List, length, inl, inr, refl, sym, ap, ap₂, subst, ◌∙◌, arith, length-append}
-use Rattle.std.specs.Prelude.{◌||◌, All, slice_index_or}
+use Rattle.std.proofs.Common.{◌≡◌, ◌≤◌, ◌^◌, ◌≢◌, ◌⊎◌, ◌+◌, ◌-◌, ◌<◌, ◌++◌, ◌∷◌, ℕ, zero, suc, Bool, true, false, [], List, length, inl, inr, refl, sym, ap, ap₂, subst, ◌∙◌, arith, length-append, Some}
+use Rattle.std.specs.Prelude.{◌||◌, All, IfSome, slice_index_or}
 use Rattle.std.proofs.lemmas.Bool.{cases_eq, or_parts}
 use Rattle.std.proofs.lemmas.List.Elements.{All-cons}
-use Rattle.store_model.specs.Disk.{Disk}
+use Rattle.store_model.specs.Disk.{Disk, Sealed}
+use Rattle.shared_chain.specs.Planned.{IsReaderFor}
 use Rattle.guest_model.specs.declared.recorder.KeepAll.{KeepAll}
 use Rattle.chain_core.specs.declared.chain.Chain.{Chain}
 use Rattle.script.specs.declared.form.Line.{Line}
@@ -17,7 +18,6 @@ use Rattle.turn_lock.specs.Seats.{Known, TableId, together_of}
 use Rattle.shared_chain.specs.declared.basis.Basis.{Basis}
 use Rattle.shared_chain.specs.declared.basis.Step.{Step}
 use Rattle.shared_chain.specs.Bases.{Contains, together}
-use Rattle.shared_chain.specs.Laws.{contains_through}
 use Rattle.shared_chain.specs.Seats.{IsFree, MergeBreaksAt}
 use Rattle.shared_chain.specs.Steps.{done_steps, merge_breach}
 use Rattle.shared_chain.specs.declared.basis.Step.TheVariants.{Broke}
@@ -26,10 +26,11 @@ use Rattle.copy_workers.specs.declared.worker.Worker.{Worker}
 use Rattle.serve_session.specs.declared.actor.Actor.{Actor}
 use Rattle.serve_session.specs.Actors.{AreHeard, AreJoined, HasHeard, HasRun, IsActor, IsFrom, OwnsAt}
 use Rattle.claims.specs.Seats.{Counter}
+use Rattle.serve_session.specs.Sealing.{IsSetFor}
 use Rattle.serve_session.specs.Lists.{AreActors, AreFresh, HasDone, IsFresh, IsFreshWorker, IsReady, RunsEach, WorksEach, with_splits}
-use Rattle.serve_session.specs.Served.{EachGuest, IsRising, Outcome, SomeGuest, forms_of, places_in, told_calls, told_guests}
-use Rattle.serve_session.proofs.Guests.{each_map, each_snoc, some_last, some_left, some_map, told_guests_snoc}
-use Rattle.serve_session.proofs.Hearing.{all_heard_later, from_through, knows_more, owns_still}
+use Rattle.serve_session.specs.Served.{EachGuest, IsCountedUp, IsRising, Outcome, SomeGuest, forms_of, none_failed, places_in, told_calls, told_guests, unread_in}
+use Rattle.serve_session.proofs.Guests.{each_map, each_snoc, forms_few, some_last, some_left, some_map, told_guests_snoc, unread_few}
+use Rattle.serve_session.proofs.Hearing.{all_heard_later, from_through, heard_few, knows_more, owns_still}
 
 -- one more was joined
 pub join_more : (f now new : Family) (n m : ℕ) → now ≡ record f { joins = f.joins + n } → new ≡ with_join now → m ≡ n + 1 → new ≡ record f { joins = f.joins + m }
@@ -47,14 +48,19 @@ module _ {S T : Type 0} where
 
   -- ---- guests that have made no call
 
-  pub fresh_snoc : (seat : Known Step (Basis S T)) (n : ℕ) (actors : List (Actor S T)) (actor : Actor S T) → AreFresh seat n actors → IsFresh seat (n - length actors) actor → AreFresh seat n (actors ++ actor ∷ [])
-  fresh_snoc seat n [] actor h last = (subst (λ k. IsFresh seat k actor) {x = n - 0} (omega arith) last, tt)
-  fresh_snoc seat n (a ∷ actors) actor h last = (h.0, fresh_snoc seat (n - 1) actors actor h.1 (subst (λ k. IsFresh seat k actor) {x = n - length (a ∷ actors)} {y = n - 1 - length actors} (omega arith) last))
+  pub fresh_snoc : (Set : List Sealed → Type 0) (seat : Known Step (Basis S T)) (n : ℕ) (actors : List (Actor S T)) (actor : Actor S T) → AreFresh Set seat n actors → IsFresh Set seat (n - length actors) actor → AreFresh Set seat n (actors ++ actor ∷ [])
+  fresh_snoc Set seat n [] actor h last = (subst (λ k. IsFresh Set seat k actor) {x = n - 0} (omega arith) last, tt)
+  fresh_snoc Set seat n (a ∷ actors) actor h last = (h.0, fresh_snoc Set seat (n - 1) actors actor h.1 (subst (λ k. IsFresh Set seat k actor) {x = n - length (a ∷ actors)} {y = n - 1 - length actors} (omega arith) last))
 
-  pub fresh_ready : (seat : Known Step (Basis S T)) (lock : TableId) (n : ℕ) (actors : List (Actor S T)) → seat.lock ≡ lock → AreFresh seat n actors → All (IsReady lock) actors
-  fresh_ready seat lock n [] of_lock h = λ i x within. absurd (omega (arith, within))
-  fresh_ready seat lock n (a ∷ actors) of_lock h =
-      All-cons (IsReady lock) a actors ((ap (λ (s : Known Step (Basis S T)). s.lock) h.0.seat ∙ of_lock, ap (λ (s : Known Step (Basis S T)). s.turn) h.0.seat), h.0.room) (fresh_ready seat lock (n - 1) actors of_lock h.1)
+  pub fresh_ready : (disk : S → Disk) (first : Chain S KeepAll T) (seat : Known Step (Basis S T)) (lock : TableId) (n : ℕ) (actors : List (Actor S T)) → seat.lock ≡ lock → seat.basis.first ≡ Some first → AreFresh (IsSetFor disk first) seat n actors
+      → All (IsReady disk lock) actors
+  fresh_ready disk first seat lock n [] of_lock began h = λ i x within. absurd (omega (arith, within))
+  fresh_ready disk first seat lock n (a ∷ actors) of_lock began h =
+      All-cons (IsReady disk lock) a actors (
+        (ap (λ (s : Known Step (Basis S T)). s.lock) h.0.seat ∙ of_lock, ap (λ (s : Known Step (Basis S T)). s.turn) h.0.seat),
+        h.0.room,
+        subst (λ o. IfSome o (λ (chain : Chain S KeepAll T). All (IsReaderFor disk chain) a.guest.readers)) (sym (ap (λ (s : Known Step (Basis S T)). s.basis.first) h.0.seat ∙ began)) h.0.set.own,
+      ) (fresh_ready disk first seat lock (n - 1) actors of_lock began h.1)
 
   -- workers that had made no turn have none of their own now but one that broke the session
   pub all_done : (lock : TableId) (seat : Known Step (Basis S T)) (claims : Counter) (turns : ℕ) (old new : List (Worker S T)) → turns ≤ 2 ^ 32 → seat.lock ≡ lock → All (IsFreshWorker seat claims) old → WorksEach turns old new → All (HasDone lock) new
@@ -73,7 +79,7 @@ module _ {S T : Type 0} where
       go p a none (inr q) = q
 
   module _ (disk : S → Disk) (first : Chain S KeepAll T) (lock : TableId) (names : List (List ℕ)) (lines : List Line) where
-    fresh_actor : (seat : Known Step (Basis S T)) (n : ℕ) (a : Actor S T) → seat.lock ≡ lock → IsFrom disk first seat.basis → first.layers.geometry.sector ≡ 512 → IsFresh seat n a → IsActor disk first lock names [] a
+    fresh_actor : (seat : Known Step (Basis S T)) (n : ℕ) (a : Actor S T) → seat.lock ≡ lock → IsFrom disk first seat.basis → first.layers.geometry.sector ≡ 512 → IsFresh (IsSetFor disk first) seat n a → IsActor disk first lock names [] a
     fresh_actor seat n a of_lock knows sector h = record {
       free = (ap (λ (s : Known Step (Basis S T)). s.lock) h.seat ∙ of_lock, ap (λ (s : Known Step (Basis S T)). s.turn) h.seat);
       number = h.guest ∙ sym h.number_is;
@@ -84,9 +90,12 @@ module _ {S T : Type 0} where
         knows = subst (λ (s : Known Step (Basis S T)). IsFrom disk first s.basis) (sym h.seat) knows;
         heard = tt;
         order = tt;
+        unread = tt;
         owns = λ p own. absurd (none p (subst (λ ms. 0 < times p ms) (ap (λ (s : Known Step (Basis S T)). s.mine) h.seat) own));
         drawn = let nothing : a.guest.seat.drawn ≡ 0 = ap (λ (s : Known Step (Basis S T)). s.drawn) h.seat in omega (arith, nothing);
       };
+      readers = h.set;
+      unread = h.unread;
       kept = λ short. record { all = refl; next = h.next; told = h.told };
     }
       where
@@ -94,7 +103,7 @@ module _ {S T : Type 0} where
         none p less = absurd (omega (arith, less))
 
     -- and those that have made all
-    pub all_run : (seat : Known Step (Basis S T)) (n : ℕ) (old new : List (Actor S T)) → seat.lock ≡ lock → IsFrom disk first seat.basis → first.layers.geometry.sector ≡ 512 → AreFresh seat n old
+    pub all_run : (seat : Known Step (Basis S T)) (n : ℕ) (old new : List (Actor S T)) → seat.lock ≡ lock → IsFrom disk first seat.basis → first.layers.geometry.sector ≡ 512 → AreFresh (IsSetFor disk first) seat n old
         → RunsEach disk lock names lines old new → AreActors (HasRun disk first lock names lines) n new
     all_run seat n [] [] of_lock knows sector h runs = tt
     all_run seat n [] (b ∷ new) of_lock knows sector h runs = absurd (omega (arith, runs.count))
@@ -113,6 +122,10 @@ module _ {S T : Type 0} where
         let rest = last_actor P (n - 1) actors a h.2 in
         ((h.0, h.1, rest.0), subst (λ k. a.number ≡ k) {x = n - 1 - length actors} {y = n - length (b ∷ actors)} (omega arith) rest.1, rest.2)
 
+    -- few of its reads failed by a reader
+    pub few_unread : (a : Actor S T) (run : HasRun disk first lock names lines a) → length (unread_in run.outcomes) ≤ length lines
+    few_unread a run = omega (arith, unread_few run.outcomes, heard_few disk first a.guest.seat a.number 1 (forms_of a.number lines) run.outcomes run.hears.heard, forms_few a.number lines)
+
     -- ---- joining
 
     -- no seat was joined yet
@@ -123,6 +136,7 @@ module _ {S T : Type 0} where
       knows = knows;
       heard = tt;
       order = tt;
+      unread = tt;
       owns = λ p own. absurd (none p (subst (λ ms. 0 < times p ms) mine own));
       count = refl;
       kept = λ short. (tt, refl);
@@ -173,6 +187,7 @@ module _ {S T : Type 0} where
             (each_map (Heard seat) (Heard new) 1 guests (λ g os. all_heard_later disk first seat new g 1 (forms_of g lines) os seen.0 (knows_more disk first new seat basis.0 refused.0)) j.heard)
             (all_heard_later disk first a.guest.seat new (1 + length guests) 1 (forms_of (1 + length guests) lines) run.outcomes seen.1 (knows_more disk first new a.guest.seat basis.1 refused.1) hears.heard);
         order = each_snoc (λ g os. IsRising (places_in os)) 1 guests run.outcomes j.order hears.order;
+        unread = each_snoc (λ g os. IsCountedUp none_failed (unread_in os)) 1 guests run.outcomes j.unread hears.unread;
         owns = owns_now;
         count = length-append told (a.told.items ∷ []) ∙ ap (λ n. n + 1) j.count ∙ sym (length-append guests (run.outcomes ∷ []));
         kept = λ e. whole (or_parts short a.is_short e);
@@ -194,7 +209,7 @@ module _ {S T : Type 0} where
 
     -- in a session with a merge a place may be the merge's
     pub wider_joined : (seat : Known Step (Basis S T)) (told : List (List ToldCall)) (short : Bool) (guests : List (List Outcome)) → AreJoined disk first false lock names lines seat told short guests → AreJoined disk first true lock names lines seat told short guests
-    wider_joined seat told short guests j = record { free = j.free; leads = j.leads; knows = j.knows; heard = j.heard; order = j.order; owns = λ p own. inl (j.owns p own); count = j.count; kept = j.kept }
+    wider_joined seat told short guests j = record { free = j.free; leads = j.leads; knows = j.knows; heard = j.heard; order = j.order; unread = j.unread; owns = λ p own. inl (j.owns p own); count = j.count; kept = j.kept }
 
     module _ (seat new : Known Step (Basis S T)) (told : List (List ToldCall)) (short : Bool) (guests : List (List Outcome)) (j : AreJoined disk first true lock names lines seat told short guests) (w : Worker S T) (done : HasDone lock w)
         (both : new ≡ together_of together seat w.seat) (seen : StartsWith new.seen seat.seen × StartsWith new.seen w.seat.seen) (basis : Contains new.basis seat.basis × Contains new.basis w.seat.basis) where
@@ -232,6 +247,7 @@ module _ {S T : Type 0} where
         knows = from_through disk first new.basis seat.basis basis.0 j.knows;
         heard = each_map (Hears seat) (Hears new) 1 guests (λ g os. all_heard_later disk first seat new g 1 (forms_of g lines) os seen.0 (knows_more disk first new seat basis.0 refused_too)) j.heard;
         order = j.order;
+        unread = j.unread;
         owns = worker_owns;
         count = j.count;
         kept = j.kept;

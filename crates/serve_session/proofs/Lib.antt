@@ -1,10 +1,13 @@
 mod Guests
 mod Hearing
+mod Reading
 mod Stepping
 mod Joining
 mod Ending
 mod Filled
 mod Final
+mod Sealed
+mod Unserved
 mod Sessions
 mod MergeSessions
 mod Sending

@@ -1,9 +1,10 @@
 -- A session with several guests and a merge beside them, from its start to its end.
-use Rattle.std.proofs.Common.{◌≡◌, ◌||◌, ℕ, Bool, true, false, List, [], Option, Some, None, Result, Ok, Err, refl, sym, ap, ap₂, subst, ◌∙◌}
+use Rattle.std.proofs.Common.{◌≡◌, ◌<◌, ◌||◌, ℕ, true, List, [], Option, Some, None, Result, Ok, Err, refl, sym, ap, ap₂, subst, ◌∙◌}
 use Rattle.std.specs.Prelude.{IfErr, OnOk, is_some}
+use Rattle.std.specs.List.{AllByRecursion}
 use Rattle.std.proofs.lemmas.Bool.{or_from, or_parts}
 use Rattle.std.proofs.lemmas.Result.{on_ok_weaker}
-use Rattle.store_model.specs.Disk.{Disk, WhereBothTold}
+use Rattle.store_model.specs.Disk.{Disk, WhereBothTold, WhereTold}
 use Rattle.store_model.specs.Trace.{Trace}
 use Rattle.store_model.specs.declared.fault.StoreFault.{StoreFault}
 use Rattle.store_model.proofs.Told.{counts_join}
@@ -20,7 +21,12 @@ use Rattle.merge_plan.specs.Merging.{MergeFiles}
 use Rattle.chain_core.specs.declared.chain.Chain.{Chain}
 use Rattle.chain_core.specs.LeafStarting.{HasStartedLeafMerge, StartsLeafMerge, is_first_two, started_leaf_merge}
 use Rattle.chain_core.specs.MergeStarting.{LeavesAllBut, HasStartedMerge, LeavesRest, StartsMerge, started_merge}
+use Rattle.chain_core.specs.Sealed.{GoesOnSealed, IsKept}
 use Rattle.chain_core.specs.Starting.{opening_disk}
+use Rattle.chain_core.specs.declared.layers.Layers.{Layers}
+use Rattle.layer_session.proofs.Equal.{none_some, some_same}
+use Rattle.merge_plan.specs.declared.leaf.LeafMerge.{LeafMerge}
+use Rattle.merge_plan.specs.declared.merge.Merge.{Merge}
 use Rattle.chain_core.specs.States.{IsServing, State, sector_of}
 use Rattle.chain_core.proofs.MergeFound.{AreFound}
 use Rattle.chain_core.proofs.MergeTold.{are_found}
@@ -34,17 +40,18 @@ use Rattle.script_session.proofs.LeafScripts as leaves
 use Rattle.script_session.proofs.LeftFiles.{names_all, names_started}
 use Rattle.script_session.proofs.Lengths.{ends_later, grows_none, long_later}
 use Rattle.script_session.proofs.MergeScripts.{scope_is, source_then}
-use Rattle.script_session.proofs.Resting.{IsScope, all_synced, all_unnamed, links_all, links_left, may_change, others_as}
+use Rattle.script_session.proofs.Resting.{IsScope, sealed_scope, all_synced, all_unnamed, links_all, links_left, may_change, others_as}
 use Rattle.script_session.proofs.Scripts.{past_as}
 use Rattle.shared_chain.proofs.Breaking.{past_wider, wider}
 use Rattle.shared_chain.specs.Closing.{HasLeft}
 use Rattle.shared_chain.specs.Steps.{open_by as opens_by}
 use Rattle.serve_session.specs.MergeServed.{HasRunServeLeafMerge, HasRunServeMerge, HasServedOver, HasServedWith, IsStopTold}
-use Rattle.serve_session.specs.Served.{AreServed, all_told}
+use Rattle.serve_session.specs.Served.{AreServed, all_told, all_unread}
+use Rattle.serve_session.specs.Sealing.{ServesFirst, ServesSealed}
 use Rattle.serve_session.specs.Serving.{HasServed, IsNearEnd, IsUpTo, drive_from}
 use Rattle.serve_session.specs.declared.merging.MergeRun.{MergeRun}
 use Rattle.serve_session.proofs.Filled.{long_up}
-use Rattle.serve_session.proofs.Sessions.{counts_change, last_as, whole_as}
+use Rattle.serve_session.proofs.Sessions.{changes_are, counts_change, files_are, last_as, quiet_since, whole_as}
 
 -- what holds of an end that didn't fail, where the merge was stopped
 stays_by : (P Q : Type 0) (merged : Result (Unit {0}) ChainRefusal) (closed : Result (Unit {0}) StoreFault) → IfErr merged (λ x. OnOk closed P) → OnOk closed (P → Q) → IfErr merged (λ x. OnOk closed Q)
@@ -52,10 +59,19 @@ stays_by P Q (Ok done) closed p f = tt
 stays_by P Q (Err x) (Ok done) p f = f p
 stays_by P Q (Err x) (Err fault) p f = tt
 
-module _ {S T : Type 0} (disk : S → Disk) (first : Chain S KeepAll T) (names : List (List ℕ)) (lines : List Line) (run : MergeRun) (after : Disk) (h : HasServed disk true first names lines run after) (sector : first.layers.geometry.sector ≡ 512) where
-  module _ (scope : Scope) (geometry : first.layers.geometry ≡ scope.geometry) (session : is_some first.layers.leaf ≡ true) (v : State) (trace mid : Trace) (is : IsScope scope v trace mid) (mid_is : (disk first.store).told ≡ Some mid) (serving : IsServing first.layers v mid) where
+module _ {S T : Type 0} (disk : S → Disk) (chain : Chain S KeepAll T) (names : List (List ℕ)) (lines : List Line) (run : MergeRun) (after : Disk) (sealed : ServesSealed disk true chain names lines run after) (sector : chain.layers.geometry.sector ≡ 512) where
+  abbrev first : Chain S KeepAll T
+  first = sealed.first
+
+  abbrev h : HasServed disk true first names lines run after
+  h = sealed.served
+
+  same_layers : first.layers ≡ chain.layers
+  same_layers = ap (λ (c : Chain S KeepAll T). c.layers) sealed.sealing.only
+
+  module _ (scope : Scope) (geometry : first.layers.geometry ≡ scope.geometry) (session : is_some first.layers.leaf ≡ true) (v : State) (trace mid : Trace) (is : IsScope IsKept scope v trace mid) (mid_is : (disk first.store).told ≡ Some mid) (serving : IsServing first.layers v mid) where
     size : sector_of v ≡ sector_size
-    size = sym (ap (λ (g : Geometry). g.sector) serving.geometry) ∙ sector
+    size = sym (ap (λ (g : Geometry). g.sector) serving.geometry) ∙ ap (λ (l : Layers). l.geometry.sector) same_layers ∙ sector
 
     drive_is : drive_from first v ≡ drive_over scope trace
     drive_is = ap₂ (λ (g : Geometry) c. record { geometry = g; can_change = c; opening = v.opening }) geometry session ∙ ap (λ o. record { geometry = scope.geometry; can_change = true; opening = o }) is.opening
@@ -116,7 +132,7 @@ module _ {S T : Type 0} (disk : S → Disk) (first : Chain S KeepAll T) (names :
       }
 
   -- and the counts
-  with_counts : (scope : Scope) (old : Disk) → disk first.store ≡ record old { told = (disk first.store).told } → WhereBothTold (HasServedOver scope lines h.guests h.history h.broken run.merged run.run.closed) old.told after.told → HasServedWith scope names lines run old after
+  with_counts : (scope : Scope) (old : Disk) → disk chain.store ≡ record old { told = (disk chain.store).told } → WhereBothTold (HasServedOver scope lines h.guests h.history h.broken run.merged run.run.closed) old.told after.told → HasServedWith scope names lines run old after
   with_counts scope old counts have = record {
     guests = h.guests;
     history = h.history;
@@ -125,11 +141,13 @@ module _ {S T : Type 0} (disk : S → Disk) (first : Chain S KeepAll T) (names :
     transcript = h.transcript;
     counted = h.counted.last;
     ended = counts_change after run.run.closed h.counted.end;
-    quiet = λ none. on_ok_weaker run.run.closed (λ same. counts_join old (disk first.store) after counts same) (h.counted.quiet none);
+    quiet = λ none. on_ok_weaker run.run.closed (λ same. counts_join old (disk first.store) after (quiet_since disk chain first sealed.met sealed.sealing old counts (sealed.told none)) same) (h.counted.quiet none);
     faults =
         let k = h.faults in
-        subst (λ n. FaultsAreTold (all_told h.guests) (failed_by run.run.closed) n old.failed_changes after.failed_reads after.failed_changes) (ap (λ (d : Disk). d.files) counts)
-        (record { each = k.each; end = k.end; none = λ none. k.none none ∙ ap (λ (d : Disk). d.failed_changes) counts });
+        subst (λ n. FaultsAreTold (all_told h.guests) (failed_by run.run.closed) n old.failed_changes after.failed_reads after.failed_changes) (files_are disk chain first sealed.met sealed.sealing old counts)
+        (record { each = k.each; end = k.end; none = λ none. k.none none ∙ changes_are disk chain first sealed.met sealed.sealing old counts });
+    unread = subst (λ n. AllByRecursion (λ fault. fault.file < n) (all_unread h.guests)) (files_are disk chain first sealed.met sealed.sealing old counts) h.unread;
+    unread_is = h.unread_is;
     stopped = h.stopped;
     served = have;
   }
@@ -141,48 +159,78 @@ module _ {S T : Type 0} (disk : S → Disk) (first : Chain S KeepAll T) (names :
   Over scope = HasServedOver scope lines h.guests h.history h.broken run.merged run.run.closed
 
   -- ---- of a file below the leaf
-  module _ (files : List LinkedFile) (name : List ℕ) (old : Disk) (drawn now_drawn : Option (List (List ℕ))) (can : CanStart files old) (begun : HasStartedMerge files name old (disk first.store) drawn now_drawn first.layers) where
+  module _ (files : List LinkedFile) (name : List ℕ) (old : Disk) (drawn now_drawn : Option (List (List ℕ))) (can : CanStart files old) (begun : HasStartedMerge files name old (disk chain.store) drawn now_drawn chain.layers) where
     abbrev m : MergeFiles
     m = begun.m
 
-    have : (a b c : Option Trace) → old.told ≡ a → (disk first.store).told ≡ b → StartsMerge m begun.merge first.layers a b → LeavesRest m a b → WhereBothTold Left b c → WhereBothTold (Over (scope_of m)) a c
-    have None None None is e s rest l = tt
-    have None None (Some c) is e s rest l = absurd l
-    have None (Some b) c is e s rest l = absurd s
-    have (Some a) None c is e s rest l = absurd s
-    have (Some a) (Some b) None is e s rest l = absurd l
-    have (Some a) (Some b) (Some c) is e s rest l =
+    have : (a b s c : Option Trace) → old.told ≡ a → StartsMerge m begun.merge chain.layers a b → LeavesRest m a b → (disk first.store).told ≡ s → WhereBothTold (GoesOnSealed chain.layers) b s → WhereBothTold Left s c → WhereBothTold (Over (scope_of m)) a c
+    have None None None None is st rest e g l = tt
+    have None None None (Some c) is st rest e g l = absurd l
+    have None None (Some s) c is st rest e g l = absurd g
+    have None (Some b) s c is st rest e g l = absurd st
+    have (Some a) None s c is st rest e g l = absurd st
+    have (Some a) (Some b) None c is st rest e g l = absurd g
+    have (Some a) (Some b) (Some s) None is st rest e g l = absurd l
+    have (Some a) (Some b) (Some s) (Some c) is st rest e g l =
+        let v = started_merge a b m begun.merge.ids begun.merge.twice in
         let found : AreFound a m = are_found m old (subst (λ fs. CanStart fs old) begun.planned.begun.files_are.files_are can) a is in
-        let scope = scope_is m begun.merge a b rest (source_then m begun.merge.ids begun.merge.twice a b s.serving.synced) s.no_log (names_started a b m begun.merge.ids begun.merge.twice found) (names_all a b m begun.merge.ids begun.merge.twice found) in
-        files_left (scope_of m) begun.begun.geometry begun.begun.session (started_merge a b m begun.merge.ids begun.merge.twice) a b scope e s.serving c (l (started_merge a b m begun.merge.ids begun.merge.twice) s.serving refl)
+        let scope = scope_is m begun.merge a b rest (source_then m begun.merge.ids begun.merge.twice a b st.serving.synced) st.no_log (names_started a b m begun.merge.ids begun.merge.twice found) (names_all a b m begun.merge.ids begun.merge.twice found) in
+        let serving = subst (λ (layers : Layers). IsServing layers (record v { since = s }) s) (sym same_layers) (g.serves v st.serving) in
+        files_left (scope_of m) (ap (λ (layers : Layers). layers.geometry) same_layers ∙ begun.begun.geometry) (ap (λ (layers : Layers). is_some layers.leaf) same_layers ∙ begun.begun.session) (record v { since = s }) a s
+        (sealed_scope chain.layers (scope_of m) v a b s g scope) e serving c (l (record v { since = s }) serving refl)
 
     pub merge_ran : HasRunServeMerge files name names lines run old after drawn now_drawn
     merge_ran = record {
       m = m;
       merge = begun.merge;
       planned = begun.planned;
-      serves = with_counts (scope_of m) old begun.begun.counts (have old.told (disk first.store).told after.told refl refl begun.begun.serving begun.still h.leaves);
+      serves = with_counts (scope_of m) old begun.begun.counts (have old.told (disk chain.store).told (disk first.store).told after.told refl begun.begun.serving begun.still refl sealed.sealing.goes h.leaves);
     }
 
   -- ---- of the leaf
-  module _ (files : List LinkedFile) (old : Disk) (drawn now_drawn : Option (List (List ℕ))) (can : CanStart files old) (begun : HasStartedLeafMerge files old (disk first.store) drawn now_drawn first.layers) where
+  module _ (files : List LinkedFile) (old : Disk) (drawn now_drawn : Option (List (List ℕ))) (can : CanStart files old) (begun : HasStartedLeafMerge files old (disk chain.store) drawn now_drawn chain.layers) where
     abbrev of_leaf : LeafFiles
     of_leaf = begun.m
 
-    have_leaf : (a b c : Option Trace) → old.told ≡ a → (disk first.store).told ≡ b → StartsLeafMerge of_leaf begun.merge first.layers a b → LeavesAllBut is_first_two a b → WhereBothTold Left b c → WhereBothTold (Over (leaf_scope_of of_leaf)) a c
-    have_leaf None None None is e s rest l = tt
-    have_leaf None None (Some c) is e s rest l = absurd l
-    have_leaf None (Some b) c is e s rest l = absurd s
-    have_leaf (Some a) None c is e s rest l = absurd s
-    have_leaf (Some a) (Some b) None is e s rest l = absurd l
-    have_leaf (Some a) (Some b) (Some c) is e s rest l =
+    have_leaf : (a b s c : Option Trace) → old.told ≡ a → StartsLeafMerge of_leaf begun.merge chain.layers a b → LeavesAllBut is_first_two a b → (disk first.store).told ≡ s → WhereBothTold (GoesOnSealed chain.layers) b s → WhereBothTold Left s c
+        → WhereBothTold (Over (leaf_scope_of of_leaf)) a c
+    have_leaf None None None None is st rest e g l = tt
+    have_leaf None None None (Some c) is st rest e g l = absurd l
+    have_leaf None None (Some s) c is st rest e g l = absurd g
+    have_leaf None (Some b) s c is st rest e g l = absurd st
+    have_leaf (Some a) None s c is st rest e g l = absurd st
+    have_leaf (Some a) (Some b) None c is st rest e g l = absurd g
+    have_leaf (Some a) (Some b) (Some s) None is st rest e g l = absurd l
+    have_leaf (Some a) (Some b) (Some s) (Some c) is st rest e g l =
+        let v = started_leaf_merge a b of_leaf begun.merge.ids begun.merge.twice in
         let scope = leaves.scope_is of_leaf begun.merge a b rest (subst (AreAsOpened a 0) begun.planned.begun.files_are (can.told a is).each) in
-        files_left (leaf_scope_of of_leaf) begun.begun.geometry begun.begun.session (started_leaf_merge a b of_leaf begun.merge.ids begun.merge.twice) a b scope e s c (l (started_leaf_merge a b of_leaf begun.merge.ids begun.merge.twice) s refl)
+        let serving = subst (λ (layers : Layers). IsServing layers (record v { since = s }) s) (sym same_layers) (g.serves v st) in
+        files_left (leaf_scope_of of_leaf) (ap (λ (layers : Layers). layers.geometry) same_layers ∙ begun.begun.geometry) (ap (λ (layers : Layers). is_some layers.leaf) same_layers ∙ begun.begun.session) (record v { since = s }) a s
+        (sealed_scope chain.layers (leaf_scope_of of_leaf) v a b s g scope) e serving c (l (record v { since = s }) serving refl)
 
     pub leaf_merge_ran : HasRunServeLeafMerge files names lines run old after drawn now_drawn
     leaf_merge_ran = record {
       m = of_leaf;
       merge = begun.merge;
       planned = begun.planned;
-      serves = with_counts (leaf_scope_of of_leaf) old begun.begun.counts (have_leaf old.told (disk first.store).told after.told refl refl begun.begun.serving begun.still h.leaves);
+      serves = with_counts (leaf_scope_of of_leaf) old begun.begun.counts (have_leaf old.told (disk chain.store).told (disk first.store).told after.told refl begun.begun.serving begun.still refl sealed.sealing.goes h.leaves);
     }
+
+-- a session that has started with a merge serves its first state
+pub merge_first : {S T : Type 0} (disk : S → Disk) (chain : Chain S KeepAll T) (m : MergeFiles) (merge : Merge) (a : Option Trace) → StartsMerge m merge chain.layers a (disk chain.store).told → ServesFirst disk chain
+merge_first disk chain m merge a st = go a (disk chain.store).told st
+  where
+    go : (a b : Option Trace) → StartsMerge m merge chain.layers a b → WhereTold b (λ trace. (from : State) × IsServing chain.layers from trace × (from.history ≡ []))
+    go None None st = λ t e. absurd (none_some e)
+    go None (Some b) st = absurd st
+    go (Some a) None st = absurd st
+    go (Some a) (Some b) st = λ t e. subst (λ (w : Trace). (from : State) × IsServing chain.layers from w × (from.history ≡ [])) (some_same {x = b} {y = t} e) (started_merge a b m merge.ids merge.twice, st.serving, refl)
+
+pub leaf_merge_first : {S T : Type 0} (disk : S → Disk) (chain : Chain S KeepAll T) (m : LeafFiles) (merge : LeafMerge) (a : Option Trace) → StartsLeafMerge m merge chain.layers a (disk chain.store).told → ServesFirst disk chain
+leaf_merge_first disk chain m merge a st = go a (disk chain.store).told st
+  where
+    go : (a b : Option Trace) → StartsLeafMerge m merge chain.layers a b → WhereTold b (λ trace. (from : State) × IsServing chain.layers from trace × (from.history ≡ []))
+    go None None st = λ t e. absurd (none_some e)
+    go None (Some b) st = absurd st
+    go (Some a) None st = absurd st
+    go (Some a) (Some b) st = λ t e. subst (λ (w : Trace). (from : State) × IsServing chain.layers from w × (from.history ≡ [])) (some_same {x = b} {y = t} e) (started_leaf_merge a b m merge.ids merge.twice, st, refl)

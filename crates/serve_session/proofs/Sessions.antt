@@ -1,9 +1,10 @@
 -- A session with several guests, from its start to its end.
-use Rattle.std.proofs.Common.{◌≡◌, ◌⊎◌, ◌==◌, ◌||◌, ℕ, Bool, true, false, List, [], ◌∷◌, Option, Some, None, Result, Ok, Err, inl, inr, refl, sym, ap, ap₂, subst, ◌∙◌, ne_eqb}
+use Rattle.std.proofs.Common.{◌≡◌, ◌⊎◌, ◌<◌, ◌≢◌, ◌==◌, ◌||◌, ℕ, Bool, true, false, List, [], ◌∷◌, Option, Some, None, Result, Ok, Err, inl, inr, refl, sym, ap, ap₂, subst, ◌∙◌, ne_eqb}
 use Rattle.std.specs.Prelude.{IfErr, is_some}
+use Rattle.std.specs.List.{AllByRecursion}
 use Rattle.std.proofs.lemmas.Bool.{or_from, or_parts}
 use Rattle.std.proofs.lemmas.Result.{on_ok_weaker}
-use Rattle.store_model.specs.Disk.{Disk, WhereBothTold}
+use Rattle.store_model.specs.Disk.{Disk, WhereBothTold, WhereTold}
 use Rattle.store_model.specs.File.{is_synced, seen}
 use Rattle.store_model.specs.Trace.{Trace, file_of}
 use Rattle.store_model.specs.declared.fault.StoreFault.{StoreFault}
@@ -19,11 +20,13 @@ use Rattle.link_rules.specs.declared.linked.LinkedFile.{LinkedFile}
 use Rattle.merge_plan.specs.Attached.{CanStart}
 use Rattle.chain_core.specs.declared.chain.Chain.{Chain}
 use Rattle.chain_core.specs.declared.starting.Mode.TheVariants.{Guests}
+use Rattle.chain_core.specs.Sealed.{GoesOnSealed, IsKept}
+use Rattle.chain_core.specs.declared.layers.Layers.{Layers}
 use Rattle.chain_core.specs.Starting.{HasStarted, IsOfDisk, StartsWith, opening_disk, started, under, way_to}
 use Rattle.chain_core.specs.States.{IsServing, State, sector_of}
 use Rattle.script.specs.declared.form.Line.{Line}
 use Rattle.script_session.specs.Faults.{Counts, FaultsAreTold}
-use Rattle.layer_session.proofs.Equal.{false_true}
+use Rattle.layer_session.proofs.Equal.{false_true, none_some, some_same}
 use Rattle.script_session.specs.Histories.{GoesOn, HasRetired, IsSoLong, disk_after, merges_leaf}
 use Rattle.script_session.specs.Running.{drive_of, open_by, open_last}
 use Rattle.script_session.specs.Told.{failed_by, sector_size}
@@ -34,7 +37,8 @@ use Rattle.shared_chain.specs.Closing.{HasLeft}
 use Rattle.shared_chain.specs.Faults as shared
 use Rattle.shared_chain.specs.Steps.{open_by as opens_by}
 use Rattle.serve_session.specs.Running.{HasRunServe, HasServedFiles, HaveServed}
-use Rattle.serve_session.specs.Served.{AreServed, all_told}
+use Rattle.serve_session.specs.Served.{AreServed, all_told, all_unread}
+use Rattle.serve_session.specs.Sealing.{IsSealing, ServesFirst, ServesSealed}
 use Rattle.serve_session.specs.Serving.{HasServed, IsUpTo, drive_from}
 use Rattle.serve_session.specs.declared.merging.MergeRun.{MergeRun}
 use Rattle.serve_session.proofs.Filled.{long_up}
@@ -63,24 +67,62 @@ pub counts_change : (after : Disk) (r : Result (Unit {0}) StoreFault) → IfErr 
 counts_change after (Ok done) c = tt
 counts_change after (Err f) c = record { within = c.0; some = c.1; counted = inr c.2 }
 
-module _ {S T : Type 0} (disk : S → Disk) (first : Chain S KeepAll T) (names : List (List ℕ)) (lines : List Line) (run : MergeRun) (after : Disk) (h : HasServed disk false first names lines run after) (sector : first.layers.geometry.sector ≡ 512)
-    (leaf : LinkedFile) (others : List LinkedFile) (old : Disk) (drawn now_drawn : Option (List (List ℕ))) (begun : HasStarted Guests (leaf ∷ others) first.layers old (disk first.store) drawn now_drawn) (geometry : first.layers.geometry ≡ leaf.parts.geometry) where
-  module _ (trace mid : Trace) (mid_is : (disk first.store).told ≡ Some mid) (serving : IsServing first.layers (started trace leaf others (under begun.1.ids leaf.parts)) mid) where
+-- ---- once what the session only reads was sealed
+
+-- of the counts of a store, from its beginning on
+module _ {S T : Type 0} (disk : S → Disk) (chain first : Chain S KeepAll T) (met : Option StoreFault) (sealing : IsSealing disk chain first met) (old : Disk) (begun : disk chain.store ≡ record old { told = (disk chain.store).told }) where
+  pub layers_are : first.layers ≡ chain.layers
+  layers_are = ap (λ (c : Chain S KeepAll T). c.layers) sealing.only
+
+  pub files_are : (disk first.store).files ≡ old.files
+  files_are = sealing.files ∙ ap (λ (d : Disk). d.files) begun
+
+  pub changes_are : (disk first.store).failed_changes ≡ old.failed_changes
+  changes_are = sealing.changes ∙ ap (λ (d : Disk). d.failed_changes) begun
+
+  pub quiet_since : met ≡ None → disk first.store ≡ record old { told = (disk first.store).told }
+  quiet_since none = counts_join old (disk chain.store) (disk first.store) begun (sealing.quiet none)
+
+module _ {S T : Type 0} (disk : S → Disk) (chain : Chain S KeepAll T) (names : List (List ℕ)) (lines : List Line) (run : MergeRun) (after : Disk) (sealed : ServesSealed disk false chain names lines run after) (sector : chain.layers.geometry.sector ≡ 512)
+    (leaf : LinkedFile) (others : List LinkedFile) (old : Disk) (drawn now_drawn : Option (List (List ℕ))) (begun : HasStarted Guests (leaf ∷ others) chain.layers old (disk chain.store) drawn now_drawn) (geometry : chain.layers.geometry ≡ leaf.parts.geometry) where
+  abbrev first : Chain S KeepAll T
+  first = sealed.first
+
+  abbrev h : HasServed disk false first names lines run after
+  h = sealed.served
+
+  same_layers : first.layers ≡ chain.layers
+  same_layers = layers_are disk chain first sealed.met sealed.sealing old begun.1.counts
+
+  has_session : is_some first.layers.leaf ≡ true
+  has_session = ap (λ (l : Layers). is_some l.leaf) same_layers ∙ begun.1.session
+
+  module _ (trace start mid : Trace) (mid_is : (disk first.store).told ≡ Some mid) (goes : GoesOnSealed chain.layers start mid) (began : IsServing chain.layers (started trace leaf others (under begun.1.ids leaf.parts)) start) where
+    abbrev opened : State
+    opened = started trace leaf others (under begun.1.ids leaf.parts)
+
     abbrev from : State
-    from = started trace leaf others (under begun.1.ids leaf.parts)
+    from = record opened { since = mid }
+
+    serving : IsServing first.layers from mid
+    serving = subst (λ l. IsServing l from mid) (sym same_layers) (goes.serves opened began)
 
     size : sector_of from ≡ sector_size
-    size = sym (ap (λ (g : Geometry). g.sector) serving.geometry) ∙ sector
+    size = sym (ap (λ (g : Geometry). g.sector) began.geometry) ∙ sector
 
     drive_is : drive_from first from ≡ drive_of Guests leaf others trace
-    drive_is = ap₂ (λ (g : Geometry) c. record { geometry = g; can_change = c; opening = opening_disk trace (leaf ∷ others) }) geometry begun.1.session
+    drive_is = ap₂ (λ (g : Geometry) c. record { geometry = g; can_change = c; opening = opening_disk trace (leaf ∷ others) }) (ap (λ (l : Layers). l.geometry) same_layers ∙ geometry) has_session
 
     served : AreServed false (drive_of Guests leaf others trace) lines h.guests h.history (failed_by run.run.closed) h.broken
     served = subst (λ d. AreServed false d lines h.guests h.history (failed_by run.run.closed) h.broken) drive_is (h.served mid mid_is from serving refl)
 
+    -- a file that isn't the leaf was sealed at most
+    kept : (other : ℕ) → other ≢ 0 → IsKept (file_of trace other) (file_of mid other)
+    kept other apart = subst (λ f. IsKept f (file_of mid other)) (began.still other (ne_eqb other 0 apart)) (goes.kept other)
+
     module _ (now : Trace) (left : HasLeft (is_some first.layers.leaf) h.under_way from h.history h.full h.breach run.run.closed now) where
-      goes : GoesOn from left.to
-      goes = goes_on from left.to refl left.comes.later.goes
+      on : GoesOn from left.to
+      on = goes_on from left.to refl left.comes.later.goes
 
       to_size : sector_of left.to ≡ sector_size
       to_size = left.comes.sector ∙ size
@@ -96,30 +138,32 @@ module _ {S T : Type 0} (disk : S → Disk) (first : Chain S KeepAll T) (names :
             (last_as (sector_of left.to) sector_size left.to.opening (opening_disk trace (leaf ∷ others)) left.to.leaf (way_to leaf (leaf ∷ others) None) left.to.history h.history now to_size left.comes.later.opening left.comes.later.leaf left.comes.later.history (opens_by h.breach) left.last);
         full = ends_later (IsUpTo h.full) (IsSoLong (λ n. n == 0) now) (long_up h.full (λ n. n == 0) now left.long) (all_told h.guests) h.ends;
         still = λ other apart.
-            left.still other (ap (λ (w : ℕ → Bool). w other) goes.writes ∙ ne_eqb other 0 apart) ∙ ap (λ t. file_of t other) goes.since;
+            subst (IsKept (file_of trace other)) (sym (left.still other (ap (λ (w : ℕ → Bool). w other) on.writes ∙ ne_eqb other 0 apart) ∙ ap (λ t. file_of t other) on.since)) (kept other apart);
         at_rest = on_ok_weaker run.run.closed (λ w. record {
-          synced = subst (λ n. is_synced (file_of now n) ≡ true) goes.number (w.synced begun.1.session).0;
+          synced = subst (λ n. is_synced (file_of now n) ≡ true) on.number (w.synced has_session).0;
           no_log = λ can.
-              let mine : left.to.writes left.to.top.number ≡ true = subst (λ n. left.to.writes n ≡ true) (sym goes.number) (ap (λ (w : ℕ → Bool). w 0) goes.writes) in
-              subst (λ n. NamesNoLog (seen (file_of now n))) goes.number ((w.no_log begun.1.session).0 mine);
+              let mine : left.to.writes left.to.top.number ≡ true = subst (λ n. left.to.writes n ≡ true) (sym on.number) (ap (λ (w : ℕ → Bool). w 0) on.writes) in
+              subst (λ n. NamesNoLog (seen (file_of now n))) on.number ((w.no_log has_session).0 mine);
           opens = whole_as (sector_of left.to) sector_size left.to.opening (opening_disk trace (leaf ∷ others)) left.to.leaf (way_to leaf (leaf ∷ others) None) left.to.history h.history now to_size left.comes.later.opening left.comes.later.leaf left.comes.later.history w.opens;
         }) left.whole;
       }
 
   have : WhereBothTold (HaveServed (leaf ∷ others) lines h.guests h.history h.broken run.run.closed) old.told after.told
-  have = go old.told (disk first.store).told refl begun.1.serving after.told h.leaves
+  have = go old.told (disk chain.store).told begun.1.serving (disk first.store).told refl sealed.sealing.goes after.told h.leaves
     where
-      go : (a b : Option Trace) → (disk first.store).told ≡ b → StartsWith (under begun.1.ids) (leaf ∷ others) first.layers a b → (c : Option Trace)
-          → WhereBothTold (λ trace now. (from : State) → IsServing first.layers from trace → from.history ≡ [] → HasLeft (is_some first.layers.leaf) h.under_way from h.history h.full h.breach run.run.closed now) b c
+      go : (a b : Option Trace) → StartsWith (under begun.1.ids) (leaf ∷ others) chain.layers a b → (s : Option Trace) → (disk first.store).told ≡ s → WhereBothTold (GoesOnSealed chain.layers) b s → (c : Option Trace)
+          → WhereBothTold (λ trace now. (from : State) → IsServing first.layers from trace → from.history ≡ [] → HasLeft (is_some first.layers.leaf) h.under_way from h.history h.full h.breach run.run.closed now) s c
           → WhereBothTold (HaveServed (leaf ∷ others) lines h.guests h.history h.broken run.run.closed) a c
-      go None None e s None l = tt
-      go None None e s (Some c) l = absurd l
-      go None (Some b) e s c l = absurd s
-      go (Some a) None e s c l = absurd s
-      go (Some a) (Some b) e s None l = absurd l
-      go (Some a) (Some b) e s (Some c) l = files a b e s c (l (started a leaf others (under begun.1.ids leaf.parts)) s refl)
+      go None None st None e g None l = tt
+      go None None st None e g (Some c) l = absurd l
+      go None None st (Some s) e g c l = absurd g
+      go None (Some b) st s e g c l = absurd st
+      go (Some a) None st s e g c l = absurd st
+      go (Some a) (Some b) st None e g c l = absurd g
+      go (Some a) (Some b) st (Some s) e g None l = absurd l
+      go (Some a) (Some b) st (Some s) e g (Some c) l = files a b s e g st c (l (record (started a leaf others (under begun.1.ids leaf.parts)) { since = s }) (serving a b s e g st) refl)
 
-  pub has_run : HasRunServe (leaf ∷ others) names lines run.run old after drawn now_drawn
+  pub has_run : HasRunServe (leaf ∷ others) names lines (record { run = run.run; unread = run.unread }) old after drawn now_drawn
   has_run = record {
     guests = h.guests;
     history = h.history;
@@ -129,15 +173,28 @@ module _ {S T : Type 0} (disk : S → Disk) (first : Chain S KeepAll T) (names :
     drawn = (begun.0, begun.1.ids, begun.1.fit);
     counted = h.counted.last;
     ended = counts_change after run.run.closed h.counted.end;
-    quiet = λ none. on_ok_weaker run.run.closed (λ same. counts_join old (disk first.store) after begun.1.counts same) (h.counted.quiet none);
+    quiet = λ none. on_ok_weaker run.run.closed (λ same. counts_join old (disk first.store) after (quiet_since disk chain first sealed.met sealed.sealing old begun.1.counts (sealed.told none)) same) (h.counted.quiet none);
     faults =
         let k = h.faults in
-        subst (λ n. FaultsAreTold (all_told h.guests) (failed_by run.run.closed) n old.failed_changes after.failed_reads after.failed_changes) (ap (λ (d : Disk). d.files) begun.1.counts)
-        (record { each = k.each; end = k.end; none = λ none. k.none none ∙ ap (λ (d : Disk). d.failed_changes) begun.1.counts });
+        subst (λ n. FaultsAreTold (all_told h.guests) (failed_by run.run.closed) n old.failed_changes after.failed_reads after.failed_changes) (files_are disk chain first sealed.met sealed.sealing old begun.1.counts)
+        (record { each = k.each; end = k.end; none = λ none. k.none none ∙ changes_are disk chain first sealed.met sealed.sealing old begun.1.counts });
+    unread = subst (λ n. AllByRecursion (λ fault. fault.file < n) (all_unread h.guests)) (files_are disk chain first sealed.met sealed.sealing old begun.1.counts) h.unread;
+    unread_is = h.unread_is;
     served = have;
   }
 
-pub serve_ran : {S T : Type 0} (disk : S → Disk) (first : Chain S KeepAll T) (files : List LinkedFile) (names : List (List ℕ)) (lines : List Line) (run : MergeRun) (old after : Disk) (drawn now : Option (List (List ℕ))) → HasServed disk false first names lines run after
-    → HasStarted Guests files first.layers old (disk first.store) drawn now → CanStart files old → first.layers.geometry.sector ≡ 512 → IsOfDisk files first.layers.geometry → HasRunServe files names lines run.run old after drawn now
-serve_ran disk first [] names lines run old after drawn now h begun can sector geometry = absurd can.line
-serve_ran disk first (leaf ∷ others) names lines run old after drawn now h begun can sector geometry = has_run disk first names lines run after h sector leaf others old drawn now begun geometry
+pub serve_ran : {S T : Type 0} (disk : S → Disk) (chain : Chain S KeepAll T) (files : List LinkedFile) (names : List (List ℕ)) (lines : List Line) (run : MergeRun) (old after : Disk) (drawn now : Option (List (List ℕ))) → ServesSealed disk false chain names lines run after
+    → HasStarted Guests files chain.layers old (disk chain.store) drawn now → CanStart files old → chain.layers.geometry.sector ≡ 512 → IsOfDisk files chain.layers.geometry → HasRunServe files names lines (record { run = run.run; unread = run.unread }) old after drawn now
+serve_ran disk chain [] names lines run old after drawn now sealed begun can sector geometry = absurd can.line
+serve_ran disk chain (leaf ∷ others) names lines run old after drawn now sealed begun can sector geometry = has_run disk chain names lines run after sealed sector leaf others old drawn now begun geometry
+
+-- the session that has started serves its first state
+pub serves_first : {S T : Type 0} (disk : S → Disk) (chain : Chain S KeepAll T) (files : List LinkedFile) (old : Disk) (drawn now : Option (List (List ℕ))) → CanStart files old → HasStarted Guests files chain.layers old (disk chain.store) drawn now → ServesFirst disk chain
+serves_first disk chain [] old drawn now can begun = absurd can.line
+serves_first disk chain (leaf ∷ others) old drawn now can begun = go old.told (disk chain.store).told begun.1.serving
+  where
+    go : (a b : Option Trace) → StartsWith (under begun.1.ids) (leaf ∷ others) chain.layers a b → WhereTold b (λ trace. (from : State) × IsServing chain.layers from trace × (from.history ≡ []))
+    go None None st = λ t e. absurd (none_some e)
+    go None (Some b) st = absurd st
+    go (Some a) None st = absurd st
+    go (Some a) (Some b) st = λ t e. subst (λ (w : Trace). (from : State) × IsServing chain.layers from w × (from.history ≡ [])) (some_same {x = b} {y = t} e) (started a leaf others (under begun.1.ids leaf.parts), st, refl)

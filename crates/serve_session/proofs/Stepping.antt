@@ -1,51 +1,88 @@
 -- A guest of a script, behind one of its lines.
-use Rattle.std.proofs.Common.{◌≡◌, ◌+◌, ◌^◌, ◌<◌, ◌≤◌, arith, ◌++◌, ◌∷◌, ℕ, Bool, true, false, [], List, length, Result, refl, sym, ap, subst, ◌∙◌, length-append}
-use Rattle.std.specs.Prelude.{◌||◌, MatchBool, if◌then◌else◌, not}
+use Rattle.std.proofs.Common.{◌≡◌, ◌+◌, ◌^◌, ◌<◌, ◌≤◌, arith, ◌++◌, ◌∷◌, ℕ, Bool, true, false, [], List, length, Result, Ok, Err, refl, sym, ap, subst, ◌∙◌, length-append, lt-ltb}
+use Rattle.std.specs.Prelude.{◌||◌, IfErr, IfOk, MatchBool, if◌then◌else◌, not}
 use Rattle.std.proofs.lemmas.List.{append-nil}
-use Rattle.store_model.specs.Disk.{Disk}
+use Rattle.store_model.specs.Cause.{Rose}
+use Rattle.store_model.specs.Disk.{Disk, Sealed}
+use Rattle.store_model.specs.declared.fault.StoreFault.{StoreFault}
 use Rattle.guest_model.specs.declared.call.Caller.{Caller}
 use Rattle.guest_model.specs.declared.call.Reply.{Reply}
 use Rattle.guest_model.specs.declared.recorder.KeepAll.{KeepAll}
 use Rattle.guest_model.specs.declared.refusal.ChainRefusal.{ChainRefusal}
+use Rattle.guest_model.specs.declared.refusal.ChainRefusal.TheVariants.{Abandoned, Broken, EmptyRange, FileFull, NoMerge, NoPiece, NoRoom, NoStripe, NotYet, OutOfRange, ReadFault, ReadOnly, Spent, Stale, TooLong}
 use Rattle.guest_model.specs.Counts.{one_more}
 use Rattle.chain_core.specs.declared.chain.Chain.{Chain}
 use Rattle.layer_session.proofs.Equal.{true_false}
 use Rattle.script.specs.Grammar.{is_call}
 use Rattle.script.specs.declared.form.Form.{Form}
-use Rattle.script_session.specs.Answers.{too_long}
 use Rattle.turn_lock.specs.Seats.{Known, TableId}
 use Rattle.turn_lock.proofs.Fronts.{starts-itself}
 use Rattle.shared_chain.specs.declared.basis.Basis.{Basis}
 use Rattle.shared_chain.specs.declared.basis.Step.{Step}
 use Rattle.shared_chain.specs.Laws.{contains_itself}
-use Rattle.guest_io.specs.Guests.{IsCall, caller_of}
+use Rattle.guest_io.specs.Guests.{ReadsBy, caller_of}
 use Rattle.shared_chain.specs.Seats.{IsFree, KeepsSeat}
 use Rattle.serve_session.specs.declared.actor.Actor.{Actor}
-use Rattle.serve_session.specs.Actors.{HasHeard, HasKept, IsActor, called_form}
-use Rattle.serve_session.specs.Asking.{IsAsked, asks_too_many, count_of, emptied, is_want, outcome_of, reply_in, shown_in}
-use Rattle.serve_session.specs.Served.{Outcome, call_of, told_call}
-use Rattle.serve_session.proofs.Guests.{told_snoc}
+use Rattle.serve_session.specs.Actors.{HasHeard, HasKept, HasReaders, IsActor, IsUnread, called_form}
+use Rattle.guest_io.specs.declared.placed.Placed.{Placed}
+use Rattle.serve_session.specs.Asking.{IsAsked, IsMade, IsTooLong, OnlyReadsMiss, asks_too_many, count_of, emptied, is_want, outcome_of, read_as, reply_in, shown_in, with_answer, with_read}
+use Rattle.serve_session.specs.Served.{Outcome, call_of, counts_behind, none_failed, told_call, unread_in, unread_of}
+use Rattle.serve_session.proofs.Guests.{told_snoc, unread_count, unread_few}
+use Rattle.serve_session.proofs.Reading.{missed_by, readers_after}
 use Rattle.serve_session.proofs.Hearing.{asked_kept, next_one, nothing_more}
+
+-- how many reads failed by a reader, with one more call
+unread_more : (outcomes : List Outcome) (unread : ℕ) (r : Reply) (answer : Result Placed ChainRefusal) → unread ≡ length (unread_in outcomes) → length outcomes < 2 ^ 32
+    → with_answer unread answer ≡ length (unread_in (if is_want answer then outcomes else outcomes ++ outcome_of r answer ∷ []))
+unread_more outcomes unread r answer is few = go answer
+  where
+    more : (o : Outcome) (n : ℕ) → n ≡ unread + length (unread_of o) → n ≡ length (unread_in (outcomes ++ o ∷ []))
+    more o n e = e ∙ ap (λ k. k + length (unread_of o)) is ∙ sym (unread_count outcomes o)
+
+    plus_none : unread ≡ unread + 0
+    plus_none = omega arith
+
+    by_read : (place : ℕ) (read : Result (Unit {0}) StoreFault) → with_read unread read ≡ length (unread_in (outcomes ++ Ok (place, read_as r read) ∷ []))
+    by_read place (Ok done) = more (Ok (place, Ok r)) unread plus_none
+    by_read place (Err fault) = more (Ok (place, Err fault)) (one_more unread) (ap (λ b. if b then unread + 1 else unread) (lt-ltb (unread + 1) (2 ^ 64) (omega (arith, is, few, unread_few outcomes))))
+
+    go : (answer : Result Placed ChainRefusal) → with_answer unread answer ≡ length (unread_in (if is_want answer then outcomes else outcomes ++ outcome_of r answer ∷ []))
+    go (Ok placed) = by_read placed.place placed.read
+    go (Err EmptyRange) = more (Err EmptyRange) unread plus_none
+    go (Err (OutOfRange a b c)) = more (Err (OutOfRange a b c)) unread plus_none
+    go (Err (TooLong a b)) = more (Err (TooLong a b)) unread plus_none
+    go (Err ReadOnly) = more (Err ReadOnly) unread plus_none
+    go (Err (Broken file count)) = more (Err (Broken file count)) unread plus_none
+    go (Err (Spent t)) = more (Err (Spent t)) unread plus_none
+    go (Err (FileFull next)) = more (Err (FileFull next)) unread plus_none
+    go (Err (ReadFault file count)) = more (Err (ReadFault file count)) unread plus_none
+    go (Err NoMerge) = more (Err NoMerge) unread plus_none
+    go (Err (Stale taken now)) = more (Err (Stale taken now)) unread plus_none
+    go (Err (NotYet stripe)) = more (Err (NotYet stripe)) unread plus_none
+    go (Err (Abandoned file count)) = more (Err (Abandoned file count)) unread plus_none
+    go (Err (NoStripe stripe stripes)) = more (Err (NoStripe stripe stripes)) unread plus_none
+    go (Err NoPiece) = more (Err NoPiece) unread plus_none
+    go (Err NoRoom) = is
 
 module _ {S T : Type 0} where
   -- whatever a line asks for, the call keeps the seat
-  asked_seat : (disk : S → Disk) (who : Caller) (form : Form) (room : List ℕ) (old new : Known Step (Basis S T)) (answer : Result ℕ ChainRefusal) → IsAsked disk who form room old new answer → KeepsSeat old new
+  asked_seat : (disk : S → Disk) (who : Caller) (form : Form) (room : List ℕ) (old new : Known Step (Basis S T)) (answer : Result Placed ChainRefusal) → IsAsked disk who form room old new answer → KeepsSeat old new
   asked_seat disk who form room old new answer = go (asks_too_many form)
     where
-      go : (b : Bool) → MatchBool b ((made : Result ℕ ChainRefusal) × (r : Reply) × IsCall disk who (emptied form) r old new made × (answer ≡ too_long (count_of form) made)) (IsCall disk who (call_of form) (reply_in room form) old new answer) → KeepsSeat old new
+      go : (b : Bool) → MatchBool b (IsTooLong disk who (emptied form) (count_of form) old new answer) (IsMade disk who (call_of form) (reply_in room form) old new answer) → KeepsSeat old new
       go true h = h.2.keeps
       go false h = h.keeps
 
   -- and draws one ticket at most
-  asked_drawn : (disk : S → Disk) (who : Caller) (form : Form) (room : List ℕ) (old new : Known Step (Basis S T)) (answer : Result ℕ ChainRefusal) → IsAsked disk who form room old new answer → new.drawn ≤ old.drawn + 1
+  asked_drawn : (disk : S → Disk) (who : Caller) (form : Form) (room : List ℕ) (old new : Known Step (Basis S T)) (answer : Result Placed ChainRefusal) → IsAsked disk who form room old new answer → new.drawn ≤ old.drawn + 1
   asked_drawn disk who form room old new answer = go (asks_too_many form)
     where
-      go : (b : Bool) → MatchBool b ((made : Result ℕ ChainRefusal) × (r : Reply) × IsCall disk who (emptied form) r old new made × (answer ≡ too_long (count_of form) made)) (IsCall disk who (call_of form) (reply_in room form) old new answer)
+      go : (b : Bool) → MatchBool b (IsTooLong disk who (emptied form) (count_of form) old new answer) (IsMade disk who (call_of form) (reply_in room form) old new answer)
           → new.drawn ≤ old.drawn + 1
       go true h = h.2.drawn
       go false h = h.drawn
 
-  pub asked_free : (disk : S → Disk) (who : Caller) (form : Form) (room : List ℕ) (lock : TableId) (old new : Known Step (Basis S T)) (answer : Result ℕ ChainRefusal) → IsAsked disk who form room old new answer → IsFree lock old → IsFree lock new
+  pub asked_free : (disk : S → Disk) (who : Caller) (form : Form) (room : List ℕ) (lock : TableId) (old new : Known Step (Basis S T)) (answer : Result Placed ChainRefusal) → IsAsked disk who form room old new answer → IsFree lock old → IsFree lock new
   asked_free disk who form room lock old new answer asked free = let k = asked_seat disk who form room old new answer asked in (k.lock ∙ free.0, k.free)
 
   module _ (disk : S → Disk) (first : Chain S KeepAll T) (lock : TableId) (names : List (List ℕ)) (forms : List Form) (form : Form) (old : Actor S T) (is : IsActor disk first lock names forms old) where
@@ -62,6 +99,8 @@ module _ {S T : Type 0} where
       sector = is.sector;
       outcomes = is.outcomes;
       hears = more_heard (called_form form);
+      readers = is.readers;
+      unread = is.unread;
       kept = λ e. absurd (true_false (sym short ∙ e));
     }
 
@@ -78,8 +117,8 @@ module _ {S T : Type 0} where
         go false short false call h = other_passes call
 
     -- the call was made
-    module _ (room : List ℕ) (seat : Known Step (Basis S T)) (answer : Result ℕ ChainRefusal) (asked : IsAsked disk (caller_of old.guest.number old.guest.next) form room old.guest.seat seat answer) (few : length forms < 2 ^ 32) (memory : old.is_short ≡ false)
-        (call : is_call form ≡ true) where
+    module _ (room : List ℕ) (seat : Known Step (Basis S T)) (answer : Result Placed ChainRefusal) (asked : IsAsked disk (caller_of old.guest.number old.guest.next) form room old.guest.seat seat answer) (readers : List Sealed) (only : OnlyReadsMiss form answer) (by : ReadsBy answer old.guest.readers readers)
+        (few : length forms < 2 ^ 32) (memory : old.is_short ≡ false) (call : is_call form ≡ true) where
       kept : HasKept disk first names forms old is.outcomes
       kept = is.kept memory
 
@@ -94,20 +133,30 @@ module _ {S T : Type 0} where
       abbrev outcomes_after : List Outcome
       outcomes_after = if is_want answer then is.outcomes else is.outcomes ++ outcome_of (shown_in room form) answer ∷ []
 
+      missed : IfOk answer (λ placed. IfErr placed.read (λ fault. IsUnread disk first (call_of form) fault × Rose (counts_behind none_failed (unread_in is.outcomes) fault.file) fault.count))
+      missed = go answer only by
+        where
+          go : (a : Result Placed ChainRefusal) → OnlyReadsMiss form a → ReadsBy a old.guest.readers readers
+              → IfOk a (λ placed. IfErr placed.read (λ fault. IsUnread disk first (call_of form) fault × Rose (counts_behind none_failed (unread_in is.outcomes) fault.file) fault.count))
+          go (Ok placed) reads own = missed_by disk first form (unread_in is.outcomes) old.guest.readers readers placed.read is.readers own reads
+          go (Err x) reads own = tt
+
       heard : HasHeard disk first old.number (forms ++ form ∷ []) seat outcomes_after
       heard =
           let k = asked_seat disk (caller_of old.guest.number old.guest.next) form room old.guest.seat seat answer asked in
-          asked_kept disk first old.number forms is.outcomes form old.guest.seat seat is.hears k.seen k.basis k.refusals kept.all (asked_drawn disk (caller_of old.guest.number old.guest.next) form room old.guest.seat seat answer asked) is.sector room answer asked_by
+          asked_kept disk first old.number forms is.outcomes form old.guest.seat seat is.hears k.seen k.basis k.refusals kept.all (asked_drawn disk (caller_of old.guest.number old.guest.next) form room old.guest.seat seat answer asked) is.sector room answer asked_by missed
 
-      pub called : (a : Actor S T) → a.guest.seat ≡ seat → a.guest.number ≡ old.guest.number → a.guest.next ≡ one_more old.guest.next → a.number ≡ old.number → length a.room.items ≡ 1048576
+      pub called : (a : Actor S T) → a.guest.seat ≡ seat → a.guest.readers ≡ readers → a.guest.number ≡ old.guest.number → a.guest.next ≡ one_more old.guest.next → a.number ≡ old.number → length a.room.items ≡ 1048576 → a.unread ≡ with_answer old.unread answer
           → (a.is_short ≡ false → (is_want answer ≡ false) × (a.told.items ≡ old.told.items ++ told_call names form (outcome_of (shown_in room form) answer) ∷ [])) → IsActor disk first lock names (forms ++ called_form form) a
-      called a seat_is guest next number rooms keeps = subst (λ fs. IsActor disk first lock names (forms ++ fs) a) (sym (ap (λ b. if b then form ∷ [] else []) call)) (record {
+      called a seat_is readers_are guest next number rooms unread keeps = subst (λ fs. IsActor disk first lock names (forms ++ fs) a) (sym (ap (λ b. if b then form ∷ [] else []) call)) (record {
         free = subst (λ s. IsFree lock s) (sym seat_is) (asked_free disk (caller_of old.guest.number old.guest.next) form room lock old.guest.seat seat answer asked is.free);
         number = guest ∙ is.number ∙ sym number;
         room = rooms;
         sector = is.sector;
         outcomes = outcomes_after;
         hears = subst (λ n. HasHeard disk first n (forms ++ form ∷ []) a.guest.seat outcomes_after) (sym number) (subst (λ s. HasHeard disk first old.number (forms ++ form ∷ []) s outcomes_after) (sym seat_is) heard);
+        readers = subst (HasReaders disk first (unread_in outcomes_after)) (sym readers_are) (readers_after disk first is.outcomes (shown_in room form) answer old.guest.readers readers is.readers by);
+        unread = unread ∙ unread_more is.outcomes old.unread (shown_in room form) answer is.unread (subst (λ n. n < 2 ^ 32) (sym kept.all) few);
         kept = λ short.
             let k = keeps short in
             subst (λ b. HasKept disk first names (forms ++ form ∷ []) a (if b then is.outcomes else is.outcomes ++ outcome_of (shown_in room form) answer ∷ [])) (sym k.0)

@@ -1,6 +1,7 @@
 -- What a guest of a script has done so far, by its seat and what it was told.
-use Rattle.std.specs.Prelude.{◌≡◌, ◌⊎◌, ◌+◌, ◌-◌, ◌^◌, ◌<◌, ◌≤◌, ⊤, ℕ, Bool, false, true, List, [], ◌∷◌, ◌++◌, if◌then◌else◌, length, Some, None, Ok, Err}
-use Rattle.store_model.specs.Disk.{Disk}
+use Rattle.std.specs.Prelude.{◌≡◌, ◌⊎◌, ◌+◌, ◌-◌, ◌^◌, ◌<◌, ◌≤◌, ⊤, ℕ, Bool, false, true, All, List, [], ◌∷◌, ◌++◌, if◌then◌else◌, length, map, Some, None, Result, Ok, Err, IfErr, IfOk}
+use Rattle.store_model.specs.Disk.{Disk, Sealed}
+use Rattle.store_model.specs.declared.fault.StoreFault.{StoreFault}
 use Rattle.guest_model.specs.declared.call.Call.{Call}
 use Rattle.guest_model.specs.declared.recorder.KeepAll.{KeepAll}
 use Rattle.guest_model.specs.declared.call.Reply.{Reply}
@@ -9,7 +10,9 @@ use Rattle.guest_model.specs.declared.refusal.ChainRefusal.TheVariants as refusa
 use Rattle.guest_model.specs.Calls.{is_named}
 use Rattle.guest_model.specs.History.{History}
 use Rattle.chain_core.specs.declared.chain.Chain.{Chain}
-use Rattle.chain_core.specs.Refusing.{misplaced}
+use Rattle.chain_core.specs.Refusing.{is_read, misplaced}
+use Rattle.chain_core.specs.Sessions.{AreApart}
+use Rattle.shared_chain.specs.Planned.{IsReaderFor}
 use Rattle.script.specs.Grammar.{is_call}
 use Rattle.script.specs.declared.form.Form.{Form}
 use Rattle.script.specs.declared.form.Line.{Line}
@@ -25,12 +28,12 @@ use Rattle.shared_chain.specs.declared.basis.Note.TheVariants as notes
 use Rattle.shared_chain.specs.declared.basis.Step.{Step}
 use Rattle.shared_chain.specs.declared.basis.Step.TheVariants.{Broke, Done}
 use Rattle.shared_chain.specs.Answers.{RepliesBehind, StopsOver}
-use Rattle.shared_chain.specs.Bases.{Contains, notes_in}
+use Rattle.shared_chain.specs.Bases.{notes_in}
 use Rattle.shared_chain.specs.Notes.{HasNote}
 use Rattle.shared_chain.specs.Steps.{done_steps, open_by}
 use Rattle.shared_chain.specs.Seats.{IsFree, MergeBreaksAt}
 use Rattle.serve_session.specs.declared.actor.Actor.{Actor}
-use Rattle.serve_session.specs.Served.{EachGuest, Has, IsRising, IsWhole, Outcome, SomeGuest, call_of, entry_of, forms_of, places_in, told_calls, told_guests}
+use Rattle.serve_session.specs.Served.{EachGuest, Has, IsCountedUp, IsRising, IsWhole, Outcome, SomeGuest, call_of, counts_behind, entry_of, forms_of, none_failed, places_in, told_calls, told_guests, unread_in}
 
 -- The call of this form broke a session: it was told so, and what a crash may leave otherwise for it are sectors that it names.
 abbrev pub HasBreach : ℕ → ℕ → Form → Breach → Outcome → Type 0
@@ -56,13 +59,18 @@ module _ {S T : Type 0} (disk : S → Disk) (first : Chain S KeepAll T) where
     pub began : basis.first ≡ Some first
     pub notes : (n : Note) → HasNote first_notes n → HasNote basis.notes n
 
-  -- A call was done: it stands in the history, behind others, and its reply is that of the disk with these.
-  pub record HasPlace (seen : List Step) (guest number : ℕ) (call : Call) (done : ℕ × Reply) : Type 0 where
+  -- A read's reader failed that reads this file of the session's store.
+  abbrev pub IsUnread : Call → StoreFault → Type 0
+  IsUnread call fault = (is_read call ≡ true) × (fault.file < (disk first.store).files)
+
+  -- A call was done: it stands in the history, behind others, and its reply is that of the disk with these, but of a read whose reader failed.
+  pub record HasPlace (seen : List Step) (guest number : ℕ) (call : Call) (done : ℕ × Result Reply StoreFault) : Type 0 where
     pub before : History
     pub begins : StartsWith seen (done_steps before ++ Done (entry_of guest number call) ∷ [])
     pub place_is : done.0 ≡ length before + 1
     pub placed : misplaced call first.layers ≡ None
-    pub replies : RepliesBehind disk first before call done.1
+    pub replies : IfOk done.1 (RepliesBehind disk first before call)
+    pub unread : IfErr done.1 (IsUnread call)
 
   -- it was refused, for what is noted or by its place
   abbrev pub IsHeardOf : Known Step (Basis S T) → Call → ChainRefusal → Type 0
@@ -117,6 +125,7 @@ module _ {S T : Type 0} (disk : S → Disk) (first : Chain S KeepAll T) where
     pub knows : IsFrom disk first seat.basis
     pub heard : AreHeard disk first seat guest 1 forms outcomes
     pub order : IsRising (places_in outcomes)
+    pub unread : IsCountedUp none_failed (unread_in outcomes)
     pub owns : (p : ℕ) → 0 < times p seat.mine → OwnsAt seat.seen p guest forms outcomes
     pub drawn : seat.drawn ≤ length forms
 
@@ -126,6 +135,13 @@ module _ {S T : Type 0} (disk : S → Disk) (first : Chain S KeepAll T) where
     pub next : actor.guest.next ≡ length outcomes + 1
     pub told : actor.told.items ≡ told_calls names forms outcomes
 
+  -- Readers of a guest whose reads failed so by them: each counts those of its file, and no file has two.
+  pub record HasReaders (unread : List StoreFault) (readers : List Sealed) : Type 0 where
+    pub own : All (IsReaderFor disk first) readers
+    pub there : All (λ s. s.file < (disk first.store).files) readers
+    pub apart : AreApart (map (λ s. s.file) readers)
+    pub counts : All (λ s. s.failed ≡ counts_behind none_failed unread s.file) readers
+
   -- A guest whose lines have asked for these calls so far may make its next one, or memory ran out for it.
   pub record IsActor (lock : TableId) (names : List (List ℕ)) (forms : List Form) (actor : Actor S T) : Type 0 where
     pub free : IsFree lock actor.guest.seat
@@ -134,6 +150,8 @@ module _ {S T : Type 0} (disk : S → Disk) (first : Chain S KeepAll T) where
     pub sector : first.layers.geometry.sector ≡ sector_size
     pub outcomes : List Outcome
     pub hears : HasHeard actor.number forms actor.guest.seat outcomes
+    pub readers : HasReaders (unread_in outcomes) actor.guest.readers
+    pub unread : actor.unread ≡ length (unread_in outcomes)
     pub kept : actor.is_short ≡ false → HasKept names forms actor outcomes
 
   -- a guest that has made all its calls of a script, or those for which there was memory
@@ -149,6 +167,7 @@ module _ {S T : Type 0} (disk : S → Disk) (first : Chain S KeepAll T) where
     pub knows : IsFrom disk first seat.basis
     pub heard : EachGuest (λ guest outcomes. AreHeard disk first seat guest 1 (forms_of guest lines) outcomes) 1 guests
     pub order : EachGuest (λ guest outcomes. IsRising (places_in outcomes)) 1 guests
+    pub unread : EachGuest (λ guest outcomes. IsCountedUp none_failed (unread_in outcomes)) 1 guests
     pub owns : (p : ℕ) → 0 < times p seat.mine → IsOwned merges seat.seen p lines guests
     pub count : length told ≡ length guests
     pub kept : short ≡ false → IsWhole lines guests × (told ≡ told_guests names 1 lines guests)

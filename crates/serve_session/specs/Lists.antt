@@ -1,6 +1,7 @@
 -- The guests of a script, one after the other.
 use Rattle.std.specs.Prelude.{◌≡◌, ◌+◌, ◌-◌, ◌*◌, ◌^◌, ◌<◌, ◌≤◌, ⊤, ℕ, Bool, false, true, List, [], ◌∷◌, length, slice_index_or}
-use Rattle.store_model.specs.Disk.{Disk}
+use Rattle.store_model.specs.Disk.{Disk, Sealed}
+use Rattle.guest_io.specs.Guests.{HaveReaders}
 use Rattle.guest_model.specs.declared.recorder.KeepAll.{KeepAll}
 use Rattle.chain_core.specs.declared.chain.Chain.{Chain}
 use Rattle.script.specs.declared.form.Line.{Line}
@@ -15,35 +16,37 @@ use Rattle.copy_workers.specs.declared.worker.Worker.{Worker}
 use Rattle.serve_session.specs.declared.actor.Actor.{Actor}
 use Rattle.shared_chain.specs.Seats.{MergeBreaksAt}
 use Rattle.seats.specs.Counting.{times}
-use Rattle.serve_session.specs.Served.{Outcome}
+use Rattle.serve_session.specs.Served.{Outcome, all_unread}
 
 module _ {S T : Type 0} where
   -- so many more seats were split from the first
   abbrev pub with_splits : Known Step (Basis S T) → ℕ → Known Step (Basis S T)
   with_splits seat n = record seat { family = record (seat.family) { splits = seat.family.splits + n } }
 
-  -- a guest of this number with a seat that was split from this one, which has made no call
-  pub record IsFresh (first : Known Step (Basis S T)) (number : ℕ) (actor : Actor S T) : Type 0 where
+  -- a guest of this number with such readers and a seat that was split from this one, which has made no call
+  pub record IsFresh (Set : List Sealed → Type 0) (first : Known Step (Basis S T)) (number : ℕ) (actor : Actor S T) : Type 0 where
     pub seat : actor.guest.seat ≡ split_off first
     pub number_is : actor.number ≡ number
     pub guest : actor.guest.number ≡ number
     pub next : actor.guest.next ≡ 1
+    pub set : Set actor.guest.readers
     pub room : length actor.room.items ≡ 1048576
     pub told : actor.told.items ≡ []
+    pub unread : actor.unread ≡ 0
     pub memory : actor.is_short ≡ false
 
   -- those from the guest of a number down
-  abbrev pub AreFresh : Known Step (Basis S T) → ℕ → List (Actor S T) → Type 0
-  AreFresh first number [] = ⊤
-  AreFresh first number (actor ∷ actors) = IsFresh first number actor × AreFresh first (number - 1) actors
+  abbrev pub AreFresh : (List Sealed → Type 0) → Known Step (Basis S T) → ℕ → List (Actor S T) → Type 0
+  AreFresh Set first number [] = ⊤
+  AreFresh Set first number (actor ∷ actors) = IsFresh Set first number actor × AreFresh Set first (number - 1) actors
 
   abbrev pub AreActors : (Actor S T → Type 0) → ℕ → List (Actor S T) → Type 0
   AreActors P number [] = ⊤
   AreActors P number (actor ∷ actors) = (actor.number ≡ number) × P actor × AreActors P (number - 1) actors
 
   -- it may make calls
-  abbrev pub IsReady : TableId → Actor S T → Type 0
-  IsReady lock actor = IsFree lock actor.guest.seat × (length actor.room.items ≡ 1048576)
+  abbrev pub IsReady : (S → Disk) → TableId → Actor S T → Type 0
+  IsReady disk lock actor = IsFree lock actor.guest.seat × (length actor.room.items ≡ 1048576) × HaveReaders disk actor.guest.seat.basis actor.guest.readers
 
   -- it has made its calls of the lines, if it had made none
   abbrev pub RunsTo : (S → Disk) → TableId → List (List ℕ) → List Line → Actor S T → Actor S T → Type 0
@@ -77,11 +80,12 @@ module _ {S T : Type 0} where
       (first : Chain S KeepAll T) (names : List (List ℕ)) (lines : List Line) (told : List (List ToldCall)) (short : Bool) (guests : List (List Outcome)) → AreJoined disk first true lock names lines old told short guests
       → AreJoined disk first true lock names lines new told short guests
 
-  -- the seats of so many guests were joined, each of which drew a ticket for each of its calls at most
-  pub record HasJoined (disk : S → Disk) (merges : Bool) (first : Chain S KeepAll T) (lock : TableId) (names : List (List ℕ)) (lines : List Line) (count : ℕ) (old new : Known Step (Basis S T)) (told : List (List ToldCall)) (short : Bool) : Type 0 where
+  -- the seats of so many guests were joined, each of which drew a ticket for each of its calls at most; so many of their reads failed by a reader
+  pub record HasJoined (disk : S → Disk) (merges : Bool) (first : Chain S KeepAll T) (lock : TableId) (names : List (List ℕ)) (lines : List Line) (count : ℕ) (old new : Known Step (Basis S T)) (told : List (List ToldCall)) (short : Bool) (unread : ℕ) : Type 0 where
     pub guests : List (List Outcome)
     pub joined : AreJoined disk first merges lock names lines new told short guests
     pub count_is : length guests ≡ count
+    pub unread_is : unread ≡ length (all_unread guests)
     pub family : new.family ≡ record (old.family) { joins = old.family.joins + count }
     pub first_ticket : new.first_ticket ≡ old.first_ticket
     pub drawn : new.drawn ≤ old.drawn + 2 ^ 20 * count

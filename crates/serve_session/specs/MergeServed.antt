@@ -1,5 +1,5 @@
 -- What a session with several guests, in which a merge runs beside them, does to the files of a chain, from its start to its end.
-use Rattle.std.specs.Prelude.{◌≡◌, ◌+◌, ◌^◌, ◌<◌, ◌≤◌, ⊤, ℕ, Bool, true, false, List, map, length, string_bytes, Option, None, Some, Result, Err, IfErr, IfOk, IfSome, OnOk}
+use Rattle.std.specs.Prelude.{◌≡◌, ◌+◌, ◌^◌, ◌<◌, ⊤, ℕ, Bool, true, false, List, map, length, string_bytes, Option, None, Some, Result, Err, IfErr, IfOk, IfSome, OnOk}
 use Rattle.std.specs.List.{AllByRecursion}
 use Rattle.store_model.specs.Disk.{Disk, WhereBothTold}
 use Rattle.store_model.specs.Trace.{Trace, file_of}
@@ -16,6 +16,7 @@ use Rattle.merge_plan.specs.declared.merge.Merge.{Merge}
 use Rattle.chain_core.specs.Answering.{EachLinks}
 use Rattle.chain_core.specs.LeafStarting.{PlansLeafMerge}
 use Rattle.chain_core.specs.MergeStarting.{PlansMerge}
+use Rattle.chain_core.specs.Sealed.{IsKept}
 use Rattle.chain_core.specs.Starting.{opening_disk}
 use Rattle.script.specs.declared.form.Line.{Line}
 use Rattle.script_session.specs.Faults.{Counts, FaultsAreTold}
@@ -24,7 +25,7 @@ use Rattle.script_session.specs.MergeRunning.{IsAtRestOver, Scope, drive_over, l
 use Rattle.script_session.specs.Running.{open_by, open_last}
 use Rattle.script_session.specs.Told.{failed_by, sector_size}
 use Rattle.script_session.specs.declared.session.ScriptRun.{ScriptRun}
-use Rattle.serve_session.specs.Served.{AreServed, IsTranscript, Outcome, all_told, guest_count}
+use Rattle.serve_session.specs.Served.{AreServed, IsTranscript, Outcome, all_told, all_unread, guest_count}
 use Rattle.serve_session.specs.declared.merging.MergeRun.{MergeRun}
 
 -- Where a merge isn't finished at the end for want of room, a file that may be changed is so long, within 1,024 MB of the greatest place that a
@@ -35,13 +36,13 @@ IsStopTold may now other = ⊤
 
 -- What stands behind guests that were told so, over the files of a store, whatever of the merge was done between their calls. At each moment
 -- each image opens from the leaf's name to the disk of a prefix of the history, outside the sectors that are open then, and at the end to that
--- of all. No file but those was changed. Where the merge was finished the leaf's name leads to the files that stay, and where it was stopped to all.
+-- of all. No file but those was changed, though one that is only read may have been sealed. Where the merge was finished the leaf's name leads to the files that stay, and where it was stopped to all.
 pub record HasServedOver (scope : Scope) (lines : List Line) (guests : List (List Outcome)) (history : History) (broken : Option Break) (merged : Result (Unit {0}) ChainRefusal) (closed : Result (Unit {0}) StoreFault) (trace now : Trace) : Type 0 where
   pub served : AreServed true (drive_over scope trace) lines guests history (failed_by closed) broken
   pub moments : EachOpensToPrefix sector_size (opening_disk trace scope.files) history (open_by broken) scope.leaf trace now
   pub last : EachOpens scope.leaf (open_last history broken) (disk_after (drive_over scope trace) history) now
   pub full : AllByRecursion (IsEndTold (IsSoLong scope.changes now)) (all_told guests)
-  pub still : (other : ℕ) → scope.changes other ≡ false → file_of now other ≡ file_of trace other
+  pub still : (other : ℕ) → scope.changes other ≡ false → IsKept (file_of trace other) (file_of now other)
   pub at_rest : OnOk closed (IsAtRestOver scope (drive_over scope trace) history now)
   pub linked : OnOk merged (OnOk closed (EachLinks scope.leaf.name scope.staying now))
   pub stays : IfErr merged (λ x. OnOk closed (EachLinks scope.leaf.name (map (λ (f : LinkedFile). f.name) scope.files) now))
@@ -57,7 +58,8 @@ StopsMerge run refusals.NoRoom = IfOk run.transcript (λ text. ⊥)
 StopsMerge run other = ⊥
 
 -- Guests were served over these files, and the session ended: what they were told is one history's, and the transcript, if there is one, is of
--- all calls of the script. What was told of faults the store counts.
+-- all calls of the script. What was told of faults the store counts, but for the reads that failed by a reader of one of its files, which are
+-- so many.
 pub record HasServedWith (scope : Scope) (names : List (List ℕ)) (lines : List Line) (run : MergeRun) (old new : Disk) : Type 0 where
   pub guests : List (List Outcome)
   pub history : History
@@ -70,6 +72,8 @@ pub record HasServedWith (scope : Scope) (names : List (List ℕ)) (lines : List
   pub ended : IfErr run.run.closed (Counts new)
   pub quiet : run.run.fault ≡ None → OnOk run.run.closed (new ≡ record old { told = new.told })
   pub faults : FaultsAreTold (all_told guests) (failed_by run.run.closed) old.files old.failed_changes new.failed_reads new.failed_changes
+  pub unread : AllByRecursion (λ fault. fault.file < old.files) (all_unread guests)
+  pub unread_is : run.unread ≡ length (all_unread guests)
   pub stopped : IfErr run.merged (StopsMerge run.run)
   pub served : WhereBothTold (HasServedOver scope lines guests history broken run.merged run.run.closed) old.told new.told
 

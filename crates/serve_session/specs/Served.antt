@@ -1,7 +1,8 @@
--- What a script of several guests is told over one disk: there is one history of the calls that were done, and each call is told its
+-- What a script of several guests is told over one disk: there is one history of the calls that were made, and each call is told its
 -- reply at its place (profile).
-use Rattle.std.specs.Prelude.{◌≡◌, ◌⊎◌, ◌^◌, ◌+◌, ◌*◌, ◌<◌, ◌≤◌, ◌==◌, ◌&&◌, if◌then◌else◌, ⊤, ℕ, Bool, true, false, List, [], ◌∷◌, ◌++◌, length, map, max, min, replicate, Option, Some, None, Result, Ok, Err, IfSome}
+use Rattle.std.specs.Prelude.{◌≡◌, ◌⊎◌, ◌+◌, ◌*◌, ◌<◌, ◌≤◌, ◌==◌, ◌&&◌, if◌then◌else◌, ⊤, ℕ, Bool, true, false, List, [], ◌∷◌, ◌++◌, length, max, min, replicate, Option, Some, None, Result, Ok, Err, IfErr, IfOk, IfSome}
 use Rattle.std.specs.List.{AllByRecursion, flat_map}
+use Rattle.store_model.specs.Cause.{Rose}
 use Rattle.store_model.specs.declared.fault.StoreFault.{StoreFault}
 use Rattle.guest_model.specs.declared.call.Call.{Call}
 use Rattle.guest_model.specs.declared.call.Call.TheVariants as calls
@@ -11,13 +12,13 @@ use Rattle.guest_model.specs.declared.refusal.ChainRefusal.{ChainRefusal}
 use Rattle.guest_model.specs.declared.refusal.ChainRefusal.TheVariants as refusals
 use Rattle.guest_model.specs.Calls.{reply}
 use Rattle.guest_model.specs.History.{History, replay}
-use Rattle.chain_core.specs.Refusing.{barred, out_of, range_of}
+use Rattle.chain_core.specs.Refusing.{barred, is_read, out_of, range_of}
 use Rattle.script.specs.Grammar.{is_call}
 use Rattle.script.specs.declared.form.Form.{Form}
 use Rattle.script.specs.declared.form.Form.TheVariants.{Read, Trim, Write}
 use Rattle.script.specs.declared.form.Line.{Line}
 use Rattle.script.specs.declared.told.ToldCall.{ToldCall}
-use Rattle.script.specs.Transcript.{answered, of_call, serve_text}
+use Rattle.script.specs.Transcript.{LineReply, answered, of_call, serve_text}
 use Rattle.script_session.specs.Histories.{Break, Drive, Stops}
 use Rattle.script_session.specs.Told.{Told, sector_size}
 use Rattle.turn_lock.specs.Histories.{StartsWith}
@@ -47,13 +48,19 @@ guest_count lines = min (greatest_from 0 lines) 64
 
 -- ---- what is told
 
--- What a guest is told of a call: its place in the history, counted from 1, and its reply; or why it was refused.
+-- What a guest is told of a call: its place in the history, counted from 1, and there its reply, or, of a read, that the guest's reader of a
+-- file failed, and how often that has; or why it was refused.
 abbrev pub Outcome : Type 0
-Outcome = Result (ℕ × Reply) ChainRefusal
+Outcome = Result (ℕ × Result Reply StoreFault) ChainRefusal
+
+-- the answer on its line: a read that failed is answered as one that is refused for that
+abbrev pub as_line : Result Reply StoreFault → Result LineReply ChainRefusal
+as_line (Ok reply) = Ok (of_call reply)
+as_line (Err fault) = Err (refusals.ReadFault fault.file fault.count)
 
 -- the same as the transcript has it: its place, and its words with the answer
 abbrev pub told_call : List (List ℕ) → Form → Outcome → ToldCall
-told_call names form (Ok done) = record { place = Some done.0; text = answered names form (Ok (of_call done.1)) }
+told_call names form (Ok done) = record { place = Some done.0; text = answered names form (as_line done.1) }
 told_call names form (Err refusal) = record { place = None; text = answered names form (Err refusal) }
 
 abbrev pub told_calls : List (List ℕ) → List Form → List Outcome → List ToldCall
@@ -66,14 +73,46 @@ abbrev pub told_guests : List (List ℕ) → ℕ → List Line → List (List Ou
 told_guests names guest lines [] = []
 told_guests names guest lines (outcomes ∷ guests) = told_calls names (forms_of guest lines) outcomes ∷ told_guests names (guest + 1) lines guests
 
--- and as the lines of one guest are told it
-abbrev pub as_told : Outcome → Told
-as_told (Ok done) = Ok (Some done.0, of_call done.1)
-as_told (Err refusal) = Err refusal
+-- And as lines are told it whose faults the store counts; so it is left out where a reader failed.
+abbrev pub told_of : Outcome → List Told
+told_of (Ok (place, Ok reply)) = Ok (Some place, of_call reply) ∷ []
+told_of (Ok (place, Err fault)) = []
+told_of (Err refusal) = Err refusal ∷ []
 
--- all that guests were told
+-- all that guests were told so
 abbrev pub all_told : List (List Outcome) → List Told
-all_told guests = flat_map (λ outcomes. map as_told outcomes) guests
+all_told guests = flat_map (λ outcomes. flat_map told_of outcomes) guests
+
+-- the reads of a guest that stand in the history and failed by a reader, each by its fault, in the order of the calls
+abbrev pub unread_of : Outcome → List StoreFault
+unread_of (Ok (place, Ok reply)) = []
+unread_of (Ok (place, Err fault)) = fault ∷ []
+unread_of (Err refusal) = []
+
+abbrev pub unread_in : List Outcome → List StoreFault
+unread_in outcomes = flat_map unread_of outcomes
+
+-- those of all guests
+abbrev pub all_unread : List (List Outcome) → List StoreFault
+all_unread guests = flat_map unread_in guests
+
+-- the readers' counts of failed reads, by file, behind one more
+abbrev pub with_count : (ℕ → ℕ) → StoreFault → ℕ → ℕ
+with_count counts fault file = if fault.file == file then fault.count else counts file
+
+-- and behind all of these
+abbrev pub counts_behind : (ℕ → ℕ) → List StoreFault → ℕ → ℕ
+counts_behind counts [] = counts
+counts_behind counts (fault ∷ faults) = counts_behind (with_count counts fault) faults
+
+-- Each tells the count of its reader, which it raised from what the one before it of the same file told, and the first of a file from this.
+abbrev pub IsCountedUp : (ℕ → ℕ) → List StoreFault → Type 0
+IsCountedUp counts [] = ⊤
+IsCountedUp counts (fault ∷ faults) = Rose (counts fault.file) fault.count × IsCountedUp (with_count counts fault) faults
+
+-- no read has failed yet
+abbrev pub none_failed : ℕ → ℕ
+none_failed file = 0
 
 -- what each of some guests was told, the first being that of a number, or what one of them was
 abbrev pub EachGuest : (ℕ → List Outcome → Type 0) → ℕ → List (List Outcome) → Type 0
@@ -84,7 +123,7 @@ abbrev pub SomeGuest : (ℕ → List Outcome → Type 0) → ℕ → List (List 
 SomeGuest P guest [] = ⊥
 SomeGuest P guest (outcomes ∷ guests) = P guest outcomes ⊎ SomeGuest P (guest + 1) guests
 
--- the places of the calls that were done, in the order of the calls
+-- the places of the calls that stand in the history, in the order of the calls
 abbrev pub places_in : List Outcome → List ℕ
 places_in [] = []
 places_in (Ok done ∷ outcomes) = done.0 ∷ places_in outcomes
@@ -113,13 +152,15 @@ pub data IsRefused (drive : Drive) (broken : Option StoreFault) (call : Call) : 
 abbrev pub entry_of : ℕ → ℕ → Call → Entry
 entry_of guest number call = record { guest = guest; no = number; call = call }
 
--- A call was done: it stands in the history at its place, and its reply is that of the disk with the calls before it.
-pub record HasDone (drive : Drive) (h : History) (entry : Entry) (done : ℕ × Reply) : Type 0 where
+-- A call was done: it stands in the history at its place, and its reply is that of the disk with the calls before it. Only a read may have
+-- none, as a reader failed.
+pub record HasDone (drive : Drive) (h : History) (entry : Entry) (done : ℕ × Result Reply StoreFault) : Type 0 where
   pub before : History
   pub begins : StartsWith h (before ++ entry ∷ [])
   pub place_is : done.0 ≡ length before + 1
   pub placed : misplaced drive entry.call ≡ None
-  pub reply_is : done.1 ≡ reply (replay sector_size drive.opening before) entry.call
+  pub reply_is : IfOk done.1 (λ r. r ≡ reply (replay sector_size drive.opening before) entry.call)
+  pub unread : IfErr done.1 (λ fault. is_read entry.call ≡ true)
 
 -- What a guest is told of its call of this number, in a session with this history at its end, which this fault has broken if one did.
 abbrev pub IsOutcome : Drive → History → Option StoreFault → ℕ → ℕ → Call → Outcome → Type 0
@@ -150,11 +191,13 @@ IsBreakOf false lines guests ended b = SomeGuest (λ guest outcomes. HasBreaker 
 IsBreakOf true lines guests ended b = SomeGuest (λ guest outcomes. HasBreaker b (forms_of guest lines) outcomes) 1 guests ⊎ ((b.call ≡ None) × (ended ≡ Some b.fault))
 
 -- What guests were told over one disk, the first list being guest 1's: each call its outcome. Of each guest the calls that were done stand in
--- the history in the script's order, and the history has nothing else. The session's end is answered this fault, if it failed or if a fault
--- had broken the session; the call that this one broke it in is one of theirs, if it wasn't a step of a merge.
+-- the history in the script's order, and the history has nothing else; the reads of it that a reader failed are counted up, file by file. The
+-- session's end is answered this fault, if it failed or if a fault had broken the session; the call that this one broke it in is one of theirs,
+-- if it wasn't a step of a merge.
 pub record AreServed (merges : Bool) (drive : Drive) (lines : List Line) (guests : List (List Outcome)) (h : History) (ended : Option StoreFault) (broken : Option Break) : Type 0 where
   pub told : EachGuest (λ guest outcomes. AreOutcomes drive h ended guest 1 (forms_of guest lines) outcomes) 1 guests
   pub order : EachGuest (λ guest outcomes. IsRising (places_in outcomes)) 1 guests
+  pub unread : EachGuest (λ guest outcomes. IsCountedUp none_failed (unread_in outcomes)) 1 guests
   pub all : (p : ℕ) → 1 ≤ p → p ≤ length h → SomeGuest (λ guest outcomes. Has p (places_in outcomes)) 1 guests
   pub breaker : IfSome broken (IsBreakOf merges lines guests ended)
 

@@ -29,7 +29,7 @@ use Rattle.shared_chain.specs.Bases.{Contains, basis_of}
 use Rattle.shared_chain.specs.Merging.{IsMerged}
 use Rattle.shared_chain.specs.Shared.{Shared}
 use Rattle.serve_session.specs.Actors.{AreJoined}
-use Rattle.serve_session.specs.Served.{AreServed, IsTranscript, Outcome, all_told, guest_count}
+use Rattle.serve_session.specs.Served.{AreServed, IsTranscript, Outcome, all_told, all_unread, guest_count}
 use Rattle.serve_session.specs.declared.merging.MergeRun.{MergeRun}
 
 -- what a script runs over, in a session that began with this chain, over the disk of this state
@@ -50,13 +50,14 @@ pub record HasBegun {S T : Type 0} (disk : S → Disk) (s : Shared (Chain S Keep
   pub none : s.first.events ≡ 0
 
 -- Threads shared it, and all seats were joined: what guests were told is what stands in its history, or what broke the session. No turn was
--- refused, and few events there were.
-pub record WasShared {S T : Type 0} (disk : S → Disk) (merges : Bool) (old : Shared (Chain S KeepAll T)) (names : List (List ℕ)) (lines : List Line) (new : Shared (Chain S KeepAll T)) (told : List (List ToldCall)) (short : Bool) : Type 0 where
+-- refused, and few events there were; so many reads failed by a reader.
+pub record WasShared {S T : Type 0} (disk : S → Disk) (merges : Bool) (old : Shared (Chain S KeepAll T)) (names : List (List ℕ)) (lines : List Line) (new : Shared (Chain S KeepAll T)) (told : List (List ToldCall)) (short : Bool) (unread : ℕ) : Type 0 where
   pub lock : TableId
   pub seat : Known Step (Basis S T)
   pub guests : List (List Outcome)
   pub joined : AreJoined disk old.first merges lock names lines seat told short guests
   pub count : length guests ≡ guest_count lines
+  pub unread_is : unread ≡ length (all_unread guests)
   pub history : steps_of new.chain.recorder new.broke ≡ seat.seen
   pub basis : Contains (basis_of disk new) seat.basis
   pub places : (p : ℕ) → times p seat.mine ≡ once_between p 1 (length seat.seen + 1)
@@ -64,9 +65,9 @@ pub record WasShared {S T : Type 0} (disk : S → Disk) (merges : Bool) (old : S
   pub few : new.chain.events ≤ 2 ^ 40
 
 -- or memory ran out before a call was made
-pub data IsShared {S T : Type 0} (disk : S → Disk) (merges : Bool) (old : Shared (Chain S KeepAll T)) (names : List (List ℕ)) (lines : List Line) (new : Shared (Chain S KeepAll T)) (told : List (List ToldCall)) (short : Bool) : Type 0 where
-  was_shared : WasShared disk merges old names lines new told short → IsShared disk merges old names lines new told short
-  no_memory : new ≡ old → short ≡ true → told ≡ [] → IsShared disk merges old names lines new told short
+pub data IsShared {S T : Type 0} (disk : S → Disk) (merges : Bool) (old : Shared (Chain S KeepAll T)) (names : List (List ℕ)) (lines : List Line) (new : Shared (Chain S KeepAll T)) (told : List (List ToldCall)) (short : Bool) (unread : ℕ) : Type 0 where
+  was_shared : WasShared disk merges old names lines new told short unread → IsShared disk merges old names lines new told short unread
+  no_memory : new ≡ old → short ≡ true → told ≡ [] → unread ≡ 0 → IsShared disk merges old names lines new told short unread
 
 -- a merge was finished, or that was stopped; where there is none nothing was done
 abbrev pub EndsAs : {S T : Type 0} → (S → Disk) → Bool → Shared (Chain S KeepAll T) → Shared (Chain S KeepAll T) → Result (Unit {0}) ChainRefusal → Type 0
@@ -79,8 +80,8 @@ IsNearEnd disk first full (refusals.FileFull next) = IsUpTo full next × WhereTo
 IsNearEnd disk first full other = ⊤
 
 -- Guests were served over a chain whose session had begun with no call, beside a merge if there is one, and then it ended. What they were told is one
--- history's; if there is a transcript it is of all calls of the script. What was told of faults the store counts, and what was told of a full file
--- is noted; each moment since the session began leaves what the history says; the sectors that are open for the call that broke the session are
+-- history's; if there is a transcript it is of all calls of the script. What was told of faults the store counts, but for the reads that failed
+-- by a reader of one of its files, which are so many; what was told of a full file is noted; each moment since the session began leaves what the history says; the sectors that are open for the call that broke the session are
 -- among those that it names. At the end a merge is under way, or none is: none if it was finished, and where the end of the session didn't fail
 -- it is under way if that was stopped.
 pub record HasServed {S T : Type 0} (disk : S → Disk) (merges : Bool) (first : Chain S KeepAll T) (names : List (List ℕ)) (lines : List Line) (run : MergeRun) (after : Disk) : Type 0 where
@@ -94,6 +95,8 @@ pub record HasServed {S T : Type 0} (disk : S → Disk) (merges : Bool) (first :
   pub transcript : IfOk run.run.transcript (λ text. IsTranscript names lines guests history (string_bytes text))
   pub counted : EndsCounted (disk first.store) after run.run.fault run.run.closed
   pub faults : FaultsAreTold (all_told guests) (failed_by run.run.closed) (disk first.store).files (disk first.store).failed_changes after.failed_reads after.failed_changes
+  pub unread : AllByRecursion (λ fault. fault.file < (disk first.store).files) (all_unread guests)
+  pub unread_is : run.unread ≡ length (all_unread guests)
   pub full : Option ℕ
   pub ends : AllByRecursion (IsEndTold (IsUpTo full)) (all_told guests)
   pub under_way : Bool

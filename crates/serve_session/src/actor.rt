@@ -2,23 +2,25 @@
 
 ghost use Rattle.std.specs.Prelude.{◌≡◌, ◌+◌, ◌*◌, ◌<◌, ◌≤◌, ◌^◌, ◌++◌, ◌∷◌, ℕ, List, false, if◌then◌else◌, length, map, nat_lt, take, [], IfOk, OnOk};
 ghost use Rattle.chain_core.specs.declared.chain.Chain.{Chain};
+ghost use Rattle.guest_io.specs.Guests.{HaveReaders};
 ghost use Rattle.shared_chain.specs.Seats.{IsFree};
 ghost use Rattle.guest_model.specs.declared.recorder.KeepAll.{KeepAll};
-ghost use Rattle.script.specs.Transcript.{outcome_of};
+ghost use Rattle.script.specs.Transcript.{outcome_of as line_outcome};
 ghost use Rattle.script.specs.declared.form.Form.{Form as FormValue};
 ghost use Rattle.serve_session.specs.Actors.{HasRun, IsActor, called_form};
-ghost use Rattle.serve_session.specs.Asking.{is_want, outcome_of as guest_outcome, place_in, said_in, shown_in};
-ghost use Rattle.serve_session.specs.Served.{told_call};
+ghost use Rattle.serve_session.specs.Asking.{is_want, outcome_of, place_in, read_as, said_of, shown_in, with_answer, with_read};
+ghost use Rattle.serve_session.specs.Served.{as_line, told_call};
 
 use crate::calls::{MOST_MOVED, SECTOR, call};
-use guest_io::{Guest, ReaderSet};
+use guest_io::{Guest, Placed};
 use guest_model::ChainRefusal;
+use read_plan::ReaderSet;
 use script::{Answer, Form, Line, Text, ToldCall, push_answered};
 use shared_chain::SharedChain;
 use std::alloc::Global;
 use std::convert::AsStr;
 use std::sync::Wait;
-use store_model::{Gate, Store};
+use store_model::{Gate, Store, StoreFault};
 use turn_lock::{Seat, TurnLock};
 use vx_base::NoRoom;
 
@@ -33,14 +35,17 @@ pub struct Actor<S: Store> {
     room: Vec<u8>,
     // what it was told, call by call
     told: Vec<ToldCall>,
+    // how many of its reads stand in the history and failed by a reader
+    unread: u64,
     // memory ran out, in a call or for its text, and no further line was run
     is_short: bool,
 }
 
-/// What a guest leaves: what it was told, and whether memory ran out.
+/// What a guest leaves: what it was told, how many of its reads failed by a reader, and whether memory ran out.
 #[derive(Drop)]
 pub struct Left {
     pub told: Vec<ToldCall>,
+    pub unread: u64,
     pub is_short: bool,
 }
 
@@ -56,25 +61,59 @@ fn read_bytes(room: &[u8], count: u64) -> &[u8]
     }
 }
 
-// What a call was told.
-fn said(form: Form, answer: Result<u64, ChainRefusal>, room: &[u8]) -> Answer<'_>
+// What a call was told that stands in the history.
+fn said_of_read(form: Form, read: Result<(), StoreFault>, room: &[u8]) -> Answer<'_>
     requires { length room.now ≡ 1048576 }
-    ensures { outcome_of result ≡ said_in room.now form answer }
+    ensures { line_outcome result ≡ as_line (read_as (shown_in room.now form) read) }
 {
-    match (answer, form) {
-        (Ok(_), Form::Read { first: _, count }) => Answer::Bytes(read_bytes(room, count)),
-        (Ok(_), _) => Answer::Done,
-        (Err(refusal), _) => Answer::Refused(refusal),
+    match (read, form) {
+        (Ok(()), Form::Read { first: _, count }) => Answer::Bytes(read_bytes(room, count)),
+        (Ok(()), _) => Answer::Done,
+        (Err(fault), _) => Answer::Refused(ChainRefusal::ReadFault {
+            file: fault.file,
+            count: fault.count,
+        }),
+    }
+}
+
+// What a call was told.
+fn said(form: Form, answer: Result<Placed, ChainRefusal>, room: &[u8]) -> Answer<'_>
+    requires { length room.now ≡ 1048576 }
+    ensures { line_outcome result ≡ said_of (shown_in room.now form) answer }
+{
+    match answer {
+        Ok(placed) => said_of_read(form, placed.read, room),
+        Err(refusal) => Answer::Refused(refusal),
     }
 }
 
 // Where a call stands in the history, if it does.
-fn place(answer: Result<u64, ChainRefusal>) -> Option<u64>
+fn place(answer: Result<Placed, ChainRefusal>) -> Option<u64>
     ensures { result ≡ place_in answer }
 {
     match answer {
-        Ok(place) => Some(place),
+        Ok(placed) => Some(placed.place),
         Err(_) => None,
+    }
+}
+
+// One more read that failed by a reader, if this one did.
+fn with_read(unread: u64, read: Result<(), StoreFault>) -> u64
+    ensures { result ≡ with_read unread read }
+{
+    match read {
+        Ok(()) => unread,
+        Err(_) => unread.saturating_add(1),
+    }
+}
+
+// The same of a call.
+fn with_answer(unread: u64, answer: Result<Placed, ChainRefusal>) -> u64
+    ensures { result ≡ with_answer unread answer }
+{
+    match answer {
+        Ok(placed) => with_read(unread, placed.read),
+        Err(_) => unread,
     }
 }
 
@@ -83,11 +122,11 @@ fn told_call<N: AsStr>(
     alloc: Global,
     names: &[N],
     form: Form,
-    answer: Result<u64, ChainRefusal>,
+    answer: Result<Placed, ChainRefusal>,
     room: &[u8],
 ) -> Result<ToldCall, NoRoom>
     requires { length room.now ≡ 1048576 }
-    ensures { IfOk result (λ t. t ≡ told_call (map N.text names.now) form (guest_outcome (shown_in room.now form) answer)) }
+    ensures { IfOk result (λ t. t ≡ told_call (map N.text names.now) form (outcome_of (shown_in room.now form) answer)) }
 {
     let mut text = String::new(alloc);
     push_answered(&mut text, names, form, said(form, answer, room))?;
@@ -98,7 +137,7 @@ fn told_call<N: AsStr>(
 }
 
 // Memory ran out for a call.
-fn is_want(answer: Result<u64, ChainRefusal>) -> bool
+fn is_want(answer: Result<Placed, ChainRefusal>) -> bool
     ensures { result ≡ is_want answer }
 {
     match answer {
@@ -110,13 +149,14 @@ fn is_want(answer: Result<u64, ChainRefusal>) -> bool
 impl<S: Store> Actor<S> {
     /// A guest of this number, which has made no call.
     pub fn new(alloc: Global, guest: Guest<S>, number: u32, room: Vec<u8>) -> Actor<S>
-        ensures { (result.guest ≡ guest) × (result.number ≡ number) × (result.room ≡ room) × (result.told.items ≡ []) × (result.is_short ≡ false) }
+        ensures { (result.guest ≡ guest) × (result.number ≡ number) × (result.room ≡ room) × (result.told.items ≡ []) × (result.unread ≡ 0) × (result.is_short ≡ false) }
     {
         Actor {
             guest,
             number,
             room,
             told: Vec::new(alloc),
+            unread: 0,
             is_short: false,
         }
     }
@@ -127,11 +167,11 @@ impl<S: Store> Actor<S> {
         alloc: Global,
         names: &[N],
         form: Form,
-        answer: Result<u64, ChainRefusal>,
+        answer: Result<Placed, ChainRefusal>,
     ) -> Result<(), NoRoom>
         requires { length self.old.room.items ≡ 1048576 }
         ensures want { OnOk result (is_want answer ≡ false) }
-        ensures kept { OnOk result (self.new.told.items ≡ self.old.told.items ++ told_call (map N.text names.now) form (guest_outcome (shown_in self.old.room.items form) answer) ∷ []) }
+        ensures kept { OnOk result (self.new.told.items ≡ self.old.told.items ++ told_call (map N.text names.now) form (outcome_of (shown_in self.old.room.items form) answer) ∷ []) }
         ensures only { self.new ≡ record self.old { told = self.new.told } }
     {
         if is_want(answer) {
@@ -154,6 +194,8 @@ impl<S: Store> Actor<S> {
     )
         requires free { IsFree lock.now self.old.guest.seat }
         requires room { length self.old.room.items ≡ 1048576 }
+        requires readers { HaveReaders S.disk self.old.guest.seat.basis self.old.guest.readers }
+        ensures have { HaveReaders S.disk self.new.guest.seat.basis self.new.guest.readers }
         ensures free { IsFree lock.now self.new.guest.seat }
         ensures room { length self.new.room.items ≡ 1048576 }
         ensures number { self.new.number ≡ self.old.number }
@@ -171,6 +213,7 @@ impl<S: Store> Actor<S> {
             form,
             self.room.as_mut_slice(),
         );
+        self.unread = with_answer(self.unread, answer);
         if let Err(NoRoom) = self.keep(alloc, names, form, answer) {
             self.is_short = true;
         }
@@ -188,6 +231,7 @@ impl<S: Store> Actor<S> {
     )
         requires free { IsFree lock.now self.old.guest.seat }
         requires room { length self.old.room.items ≡ 1048576 }
+        requires readers { HaveReaders S.disk self.old.guest.seat.basis self.old.guest.readers }
         requires few { length lines.now ≤ 2 ^ 20 }
         ensures number { self.new.number ≡ self.old.number }
         ensures ran { (first : Chain S KeepAll S.R) → IsActor S.disk first lock.now (map N.text names.now) [] self.old
@@ -202,17 +246,22 @@ impl<S: Store> Actor<S> {
 
     /// Its seat and its readers, and what it leaves.
     pub fn end(self) -> (Seat<SharedChain<S>>, ReaderSet<S::R>, Left)
-        ensures { (result.0 ≡ self.guest.seat) × (result.2.told ≡ self.told) × (result.2.is_short ≡ self.is_short) }
+        ensures { (result.0 ≡ self.guest.seat) × (result.2.told ≡ self.told) × (result.2.unread ≡ self.unread) × (result.2.is_short ≡ self.is_short) }
     {
         let Actor {
             guest,
             number: _,
             room: _,
             told,
+            unread,
             is_short,
         } = self;
         let (seat, readers) = guest.end();
-        let left = Left { told, is_short };
+        let left = Left {
+            told,
+            unread,
+            is_short,
+        };
         (seat, readers, left)
     }
 }

@@ -4,10 +4,12 @@
 
 mod actor;
 mod calls;
+mod fresh;
 mod merging;
+mod sealing;
 mod serving;
 mod session;
 
 pub use merging::{MergeRun, pieces_for, run_serve_leaf_merge, run_serve_merge};
 pub use serving::rooms_for;
-pub use session::run_serve;
+pub use session::{ServeRun, run_serve};

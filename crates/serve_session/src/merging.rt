@@ -11,14 +11,13 @@ ghost use Rattle.merge_plan.specs.Attached.{CanStart};
 ghost use Rattle.serve_session.specs.MergeServed.{HasRunServeLeafMerge, HasRunServeMerge};
 ghost use Rattle.serve_session.specs.Served.{guest_count};
 
-use crate::serving::{serve, unserved};
+use crate::fresh::serve_fresh;
 use chain_core::{Chain, MergeStartRefusal};
 use guest_model::{ChainRefusal, KeepAll};
 use link_rules::LinkedFile;
 use merge_core::Piece;
 use script::Line;
 use script_session::ScriptRun;
-use shared_chain::SharedChain;
 use std::alloc::Global;
 use std::convert::AsStr;
 use std::sync::Wait;
@@ -33,6 +32,8 @@ const STRIPE: u64 = 2_048;
 #[derive(Drop)]
 pub struct MergeRun {
     pub run: ScriptRun,
+    /// How many of the guests' reads stand in the history and failed by a reader.
+    pub unread: u64,
     /// Whether the merge was finished; else what stopped it at the end.
     pub merged: Result<(), ChainRefusal>,
 }
@@ -56,47 +57,6 @@ fn stripes_of(files: &[LinkedFile]) -> u32 {
             stripes.min(u64::from(u32::MAX)) as u32
         }
         None => 0,
-    }
-}
-
-// Serves the guests of a script over a chain whose session has begun with a merge, beside its workers.
-fn serve_merging<S: Store + Send, R: Threads + Wait + Sync, G: Gate + Sync, N: AsStr + Sync>(
-    rt: &R,
-    alloc: Global,
-    chain: Chain<S, KeepAll>,
-    names: &[N],
-    lines: &[Line],
-    rooms: Vec<Vec<u8>>,
-    stripes: u32,
-    pieces: Vec<Piece>,
-    last: &mut Piece,
-    gate: &G,
-) -> (S, MergeRun)
-where
-    S::R: Send,
-    requires sound { IsSound (session_of S.disk chain) }
-    requires under_way { has_merge chain.layers ≡ true }
-    requires fresh { (chain.events ≡ 0) × (chain.broken ≡ None) × (chain.recorder ≡ []) }
-    requires few { length lines.now ≤ 2 ^ 20 }
-    requires count { length rooms.items ≡ guest_count lines.now }
-    requires each { All (λ room. length room.items ≡ 1048576) rooms.items }
-    requires workers { length pieces.items ≤ 64 }
-    ensures { HasServed S.disk true chain (map N.text names.now) lines.now result.1 (S.disk result.0) }
-{
-    match SharedChain::new(alloc, chain, stripes) {
-        Ok(chain) => serve(
-            rt,
-            alloc,
-            chain,
-            names,
-            lines,
-            rooms,
-            stripes,
-            pieces,
-            Some(last),
-            gate,
-        ),
-        Err((store, closed)) => (store, unserved(closed)),
     }
 }
 
@@ -125,7 +85,7 @@ pub fn run_serve_merge<
     gate: &G,
 ) -> (S, Result<MergeRun, MergeStartRefusal>)
 where
-    S::R: Send,
+    S::R: Send + Drop,
     requires files { CanStart files.now (S.disk store) }
     requires few { length lines.now ≤ 2 ^ 20 }
     requires count { length rooms.items ≡ guest_count lines.now }
@@ -140,8 +100,17 @@ where
     let stripes = stripes_of(files);
     match Chain::start_merge(alloc, store, files, source, KeepAll::new(alloc), ids) {
         Ok(chain) => {
-            let (store, run) = serve_merging(
-                rt, alloc, chain, names, lines, rooms, stripes, pieces, last, gate,
+            let (store, run) = serve_fresh(
+                rt,
+                alloc,
+                chain,
+                names,
+                lines,
+                rooms,
+                stripes,
+                pieces,
+                Some(last),
+                gate,
             );
             (store, Ok(run))
         }
@@ -171,7 +140,7 @@ pub fn run_serve_leaf_merge<
     gate: &G,
 ) -> (S, Result<MergeRun, MergeStartRefusal>)
 where
-    S::R: Send,
+    S::R: Send + Drop,
     requires files { CanStart files.now (S.disk store) }
     requires parent { 2 ≤ length files.now }
     requires few { length lines.now ≤ 2 ^ 20 }
@@ -187,8 +156,17 @@ where
     let stripes = stripes_of(files);
     match Chain::start_leaf_merge(alloc, store, files, KeepAll::new(alloc), ids) {
         Ok(chain) => {
-            let (store, run) = serve_merging(
-                rt, alloc, chain, names, lines, rooms, stripes, pieces, last, gate,
+            let (store, run) = serve_fresh(
+                rt,
+                alloc,
+                chain,
+                names,
+                lines,
+                rooms,
+                stripes,
+                pieces,
+                Some(last),
+                gate,
             );
             (store, Ok(run))
         }

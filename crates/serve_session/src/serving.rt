@@ -6,24 +6,23 @@ ghost use Rattle.std.specs.Fork.{AcceptsEach};
 ghost use Rattle.serve_session.specs.Beside.{WasCalledAt};
 ghost use Rattle.chain_core.specs.declared.chain.Chain.{Chain};
 ghost use Rattle.guest_model.specs.declared.recorder.KeepAll.{KeepAll};
-ghost use Rattle.shared_chain.specs.Bases.{Contains, together};
 ghost use Rattle.shared_chain.specs.Seats.{IsFree};
 ghost use Rattle.seats.specs.Families.{newborn};
 ghost use Rattle.serve_session.specs.Actors.{AreJoined, HasRun};
 ghost use Rattle.script.specs.Transcript.{IsTold, serve_text};
 ghost use Rattle.serve_session.specs.Lists.{AreActors, AreFresh, CanWork, HasDone, HasJoined, IsFreshWorker, IsReady, RunsEach, WorkersJoin, WorksEach, with_splits};
 ghost use Rattle.serve_session.specs.Served.{greatest_from, guest_count};
+ghost use Rattle.serve_session.specs.Sealing.{IsSetFor};
 ghost use Rattle.serve_session.specs.Serving.{EndsAs, HasBegun, HasServed, IsShared};
-ghost use Rattle.turn_lock.specs.Histories.{StartsWith};
-ghost use Rattle.turn_lock.specs.Seats.{together_of};
 
 use crate::actor::{Actor, Left as GuestLeft, ROOM_LEN};
 use crate::merging::MergeRun;
 use claims::{ClaimSeat, Claims};
 use copy_workers::Worker;
-use guest_io::{Guest, ReaderSet};
+use guest_io::Guest;
 use guest_model::{ChainRefusal, KeepAll};
 use merge_core::Piece;
+use read_plan::{Plan, Readers};
 use script::{Line, ToldCalls, serve_text};
 use script_session::ScriptRun;
 use shared_chain::SharedChain;
@@ -84,57 +83,41 @@ pub fn rooms_for(alloc: Global, lines: &[Line]) -> Result<Vec<Vec<u8>>, AllocErr
     rooms(alloc, guest_count(lines))
 }
 
-// Joins a seat, whose guest let its readers go.
-fn join<S: Store>(
-    lock: &TurnLock<SharedChain<S>>,
-    first: &mut Seat<SharedChain<S>>,
-    seat: Seat<SharedChain<S>>,
-    readers: ReaderSet<S::R>,
-)
-    requires own { (first.old.lock ≡ lock.now) × (seat.lock ≡ lock.now) }
-    requires free { (first.old.turn ≡ None) × (seat.turn ≡ None) }
-    requires first { first.old.family.is_first ≡ true }
-    ensures both { first.new ≡ together_of together first.old seat }
-    ensures seen { StartsWith first.new.seen first.old.seen × StartsWith first.new.seen seat.seen }
-    ensures basis { Contains first.new.basis first.old.basis × Contains first.new.basis seat.basis }
-{
-    readers.end();
-    lock.join(first, seat);
-}
-
-// A guest with no readers, of which there are none.
-fn guest_with<S: Store>(alloc: Global, seat: Seat<SharedChain<S>>, number: u32) -> Guest<S>
-    ensures { (result.seat ≡ seat) × (result.number ≡ number) × (result.next ≡ 1) }
-{
-    match Guest::new(alloc, seat, ReaderSet::none(), number) {
-        Ok(guest) => guest,
-        Err(_) => unreachable!(),
-    }
-}
-
-// An actor for each room, with a seat of its own, the last guest first; there is room for them.
+// An actor for each room, with a seat, readers and a plan of its own, the last guest first; there is room for them.
 fn add_actors<S: Store>(
     alloc: Global,
     lock: &TurnLock<SharedChain<S>>,
     first: &mut Seat<SharedChain<S>>,
     rooms: &mut Vec<Vec<u8>>,
+    sets: &mut Readers<S::R>,
+    plans: &mut Vec<Plan>,
     actors: &mut Vec<Actor<S>>,
+    chain: &Snapshot<SharedChain<S>>,
 )
     requires free { IsFree lock.now first.old }
     requires leads { first.old.family.is_first ≡ true }
     requires splits { first.old.family.splits ≡ 0 }
     requires few { length rooms.old.items ≤ 64 }
     requires each { All (λ room. length room.items ≡ 1048576) rooms.old.items }
+    requires count { length sets.old ≡ length rooms.old.items }
+    requires sets { All (IsSetFor S.disk chain.now.value.first) sets.old }
+    requires plans { length plans.old.items ≡ length rooms.old.items }
     requires none { actors.old.items ≡ [] }
     requires reserved { length rooms.old.items ≤ vec_capacity actors.old }
     ensures seat { first.new ≡ with_splits first.old (length rooms.old.items) }
-    ensures fresh { AreFresh first.old (length rooms.old.items) actors.new.items }
+    ensures fresh { AreFresh (IsSetFor S.disk chain.now.value.first) first.old (length rooms.old.items) actors.new.items }
     ensures count { length actors.new.items ≡ length rooms.old.items }
 {
     while let Some(room) = rooms.pop() {
         let number = rooms.len() as u32 + 1;
+        let Some(readers) = sets.take() else {
+            unreachable!();
+        };
+        let Some(plan) = plans.pop() else {
+            unreachable!();
+        };
         let seat = lock.split(first);
-        let guest = guest_with(alloc, seat, number);
+        let guest = Guest::new(seat, readers, plan, number);
         actors.push_reserved(Actor::new(alloc, guest, number, room));
     }
 }
@@ -164,7 +147,13 @@ fn beside<
     join_mut(rt, &mut one, &mut other);
 }
 
-// Joins the seats of all actors, and keeps what they leave, of the first guest first; there is room for it. Answers whether memory ran out.
+// What all guests leave beside what they were told: how many of their reads failed by a reader, and whether memory ran out.
+struct Totals {
+    unread: u64,
+    is_short: bool,
+}
+
+// Joins the seats of all actors, and keeps what they leave, of the first guest first; there is room for it.
 fn end_actors<S: Store, N: AsStr>(
     lock: &TurnLock<SharedChain<S>>,
     first: &mut Seat<SharedChain<S>>,
@@ -173,26 +162,33 @@ fn end_actors<S: Store, N: AsStr>(
     chain: &Snapshot<SharedChain<S>>,
     names: &[N],
     lines: &[Line],
-) -> bool
+) -> Totals
+where
+    S::R: Drop,
     requires joined { AreJoined S.disk chain.now.value.first false lock.now (map N.text names.now) lines.now first.old told.old.items false [] }
     requires ran { AreActors (HasRun S.disk chain.now.value.first lock.now (map N.text names.now) lines.now) (length actors.old.items) actors.old.items }
     requires few { length lines.now ≤ 2 ^ 20 }
+    requires guests { length actors.old.items ≤ 64 }
     requires reserved { length actors.old.items ≤ vec_capacity told.old }
-    ensures joined { HasJoined S.disk false chain.now.value.first lock.now (map N.text names.now) lines.now (length actors.old.items) first.old first.new told.new.items result }
+    ensures joined { HasJoined S.disk false chain.now.value.first lock.now (map N.text names.now) lines.now (length actors.old.items) first.old first.new told.new.items result.is_short
+        result.unread }
     ensures none { actors.new.items ≡ [] }
 {
+    let mut unread = 0;
     let mut is_short = false;
     while let Some(actor) = actors.pop() {
-        let (seat, readers, left) = actor.end();
-        join(lock, first, seat, readers);
+        let (seat, _, left) = actor.end();
+        lock.join(first, seat);
         let GuestLeft {
             told: calls,
+            unread: more,
             is_short: short,
         } = left;
+        unread += more;
         is_short = is_short || short;
         told.push_reserved(ToldCalls::from_vec(calls));
     }
-    is_short
+    Totals { unread, is_short }
 }
 
 // The transcript of a script of which all calls were made, if memory didn't run out.
@@ -253,8 +249,8 @@ fn run_beside<S: Store + Send, R: Threads + Wait + Sync, G: Gate + Sync, N: AsSt
     workers: &mut [Worker<S>],
 )
 where
-    S::R: Send,
-    requires guests { All (IsReady lock.now) actors.old }
+    S::R: Send + Drop,
+    requires guests { All (IsReady S.disk lock.now) actors.old }
     requires workers { All (CanWork lock.now claims.now) workers.old }
     requires few { length lines.now ≤ 2 ^ 20 }
     ensures guests { RunsEach S.disk lock.now (map N.text names.now) lines.now actors.old actors.new }
@@ -294,20 +290,23 @@ fn end_workers<S: Store>(
     }
 }
 
-// What threads left of a chain that they shared: the chain, what each guest was told, and whether memory ran out.
+// What threads left of a chain that they shared: the chain, what each guest was told, how many of the guests' reads failed by a reader, and
+// whether memory ran out.
 struct Left<S: Store> {
     chain: SharedChain<S>,
     told: Vec<ToldCalls>,
+    unread: u64,
     is_short: bool,
 }
 
 // A chain that wasn't shared, as memory ran out for it.
 fn unshared<S: Store>(alloc: Global, chain: SharedChain<S>) -> Left<S>
-    ensures { (result.chain ≡ chain) × (result.told.items ≡ []) × (result.is_short ≡ true) }
+    ensures { (result.chain ≡ chain) × (result.told.items ≡ []) × (result.unread ≡ 0) × (result.is_short ≡ true) }
 {
     Left {
         chain,
         told: Vec::new(alloc),
+        unread: 0,
         is_short: true,
     }
 }
@@ -336,7 +335,18 @@ fn reserved<S: Store>(
     Some((actors, hands, told))
 }
 
-// Shares a chain among guests, and among a worker for each piece.
+// A plan for the reads of each of so many guests.
+fn plans_for(alloc: Global, guests: usize) -> Result<Vec<Plan>, NoRoom>
+    ensures { IfOk result (λ plans. length plans.items ≡ guests) }
+{
+    let mut plans = Vec::new(alloc);
+    for _ in 0..guests {
+        plans.push(Plan::new(alloc)?)?;
+    }
+    Ok(plans)
+}
+
+// Shares a chain among guests, each of which gets a set of readers, and among a worker for each piece.
 fn share<S: Store + Send, R: Threads + Wait + Sync, G: Gate + Sync, N: AsStr + Sync>(
     rt: &R,
     alloc: Global,
@@ -344,24 +354,30 @@ fn share<S: Store + Send, R: Threads + Wait + Sync, G: Gate + Sync, N: AsStr + S
     names: &[N],
     lines: &[Line],
     rooms: Vec<Vec<u8>>,
+    sets: Readers<S::R>,
     stripes: u32,
     pieces: Vec<Piece>,
     gate: &G,
 ) -> Left<S>
 where
-    S::R: Send,
+    S::R: Send + Drop,
     requires begun { HasBegun S.disk chain }
     requires few { length lines.now ≤ 2 ^ 20 }
     requires count { length rooms.items ≡ guest_count lines.now }
     requires each { All (λ room. length room.items ≡ 1048576) rooms.items }
+    requires sets { (length sets ≡ length rooms.items) × All (IsSetFor S.disk chain.first) sets }
     requires workers { length pieces.items ≤ 64 }
-    ensures alone { length pieces.items ≡ 0 → IsShared S.disk false chain (map N.text names.now) lines.now result.chain result.told.items result.is_short }
-    ensures beside { IsShared S.disk true chain (map N.text names.now) lines.now result.chain result.told.items result.is_short }
+    ensures alone { length pieces.items ≡ 0 → IsShared S.disk false chain (map N.text names.now) lines.now result.chain result.told.items result.is_short result.unread }
+    ensures beside { IsShared S.disk true chain (map N.text names.now) lines.now result.chain result.told.items result.is_short result.unread }
 {
     let mut rooms = rooms;
+    let mut sets = sets;
     let mut pieces = pieces;
     let was = Snapshot::of(&chain);
     let Ok((claims, mut claim)) = Claims::new(alloc, stripes) else {
+        return unshared(alloc, chain);
+    };
+    let Ok(mut plans) = plans_for(alloc, rooms.len()) else {
         return unshared(alloc, chain);
     };
     let Some((mut actors, mut workers, mut told)) = reserved(alloc, rooms.len(), pieces.len())
@@ -376,7 +392,16 @@ where
             return unshared(alloc, chain);
         }
     };
-    add_actors(alloc, &lock, &mut first, &mut rooms, &mut actors);
+    add_actors(
+        alloc,
+        &lock,
+        &mut first,
+        &mut rooms,
+        &mut sets,
+        &mut plans,
+        &mut actors,
+        &was,
+    );
     add_workers(
         &lock,
         &mut first,
@@ -387,7 +412,7 @@ where
     );
     let (guests, hands) = (actors.as_mut_slice(), workers.as_mut_slice());
     run_beside(rt, alloc, &lock, gate, names, lines, guests, &claims, hands);
-    let is_short = end_actors(
+    let Totals { unread, is_short } = end_actors(
         &lock,
         &mut first,
         &mut actors,
@@ -403,6 +428,7 @@ where
     Left {
         chain,
         told,
+        unread,
         is_short,
     }
 }
@@ -430,25 +456,30 @@ pub(crate) fn serve<S: Store + Send, R: Threads + Wait + Sync, G: Gate + Sync, N
     names: &[N],
     lines: &[Line],
     rooms: Vec<Vec<u8>>,
+    sets: Readers<S::R>,
     stripes: u32,
     pieces: Vec<Piece>,
     last: Option<&mut Piece>,
     gate: &G,
 ) -> (S, MergeRun)
 where
-    S::R: Send,
+    S::R: Send + Drop,
     requires begun { HasBegun S.disk chain }
     requires few { length lines.now ≤ 2 ^ 20 }
     requires count { length rooms.items ≡ guest_count lines.now }
     requires each { All (λ room. length room.items ≡ 1048576) rooms.items }
+    requires sets { (length sets ≡ length rooms.items) × All (IsSetFor S.disk chain.first) sets }
     requires workers { length pieces.items ≤ 64 }
     requires alone { is_some last ≡ false → length pieces.items ≡ 0 }
     ensures { HasServed S.disk (is_some last.entry) chain.first (map N.text names.now) lines.now result.1 (S.disk result.0) }
 {
-    let left = share(rt, alloc, chain, names, lines, rooms, stripes, pieces, gate);
+    let left = share(
+        rt, alloc, chain, names, lines, rooms, sets, stripes, pieces, gate,
+    );
     let Left {
         mut chain,
         told,
+        unread,
         is_short,
     } = left;
     let merged = end_merge(&mut chain, last);
@@ -459,23 +490,30 @@ where
         fault,
         closed,
     };
-    (store, MergeRun { run, merged })
+    let run = MergeRun {
+        run,
+        unread,
+        merged,
+    };
+    (store, run)
 }
 
-/// What is told where memory ran out before the chain could be shared, and its session ended so.
-pub(crate) fn unserved(closed: Result<(), StoreFault>) -> MergeRun
+/// What is told where a read failed by this fault, or memory ran out, before the chain could be shared, and its session ended so.
+pub(crate) fn unserved(met: Option<StoreFault>, closed: Result<(), StoreFault>) -> MergeRun
     ensures transcript { IfOk result.run.transcript (λ text. ⊥) }
-    ensures fault { result.run.fault ≡ None }
+    ensures fault { result.run.fault ≡ met }
+    ensures unread { result.unread ≡ 0 }
     ensures closed { result.run.closed ≡ closed }
     ensures merged { result.merged ≡ Err ChainRefusal.NoRoom }
 {
     let run = ScriptRun {
         transcript: Err(NoRoom),
-        fault: None,
+        fault: met,
         closed,
     };
     MergeRun {
         run,
+        unread: 0,
         merged: Err(ChainRefusal::NoRoom),
     }
 }

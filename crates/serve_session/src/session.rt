@@ -7,18 +7,25 @@ ghost use Rattle.merge_plan.specs.Attached.{CanStart};
 ghost use Rattle.serve_session.specs.Running.{HasRunServe};
 ghost use Rattle.serve_session.specs.Served.{guest_count};
 
-use crate::serving::{serve, unserved};
+use crate::fresh::serve_fresh;
 use chain_core::{Chain, Mode, StartRefusal};
 use guest_model::KeepAll;
 use link_rules::LinkedFile;
 use script::Line;
 use script_session::ScriptRun;
-use shared_chain::SharedChain;
 use std::alloc::Global;
 use std::convert::AsStr;
 use std::sync::Wait;
 use std::thread::Threads;
 use store_model::{Gate, Ids, Store};
+
+/// What a script's session with several guests gave.
+#[derive(Drop)]
+pub struct ServeRun {
+    pub run: ScriptRun,
+    /// How many of the guests' reads stand in the history and failed by a reader.
+    pub unread: u64,
+}
 
 /// Runs a script of `serve` in a session over the files of a chain, each guest's calls in the script's order and in a thread of its own
 /// where one can be made, and ends the session. The store comes back, whatever is answered. The names are those of the files, from the leaf
@@ -39,9 +46,9 @@ pub fn run_serve<
     lines: &[Line],
     rooms: Vec<Vec<u8>>,
     gate: &G,
-) -> (S, Result<ScriptRun, StartRefusal>)
+) -> (S, Result<ServeRun, StartRefusal>)
 where
-    S::R: Send,
+    S::R: Send + Drop,
     requires files { CanStart files.now (S.disk store) }
     requires few { length lines.now ≤ 2 ^ 20 }
     requires count { length rooms.items ≡ guest_count lines.now }
@@ -58,9 +65,10 @@ where
         Err((store, refusal)) => return (store, Err(refusal)),
     };
     let none = Vec::new(alloc);
-    let (store, served) = match SharedChain::new(alloc, chain, 0) {
-        Ok(chain) => serve(rt, alloc, chain, names, lines, rooms, 0, none, None, gate),
-        Err((store, closed)) => (store, unserved(closed)),
+    let (store, served) = serve_fresh(rt, alloc, chain, names, lines, rooms, 0, none, None, gate);
+    let run = ServeRun {
+        run: served.run,
+        unread: served.unread,
     };
-    (store, Ok(served.run))
+    (store, Ok(run))
 }

@@ -18,10 +18,7 @@ pub const BASE: &str = "make dynamic b.vhdx --sectors 2097152";
 
 pub const CHILD: &str = "make child c.vhdx --parent b.vhdx";
 
-/// The line of a look at the disk.
-pub const LOOK: &str = "steps c.vhdx --read-only";
-
-/// What a session with a merge draws, at most.
+/// What a session over a chain that was made draws, at most.
 pub const DRAWN: [[u8; 16]; 8] = [
     [0x11; 16], [0x12; 16], [0x13; 16], [0x14; 16], [0x15; 16], [0x16; 16], [0x17; 16], [0x18; 16],
 ];
@@ -139,6 +136,54 @@ pub fn script_done<R: Abort + Threads + Wait + Sync>(
     }
 }
 
+/// Runs lines with their scripts, which are all done.
+pub fn prepare<R: Abort + Threads + Wait + Sync>(
+    rt: &R,
+    alloc: Global,
+    lines: &[(&str, &str)],
+    host: &mut MemHost,
+    ids: &mut MemIds,
+)
+    requires { WhereTold (hosted_by host.old).folder AllIdle }
+    ensures { WhereTold (hosted_by host.new).folder AllIdle }
+{
+    for (line, script) in lines {
+        script_done(rt, alloc, line, script, host, ids);
+    }
+}
+
+/// A host of what these lines make.
+pub fn made<R: Abort + Threads + Wait + Sync>(
+    rt: &R,
+    alloc: Global,
+    lines: &[(&str, &str)],
+) -> MemHost
+    ensures { WhereTold (hosted_by result).folder AllIdle }
+{
+    let mut host = empty_host(alloc);
+    let mut ids = ids_of(rt, alloc, &[]);
+    prepare(rt, alloc, lines, &mut host, &mut ids);
+    host
+}
+
+// Puts one more file, of a new name, into the host.
+fn add_named<R: Abort>(rt: &R, host: &mut MemHost, name: &Name, bytes: &[u8])
+    requires { WhereTold (hosted_by host.old).folder AllIdle }
+    ensures { WhereTold (hosted_by host.new).folder AllIdle }
+{
+    host.put(name, bytes).expect(rt, "no room");
+}
+
+/// The same of a file that another host has.
+pub fn add_from<R: Abort>(rt: &R, alloc: Global, host: &mut MemHost, other: &MemHost, name: &str)
+    requires { WhereTold (hosted_by host.old).folder AllIdle }
+    ensures { WhereTold (hosted_by host.new).folder AllIdle }
+{
+    let bytes = bytes_of(other, name).expect(rt, "no file");
+    let name = Name::new(alloc, name).expect(rt, "no name");
+    add_named(rt, host, &name, bytes);
+}
+
 /// The bytes of the file of this name.
 pub fn bytes_of<'a>(host: &'a MemHost, name: &str) -> Option<&'a [u8]> {
     for slot in &host.slots {
@@ -173,75 +218,6 @@ pub fn is_one_of(text: &[u8], texts: &[&str]) -> bool {
     false
 }
 
-// Puts one more file, of a new name, into the host.
-fn add_named<R: Abort>(rt: &R, host: &mut MemHost, name: &Name, bytes: &[u8])
-    requires { WhereTold (hosted_by host.old).folder AllIdle }
-    ensures { WhereTold (hosted_by host.new).folder AllIdle }
-{
-    host.put(name, bytes).expect(rt, "no room");
-}
-
-/// The same of a name that is a text.
-pub fn add<R: Abort>(rt: &R, alloc: Global, host: &mut MemHost, name: &str, bytes: &[u8])
-    requires { WhereTold (hosted_by host.old).folder AllIdle }
-    ensures { WhereTold (hosted_by host.new).folder AllIdle }
-{
-    let name = Name::new(alloc, name).expect(rt, "no name");
-    add_named(rt, host, &name, bytes);
-}
-
-/// Runs lines with their scripts, which are all done.
-pub fn prepare<R: Abort + Threads + Wait + Sync>(
-    rt: &R,
-    alloc: Global,
-    lines: &[(&str, &str)],
-    host: &mut MemHost,
-    ids: &mut MemIds,
-)
-    requires { WhereTold (hosted_by host.old).folder AllIdle }
-    ensures { WhereTold (hosted_by host.new).folder AllIdle }
-{
-    for (line, script) in lines {
-        script_done(rt, alloc, line, script, host, ids);
-    }
-}
-
-/// What a line with a script prints, which is done.
-pub fn printed<R: Abort + Threads + Wait + Sync>(
-    rt: &R,
-    alloc: Global,
-    line: &str,
-    script: &str,
-    host: &mut MemHost,
-) -> MemSink
-    requires { WhereTold (hosted_by host.old).folder AllIdle }
-    ensures { WhereTold (hosted_by host.new).folder AllIdle }
-{
-    let mut ids = ids_of(rt, alloc, &[]);
-    script_done(rt, alloc, line, script, host, &mut ids)
-}
-
-/// Whether this is what was printed.
-pub fn says(out: &MemSink, text: &str) -> bool {
-    out.bytes.as_slice() == text.as_bytes()
-}
-
-/// Asks that this was printed.
-pub fn ask_text<R: Abort>(rt: &R, out: &MemSink, text: &str) {
-    assert!(rt; says(out, text), "{text}");
-}
-
-/// What was printed.
-pub fn text_of<'a, R: Abort>(rt: &R, out: &'a MemSink) -> &'a str {
-    std::str::from_utf8(out.bytes.as_slice()).expect(rt, "no text")
-}
-
-/// A copy of the file of this name; nothing where there is none.
-pub fn copy_of<R: Abort>(rt: &R, alloc: Global, host: &MemHost, name: &str) -> Vec<u8> {
-    let bytes = bytes_of(host, name).unwrap_or(&[]);
-    bytes.to_vec(alloc).expect(rt, "no memory")
-}
-
 /// The lines of a transcript that a guest's calls have.
 pub fn lines_of(text: &str, guest: u64) -> u64 {
     let mut lines = 0u64;
@@ -265,10 +241,4 @@ pub fn caller_of(line: &str) -> Option<(u64, u64)> {
     let guest = words.next()?.parse::<u64>().ok()?;
     let number = words.next()?.parse::<u64>().ok()?;
     Some((guest, number))
-}
-
-/// The line that serves guests beside a merge.
-pub fn serve_line<R: Abort>(rt: &R, alloc: Global, workers: u32, name: &str) -> String {
-    let line = format!(in alloc; "serve c.vhdx --workers {workers} --merge {name}");
-    line.expect(rt, "no memory")
 }

@@ -8,10 +8,6 @@ mod failing;
 #[cfg(test)]
 mod many;
 #[cfg(test)]
-mod merge_failing;
-#[cfg(test)]
-mod merges;
-#[cfg(test)]
-mod ranges;
-#[cfg(test)]
 mod rows;
+#[cfg(test)]
+mod sealed;

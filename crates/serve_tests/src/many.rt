@@ -5,8 +5,7 @@ ghost use Rattle.mem_store.specs.HostTold.{hosted_by};
 ghost use Rattle.store_model.specs.Disk.{WhereTold};
 
 use crate::common::{
-    BASE, DRAWN, LOOK, ask, ask_at, ask_text, caller_of, empty_host, ids_of, prepare, printed,
-    script_done, serve_line, text_of,
+    BASE, DRAWN, ask, ask_at, caller_of, empty_host, ids_of, is_one_of, script_done,
 };
 use mem_store::MemHost;
 use std::alloc::Global;
@@ -22,6 +21,9 @@ const CALLS: u64 = 500;
 const SECTORS: u64 = 24;
 
 const FIRST: u64 = 2_040;
+
+// The line of a look at the disk behind a merge.
+const LOOK: &str = "steps c.vhdx --read-only";
 
 // What a call does.
 #[derive(Clone, Copy)]
@@ -40,23 +42,80 @@ struct Call {
     count: u64,
 }
 
-// The call of this number of a guest, both counted from 1.
-fn call_of(guest: u64, number: u64) -> Call {
-    let mixed = guest
+// Which calls the guests make.
+#[derive(Clone, Copy)]
+pub enum Crowd {
+    /// Each guest makes calls of all kinds.
+    Mixed,
+    /// The first half of the guests read, and the others change the upper half of the sectors.
+    Apart,
+}
+
+// A number that looks drawn, of a guest's call, both counted from 1.
+fn drawn_of(guest: u64, number: u64) -> u64 {
+    guest
         .wrapping_mul(2_654_435_761)
         .wrapping_add(number.wrapping_mul(40_503))
         .wrapping_mul(0x9E37_79B9_7F4A_7C15)
-        >> 32;
-    let kind = match mixed % 16 {
+        >> 32
+}
+
+// The byte that a write has which is made of such a number.
+fn byte_of(drawn: u64) -> u8 {
+    (drawn >> 8 & 0xFF) as u8 | 1
+}
+
+// The call of any kind that is made of it.
+fn any_call(drawn: u64) -> Call {
+    let kind = match drawn % 16 {
         0 => Kind::Flush,
         1 | 2 => Kind::Trim,
-        3..8 => Kind::Write((mixed >> 8 & 0xFF) as u8 | 1),
+        3..8 => Kind::Write(byte_of(drawn)),
         _ => Kind::Read,
     };
     Call {
         kind,
-        first: FIRST.wrapping_add((mixed >> 4) % SECTORS),
-        count: (mixed >> 12) % 4 + 1,
+        first: FIRST.wrapping_add((drawn >> 4) % SECTORS),
+        count: (drawn >> 12) % 4 + 1,
+    }
+}
+
+// The read that is made of it.
+fn read_call(drawn: u64) -> Call {
+    Call {
+        kind: Kind::Read,
+        first: FIRST.wrapping_add((drawn >> 4) % SECTORS),
+        count: (drawn >> 12) % 4 + 1,
+    }
+}
+
+// The change of the upper half of the sectors that is made of it.
+fn change_call(drawn: u64) -> Call {
+    let kind = match drawn % 16 {
+        0 => Kind::Flush,
+        1 | 2 => Kind::Trim,
+        _ => Kind::Write(byte_of(drawn)),
+    };
+    let half = SECTORS / 2;
+    Call {
+        kind,
+        first: FIRST.wrapping_add(half).wrapping_add((drawn >> 4) % half),
+        count: (drawn >> 12) % 4 + 1,
+    }
+}
+
+// The call of this number of a guest, both counted from 1.
+fn call_of(crowd: Crowd, guest: u64, number: u64) -> Call {
+    let drawn = drawn_of(guest, number);
+    match crowd {
+        Crowd::Mixed => any_call(drawn),
+        Crowd::Apart => {
+            if guest <= GUESTS / 2 {
+                read_call(drawn)
+            } else {
+                change_call(drawn)
+            }
+        }
     }
 }
 
@@ -72,13 +131,14 @@ fn words_of<R: Abort>(rt: &R, alloc: Global, call: Call) -> String {
     words.expect(rt, "no memory")
 }
 
-// The script: a call of each guest in turn.
-fn script_of<R: Abort>(rt: &R, alloc: Global, calls: u64) -> String {
+/// The script: a call of each guest in turn.
+pub fn script_of<R: Abort>(rt: &R, alloc: Global, crowd: Crowd, calls: u64) -> String {
     let mut script = String::new(alloc);
     for number in 0..calls {
         for guest in 0..GUESTS {
             let guest = guest.wrapping_add(1);
-            let words = words_of(rt, alloc, call_of(guest, number.wrapping_add(1)));
+            let call = call_of(crowd, guest, number.wrapping_add(1));
+            let words = words_of(rt, alloc, call);
             let line = format!(in alloc; "{guest} {words}\n").expect(rt, "no memory");
             script.push_str(&line).expect(rt, "no memory");
         }
@@ -86,9 +146,9 @@ fn script_of<R: Abort>(rt: &R, alloc: Global, calls: u64) -> String {
     script
 }
 
-// The byte that fills each sector.
+/// The byte that fills each sector.
 #[derive(Drop)]
-struct Model {
+pub struct Model {
     sectors: [u8; 32],
 }
 
@@ -153,9 +213,16 @@ fn push_run<R: Abort>(rt: &R, alloc: Global, text: &mut String, run: Option<(u8,
     }
 }
 
-// Asks that the lines are those of one history over a disk whose sectors are of a byte: by place, each guest's calls in their order, and each
-// told what the disk has there. Gives the disk behind it.
-fn judge<R: Abort>(rt: &R, alloc: Global, text: &str, calls: u64, byte: u8) -> Model {
+/// Asks that the lines are those of one history over a disk whose sectors are of a byte: by place, each guest's calls in their order, and each
+/// told what the disk has there. Gives the disk behind it.
+pub fn judge<R: Abort>(
+    rt: &R,
+    alloc: Global,
+    text: &str,
+    crowd: Crowd,
+    calls: u64,
+    byte: u8,
+) -> Model {
     let mut model = Model {
         sectors: [byte; 32],
     };
@@ -168,7 +235,7 @@ fn judge<R: Abort>(rt: &R, alloc: Global, text: &str, calls: u64, byte: u8) -> M
         let last = made.get_mut(slot as usize).expect(rt, "another guest");
         *last = last.wrapping_add(1);
         ask_at(rt, *last == number && number <= calls, place);
-        let call = call_of(guest, number);
+        let call = call_of(crowd, guest, number);
         let words = words_of(rt, alloc, call);
         let told = model.answer(rt, alloc, call);
         let wanted = format!(in alloc; "{place} {guest} {number} {words} ={told}");
@@ -182,7 +249,7 @@ fn judge<R: Abort>(rt: &R, alloc: Global, text: &str, calls: u64, byte: u8) -> M
 #[test]
 fn one_history(rt: HostRuntime) {
     let alloc = rt.alloc();
-    let script = script_of(&rt, alloc, CALLS);
+    let script = script_of(&rt, alloc, Crowd::Mixed, CALLS);
     let mut host = empty_host(alloc);
     let mut ids = ids_of(&rt, alloc, &[]);
     script_done(&rt, alloc, BASE, "", &mut host, &mut ids);
@@ -195,7 +262,7 @@ fn one_history(rt: HostRuntime) {
         &mut ids,
     );
     let text = std::str::from_utf8(out.bytes.as_slice()).expect(&rt, "no text");
-    judge(&rt, alloc, text, CALLS, 0);
+    judge(&rt, alloc, text, Crowd::Mixed, CALLS, 0);
 }
 
 // A chain of a larger disk. Its sectors that calls name are the middle file's, as are some stripes.
@@ -204,27 +271,25 @@ fn chain<R: Abort + Threads + Wait + Sync>(rt: &R, alloc: Global) -> MemHost
 {
     let mut host = empty_host(alloc);
     let mut ids = ids_of(rt, alloc, &[]);
-    let lines = [
-        ("make dynamic a.vhdx --sectors 65536 --block 1", ""),
-        ("make child b.vhdx --parent a.vhdx", ""),
-        (
-            "steps b.vhdx",
-            "write 2040 32 51\nwrite 20480 2048 52\nwrite 40960 2048 53\n",
-        ),
-        ("make child c.vhdx --parent b.vhdx", ""),
-    ];
-    prepare(rt, alloc, &lines, &mut host, &mut ids);
+    let dynamic = "make dynamic a.vhdx --sectors 65536 --block 1";
+    script_done(rt, alloc, dynamic, "", &mut host, &mut ids);
+    let child = "make child b.vhdx --parent a.vhdx";
+    script_done(rt, alloc, child, "", &mut host, &mut ids);
+    let script = "write 2040 32 51\nwrite 20480 2048 52\nwrite 40960 2048 53\n";
+    script_done(rt, alloc, "steps b.vhdx", script, &mut host, &mut ids);
+    let child = "make child c.vhdx --parent b.vhdx";
+    script_done(rt, alloc, child, "", &mut host, &mut ids);
     host
 }
 
-// Asks for one history beside a merge by so many workers, which ends with its disk.
-fn ask_history<R: Abort + Threads + Wait + Sync>(rt: &R, alloc: Global, workers: u32, name: &str) {
+// Asks for one history beside the merge of this line, which ends with its disk.
+fn ask_history<R: Abort + Threads + Wait + Sync>(rt: &R, alloc: Global, line: &str) {
     let mut host = chain(rt, alloc);
-    let script = script_of(rt, alloc, 16);
-    let line = serve_line(rt, alloc, workers, name);
+    let script = script_of(rt, alloc, Crowd::Mixed, 16);
     let mut ids = ids_of(rt, alloc, &DRAWN);
-    let out = script_done(rt, alloc, &line, &script, &mut host, &mut ids);
-    let model = judge(rt, alloc, text_of(rt, &out), 16, 0x51);
+    let out = script_done(rt, alloc, line, &script, &mut host, &mut ids);
+    let text = std::str::from_utf8(out.bytes.as_slice()).expect(rt, "no text");
+    let model = judge(rt, alloc, text, Crowd::Mixed, 16, 0x51);
     let all = Call {
         kind: Kind::Read,
         first: FIRST,
@@ -236,13 +301,18 @@ fn ask_history<R: Abort + Threads + Wait + Sync>(rt: &R, alloc: Global, workers:
     );
     let told = told.expect(rt, "no memory");
     let reads = "read 2040 32\nread 20480 2048\nread 40960 2048\n";
-    let out = printed(rt, alloc, LOOK, reads, &mut host);
-    ask_text(rt, &out, &told);
+    let mut ids = ids_of(rt, alloc, &[]);
+    let out = script_done(rt, alloc, LOOK, reads, &mut host, &mut ids);
+    let texts = [told.as_str()];
+    ask(rt, is_one_of(out.bytes.as_slice(), &texts), "another disk");
 }
 
 #[test]
 fn one_history_beside_a_merge(rt: HostRuntime) {
-    for (workers, name) in [(2u32, "c.vhdx"), (4, "b.vhdx")] {
-        ask_history(&rt, rt.alloc(), workers, name);
+    for line in [
+        "serve c.vhdx --workers 2 --merge c.vhdx",
+        "serve c.vhdx --workers 4 --merge b.vhdx",
+    ] {
+        ask_history(&rt, rt.alloc(), line);
     }
 }

@@ -33,7 +33,7 @@ use Rattle.shared_chain.specs.Notes.{NotesBy, full_after}
 use Rattle.shared_chain.proofs.Causing.{early_caused, reached_caused, same_place}
 use Rattle.shared_chain.proofs.Breaking.{none_broke}
 use Rattle.shared_chain.proofs.Filling.{stops_over}
-use Rattle.shared_chain.proofs.Homing.{replied, still_home}
+use Rattle.shared_chain.proofs.Homing.{still_home}
 use Rattle.shared_chain.proofs.Noting.{IsChange, noted}
 use Rattle.shared_chain.proofs.Reaching.{reached, reached_change_is}
 use Rattle.shared_chain.proofs.Refusals.{early, early_change, not_early}
@@ -168,24 +168,20 @@ module _ {S T : Type 0} (disk : S → Disk) (old new : Chain S KeepAll T) where
           pub called_as : (seen : Shared (Chain S KeepAll T)) → was ≡ seen → IsCalled disk who call seen now answer
           called_as seen is = subst (λ s. IsCalled disk who call s now answer) is called
 
-      -- and what a read found
-      pub found : (r : Reply) → OnOk answer (WhereTold before.disk.told (λ trace. (v : State) → IsServing old.layers v trace → reply (disk_now v) call ≡ r)) → OnOk answer (RepliesBehind disk first old.recorder call r)
-      found r h = go answer refl h
+      -- a call that was done found the session whole
+      whole : (place : ℕ) → answer ≡ Ok place → old.broken ≡ None
+      whole place is = by_cause (refused call before) refl
         where
-          whole : (place : ℕ) → answer ≡ Ok place → old.broken ≡ None
-          whole place is = by_cause (refused call before) refl
-            where
-              by_cause : (o : Option ChainRefusal) → refused call before ≡ o → old.broken ≡ None
-              by_cause None fit = (not_early call before fit).0
-              by_cause (Some x) never =
-                  let e = subst (λ o. IfSome o (λ x. (answer ≡ Err x) × (after ≡ record before { events = counted before.events }))) never a.early in
-                  absurd (ok_err (sym is ∙ e.0))
+          by_cause : (o : Option ChainRefusal) → refused call before ≡ o → old.broken ≡ None
+          by_cause None fit = (not_early call before fit).0
+          by_cause (Some x) never =
+              let e = subst (λ o. IfSome o (λ x. (answer ≡ Err x) × (after ≡ record before { events = counted before.events }))) never a.early in
+              absurd (ok_err (sym is ∙ e.0))
 
-          go : (r' : Result ℕ ChainRefusal) → answer ≡ r' → OnOk r' (WhereTold before.disk.told (λ trace. (v : State) → IsServing old.layers v trace → reply (disk_now v) call ≡ r)) → OnOk r' (RepliesBehind disk first old.recorder call r)
-          go (Ok place) is k = replied (session_of disk first) before old.recorder old_full broke fault call r home (whole place is) k
-          go (Err x) is k = tt
-
-      pub found_as : (r : Reply) (seen : Shared (Chain S KeepAll T)) → old ≡ seen.chain → first ≡ seen.first
-          → OnOk answer (WhereTold before.disk.told (λ trace. (v : State) → IsServing old.layers v trace → reply (disk_now v) call ≡ r)) → OnOk answer (RepliesBehind disk seen.first seen.chain.recorder call r)
-      found_as r seen is_old is_first h =
-          subst (λ k. OnOk answer (RepliesBehind disk k seen.chain.recorder call r)) is_first (subst (λ (k : Chain S KeepAll T). OnOk answer (RepliesBehind disk first k.recorder call r)) is_old (found r h))
+      -- and what is so of a whole session then is so where the call was done
+      pub where_done : {P Q : Type 0} → (old.broken ≡ None → P → Q) → OnOk answer P → OnOk answer Q
+      where_done {P} {Q} f h = go answer refl h
+        where
+          go : (r : Result ℕ ChainRefusal) → answer ≡ r → OnOk r P → OnOk r Q
+          go (Ok place) is h = f (whole place is) h
+          go (Err x) is h = tt

@@ -20,7 +20,7 @@ use Rattle.layer_session.proofs.Equal.{some_none}
 use Rattle.script_session.specs.Answers.{HasCauseOf}
 use Rattle.script_session.specs.Faults.{Counts}
 use Rattle.script_session.specs.Running.{IsEnded}
-use Rattle.shared_chain.specs.Faults.{AreCounted, CountsChange, EndsCounted, fault_after}
+use Rattle.shared_chain.specs.Faults.{CountsRead, AreCounted, CountsChange, EndsCounted, fault_after}
 use Rattle.shared_chain.proofs.Reaching.{leaf_within}
 use Rattle.shared_chain.proofs.Refusals.{has_session, not_early}
 
@@ -138,8 +138,20 @@ if_some : (o : Option StoreFault) (P Q : StoreFault → Type 0) → ((f : StoreF
 if_some None P Q f h = tt
 if_some (Some x) P Q f h = f x h
 
-pub begins_counted : (d : Disk) → AreCounted d d None None
-begins_counted d = record { files = refl; last = tt; quiet = λ e. refl; broke = tt; unbroken = λ e. (refl, tt); reads = λ file. omega arith }
+pub begins_counted : (d : Disk) (fault : Option StoreFault) → IfSome fault (CountsRead d) → AreCounted d d None fault
+begins_counted d None met = record { files = refl; last = tt; quiet = λ e. refl; broke = tt; unbroken = λ e. (refl, tt); reads = λ file. omega arith }
+begins_counted d (Some f) met = record {
+  files = refl;
+  last = record { within = met.0; some = met.1; counted = inl met.2 };
+  quiet = λ e. refl;
+  broke = tt;
+  unbroken = λ e. (refl, met.2);
+  reads = λ file. omega arith;
+}
+
+-- before a session's first call
+pub fresh_counted : (s : Session) (fault : Option StoreFault) → s.broken ≡ None → IfSome fault (CountsRead s.disk) → AreCounted s.disk s.disk s.broken fault
+fresh_counted s fault whole met = subst (λ o. AreCounted s.disk s.disk o fault) (sym whole) (begins_counted s.disk fault met)
 
 module _ (first : Disk) (old new : Session) (fault : Option StoreFault) (whole : old.broken ≡ None) (h : AreCounted first old.disk old.broken fault) where
   -- the counts stay

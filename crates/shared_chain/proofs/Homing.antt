@@ -30,7 +30,7 @@ use Rattle.shared_chain.specs.Homes.{ComesTo, Follows, HasStopped, IsHome}
 use Rattle.shared_chain.specs.Notes.{full_after}
 use Rattle.shared_chain.specs.Steps.{breach_of, broke_after, first_breach}
 use Rattle.shared_chain.proofs.Breaking.{early_same, last_broken, none_broke, past_broken}
-use Rattle.shared_chain.proofs.Counting.{begins_counted, counted_after}
+use Rattle.shared_chain.proofs.Counting.{counted_after, fresh_counted}
 use Rattle.shared_chain.proofs.Filling.{far, long_after, second_told}
 use Rattle.shared_chain.proofs.Later.{later_entry, later_through}
 use Rattle.shared_chain.proofs.Reaching.{IsReached, reached}
@@ -64,7 +64,7 @@ begins s sound whole = record {
   geometry = refl;
   session = refl;
   breaks = sym (ap (λ (o : Option StoreFault). is_some o) whole);
-  counted = subst (λ o. AreCounted s.disk s.disk o None) (sym whole) (begins_counted s.disk);
+  counted = fresh_counted s None whole tt;
   follows = go s.disk.told;
 }
   where
@@ -241,21 +241,22 @@ module _ (first old new : Session) (h h' : History) (full : Option ℕ) (broke :
 
 -- ---- what a read found
 
-pub replied : (first old : Session) (h : History) (full : Option ℕ) (broke : Option Breach) (fault : Option StoreFault) (call : Call) (r : Reply) → IsHome first old h full broke fault → old.broken ≡ None
-    → WhereTold old.disk.told (λ trace. (v : State) → IsServing old.layers v trace → reply (disk_now v) call ≡ r)
+-- A reply that each state gives which the session has come to is that of the history, on the disk on which the session began.
+pub replied_at : (first old : Session) (h : History) (full : Option ℕ) (broke : Option Breach) (fault : Option StoreFault) (call : Call) (r : Reply) → IsHome first old h full broke fault → old.broken ≡ None
+    → ((t u : Trace) → first.disk.told ≡ Some t → old.disk.told ≡ Some u → (from to : State) → IsServing first.layers from t → from.history ≡ [] → IsLater from h to → IsServing old.layers to u → reply (disk_now to) call ≡ r)
     → WhereTold first.disk.told (λ trace. (from : State) → IsServing first.layers from trace → from.history ≡ [] → reply (replay (sector_of from) from.opening h) call ≡ r)
-replied first old h full broke fault call r home whole finds = go first.disk.told old.disk.told home.follows finds
+replied_at first old h full broke fault call r home whole finds = go first.disk.told refl old.disk.told refl home.follows
   where
-    by_state : (from : State) (now : Trace) → Follows from h full broke old now → ((v : State) → IsServing old.layers v now → reply (disk_now v) call ≡ r) → reply (replay (sector_of from) from.opening h) call ≡ r
-    by_state from now f found =
+    by_state : (t u : Trace) → first.disk.told ≡ Some t → old.disk.told ≡ Some u → (from : State) → IsServing first.layers from t → from.history ≡ [] → Follows from h full broke old u
+        → reply (replay (sector_of from) from.opening h) call ≡ r
+    by_state t u is_t is_u from serving empty f =
         let disk : replay (sector_of from) from.opening h ≡ disk_now f.to =
         ap (λ z. replay z from.opening h) (sym f.comes.sector) ∙ ap (λ (d : GuestDisk). replay (sector_of f.to) d h) (sym f.comes.later.opening) ∙ ap (λ k. replay (sector_of f.to) f.to.opening k) (sym f.comes.later.history) in
-        ap (λ d. reply d call) disk ∙ found f.to (f.serves whole)
+        ap (λ d. reply d call) disk ∙ finds t u is_t is_u from f.to serving empty f.comes.later (f.serves whole)
 
-    go : (a b : Option Trace) → WhereBothTold (λ trace after. (from : State) → IsServing first.layers from trace → from.history ≡ [] → Follows from h full broke old after) a b
-        → WhereTold b (λ trace. (v : State) → IsServing old.layers v trace → reply (disk_now v) call ≡ r)
+    go : (a : Option Trace) → first.disk.told ≡ a → (b : Option Trace) → old.disk.told ≡ b → WhereBothTold (λ trace after. (from : State) → IsServing first.layers from trace → from.history ≡ [] → Follows from h full broke old after) a b
         → WhereTold a (λ trace. (from : State) → IsServing first.layers from trace → from.history ≡ [] → reply (replay (sector_of from) from.opening h) call ≡ r)
-    go None b f found = λ t is. absurd (none_some is)
-    go (Some t) None f found = absurd f
-    go (Some t) (Some u) f found = λ k is. subst (λ (w : Trace). (from : State) → IsServing first.layers from w → from.history ≡ [] → reply (replay (sector_of from) from.opening h) call ≡ r) (some_same {x = t} {y = k} is)
-        (λ from serving empty. by_state from u (f from serving empty) (found u refl))
+    go None is_a b is_b f = λ t is. absurd (none_some is)
+    go (Some t) is_a None is_b f = absurd f
+    go (Some t) is_a (Some u) is_b f = λ k is. subst (λ (w : Trace). (from : State) → IsServing first.layers from w → from.history ≡ [] → reply (replay (sector_of from) from.opening h) call ≡ r) (some_same {x = t} {y = k} is)
+        (λ from serving empty. by_state t u is_a is_b from serving empty (f from serving empty))

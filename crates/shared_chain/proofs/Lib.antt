@@ -8,6 +8,8 @@ mod Homing
 mod Stepping
 mod Merged
 mod Rest
+mod Copied
+mod Planning
 mod Calling
 mod Ended
 pub mod Breaking

@@ -16,6 +16,10 @@ fault_after fault other = fault
 abbrev pub CountsChange : Disk → StoreFault → Type 0
 CountsChange disk fault = (fault.file < disk.files) × (0 < fault.count) × (fault.count ≡ disk.failed_changes fault.file)
 
+-- a read of a file failed, as often in all as is counted of it
+abbrev pub CountsRead : Disk → StoreFault → Type 0
+CountsRead disk fault = (fault.file < disk.files) × (0 < fault.count) × (fault.count ≡ disk.failed_reads fault.file)
+
 -- A session's store now, and as it was when the session had begun: the last fault that refused a call is counted, which is the one that
 -- broke the session if one did, and else that of a read; where none refused one the counts stay. No count falls.
 pub record AreCounted (first now : Disk) (broken fault : Option StoreFault) : Type 0 where

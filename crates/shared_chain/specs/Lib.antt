@@ -6,6 +6,7 @@ pub mod Bases
 pub mod Laws
 pub mod Homes
 pub mod Answers
+pub mod Planned
 pub mod Closing
 pub mod Ends
 pub mod Merging

@@ -1,5 +1,5 @@
 -- What a step of a merge answers and leaves of a shared chain.
-use Rattle.std.specs.Prelude.{◌≡◌, ◌+◌, ◌-◌, ◌^◌, ◌<◌, ◌≤◌, if◌then◌else◌, nat_lt, ℕ, Bool, true, [], Option, Some, Result, Ok, Err, IfErr, OnOk}
+use Rattle.std.specs.Prelude.{◌≡◌, ◌+◌, ◌-◌, ◌^◌, ◌<◌, ◌≤◌, if◌then◌else◌, nat_lt, ℕ, Bool, true, [], Option, Some, Result, Ok, Err, IfErr, MatchOption, OnOk}
 use Rattle.store_model.specs.Disk.{Disk, WhereTold}
 use Rattle.guest_model.specs.declared.recorder.KeepAll.{KeepAll}
 use Rattle.guest_model.specs.declared.refusal.ChainRefusal.{ChainRefusal}
@@ -9,7 +9,8 @@ use Rattle.chain_model.specs.Stripes.{stripe_count}
 use Rattle.merge_core.specs.Copied.{marks_of}
 use Rattle.merge_core.specs.declared.marks.Marks.{Marks}
 use Rattle.chain_core.specs.declared.chain.Chain.{Chain}
-use Rattle.chain_core.specs.Sessions.{HasNoMerge, has_merge}
+use Rattle.chain_core.specs.Sessions.{HasNoMerge, has_merge, kept_marks}
+use Rattle.chain_core.specs.declared.layers.Layers.{Layers}
 use Rattle.chain_core.specs.States.{IsServing, State}
 use Rattle.shared_chain.specs.declared.basis.Note.TheVariants as notes
 use Rattle.shared_chain.specs.Bases.{notes_of}
@@ -46,6 +47,10 @@ finished_behind finishes (Ok done) finished = true
 finished_behind ends answer finished = true
 finished_behind (copies stripe) (Err refusals.NoMerge) finished = true
 finished_behind step answer finished = finished
+
+-- a merge is under way, and this stripe of it is copied
+abbrev pub HasMark : ℕ → Layers → Type 0
+HasMark stripe layers = MatchOption (kept_marks layers) ⊥ (λ marks. marks_of marks stripe ≡ true)
 
 module _ {S T : Type 0} where
   -- What a step leaves: the beginning and the history stay; it is what broke the session if it is the first that is told so; what it answers is

@@ -6,4 +6,4 @@ mod shared;
 mod told;
 
 pub use basis::{Basis, Breach, Note, Step};
-pub use shared::SharedChain;
+pub use shared::{SharedChain, end_fresh};

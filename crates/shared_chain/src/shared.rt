@@ -1,17 +1,18 @@
 //! The chain that threads share.
 
-ghost use Rattle.std.specs.Prelude.{◌≡◌, ◌%◌, ◌/◌, ℕ, [], None, IfErr, IfOk, IfSome, IsErr, OnOk, false, length};
+ghost use Rattle.store_model.specs.declared.fault.StoreFault.{StoreFault as Fault};
+ghost use Rattle.std.specs.Prelude.{◌≡◌, ◌%◌, ◌/◌, ℕ, [], Option, None, IfErr, IfOk, IfSome, IsErr, OnOk, false, length};
 ghost use Rattle.guest_model.specs.declared.call.Call.TheVariants as calls;
-ghost use Rattle.guest_model.specs.declared.call.Reply.TheVariants as replies;
 ghost use Rattle.chain_core.specs.Answering.{IsDurable};
 ghost use Rattle.chain_core.specs.Sessions.{HasNoMerge, IsSound, has_merge};
 ghost use Rattle.shared_chain.specs.Notes.{full_after};
-ghost use Rattle.shared_chain.specs.Faults.{EndsCounted, fault_after};
+ghost use Rattle.shared_chain.specs.Faults.{CountsRead, EndsCounted, fault_after};
 ghost use Rattle.shared_chain.specs.Homes.{session_of};
-ghost use Rattle.shared_chain.specs.Answers.{IsCalled, RepliesFrom};
+ghost use Rattle.shared_chain.specs.Answers.{IsCalled};
+ghost use Rattle.shared_chain.specs.Planned.{IsPlanned};
 ghost use Rattle.script_session.specs.Running.{IsEnded};
 ghost use Rattle.shared_chain.specs.Closing.{LeavesHistory};
-ghost use Rattle.shared_chain.specs.Merging.{IsMerged, IsStepped, StopsCopy, as_answer, copied_behind, copies, finished_behind, finishes};
+ghost use Rattle.shared_chain.specs.Merging.{HasMark, IsMerged, IsStepped, StopsCopy, as_answer, copied_behind, copies, finished_behind, finishes};
 ghost use Rattle.merge_core.specs.Copied.{marks_of};
 ghost use Rattle.shared_chain.specs.Steps.{broke_after, merge_breach, steps_of};
 ghost use Rattle.shared_chain.specs.Ends.{EndsMerge, is_no_merge};
@@ -20,6 +21,7 @@ use crate::basis::Breach;
 use chain_core::Chain;
 use guest_model::{Caller, ChainRefusal, KeepAll};
 use merge_core::{Marks, Piece};
+use read_plan::{Plan, ReaderSet};
 use script_session::{copy, finish, move_stripe};
 use std::alloc::{AllocFailed, Global};
 use std::marker::Model;
@@ -193,6 +195,19 @@ fn merge_rest<S: Store>(
     if is_no_merge(answer) { Ok(()) } else { answer }
 }
 
+/// Ends a session that has just begun, and had no call. The store comes back, and how the session ended. A fault that was met before, if a read
+/// failed, is counted still.
+pub fn end_fresh<S: Store>(chain: Chain<S, KeepAll>) -> (S, Result<(), StoreFault>)
+    requires sound { IsSound (session_of S.disk chain) }
+    requires whole { chain.broken ≡ None }
+    ensures ended { IsEnded (session_of S.disk chain) (S.disk result.0) result.1 }
+    ensures counted { (met : Option Fault) → IfSome met (CountsRead (S.disk chain.store)) → EndsCounted (S.disk chain.store) (S.disk result.0) met result.1 }
+    ensures leaves { LeavesHistory (session_of S.disk chain) [] None None (has_merge chain.layers) result.1 (S.disk result.0) }
+{
+    let (store, _, closed) = chain.close();
+    (store, closed)
+}
+
 impl<S: Store> SharedChain<S> {
     /// A chain whose session has just begun, with room to keep in mind so many stripes of its merge once they are copied. Where there is no memory
     /// for it the session is ended, as by `close`: the store comes back, and how the session ended.
@@ -213,10 +228,7 @@ impl<S: Store> SharedChain<S> {
         let first = Snapshot::of(&chain);
         let (chain, copied) = match room_for(alloc, chain, stripes) {
             Ok(made) => made,
-            Err(chain) => {
-                let (store, _, closed) = chain.close();
-                return Err((store, closed));
-            }
+            Err(chain) => return Err(end_fresh(chain)),
         };
         Ok(SharedChain {
             chain,
@@ -244,13 +256,21 @@ impl<S: Store> SharedChain<S> {
         if self.broke.is_some() { done + 1 } else { done }
     }
 
-    /// Reads whole sectors. Answers the call's place in the history.
-    pub fn read(&mut self, who: Caller, first: u64, out: &mut [u8]) -> Result<u64, ChainRefusal>
+    /// Reads what files in sessions have of whole sectors, and plans what those files have of which there is a reader. Answers the call's place in
+    /// the history: it has its reply once the plan is filled by the readers.
+    pub fn read_plan(
+        &mut self,
+        who: Caller,
+        first: u64,
+        readers: &ReaderSet<S::R>,
+        plan: &mut Plan,
+        out: &mut [u8],
+    ) -> Result<u64, ChainRefusal>
         requires { length out.old % 512 ≡ 0 }
         ensures called { IsCalled S.disk who (calls.Read first (length out.old / 512)) self.old self.new result }
-        ensures replies { OnOk result (RepliesFrom S.disk self.old (calls.Read first (length out.old / 512)) (replies.Bytes out.new)) }
+        ensures planned { OnOk result (IsPlanned S.disk self.old (calls.Read first (length out.old / 512)) readers.now plan.new out.new) }
     {
-        let answer = self.chain.read(who, first, out);
+        let answer = self.chain.read_plan(who, first, readers, plan, out);
         self.full = full_behind(self.full, answer);
         self.broke = broke_behind(self.broke, who, first, 0, answer);
         self.fault = fault_behind(self.fault, answer);
@@ -297,6 +317,8 @@ impl<S: Store> SharedChain<S> {
     pub fn copy_stripe(&mut self, stripe: u32, piece: &mut Piece) -> Result<(), ChainRefusal>
         ensures stepped { IsStepped S.disk (copies stripe) self.old self.new result }
         ensures stopped { IfErr result (StopsCopy S.disk stripe self.old self.new) }
+        ensures copied { OnOk result (HasMark stripe self.new.chain.layers) }
+        ensures empty { piece.new.filled ≡ false }
     {
         let done = move_stripe(&mut *self.chain, stripe, piece);
         mark_copied(&mut self.copied, stripe, done);

@@ -47,6 +47,8 @@ use Rattle.script_session.specs.Running.{DrawsFor, HasHistory, IsAtRest, HasRunS
 use Rattle.script_session.specs.Told.{Told, failed_by}
 use Rattle.script_session.proofs.Telling.{last_moment}
 use Rattle.script_session.specs.declared.session.ScriptRun.{ScriptRun}
+use Rattle.chain_core.specs.Sealed.{as_it_was}
+use Rattle.vhdx_app.proofs.Sparing.{kept_same}
 use Rattle.vhdx_app.specs.Causes.{LeavesStoreBy, meaning_of_chain}
 use Rattle.vhdx_app.specs.Commands.{Lends, LendsNone, shown_from}
 use Rattle.vhdx_app.specs.Folders.{LeadsTo, files_of}
@@ -152,13 +154,13 @@ written_in ReadOnly n = false
 
 changed_none : (mode : Mode) (o : Option Trace) → WhereBothTold (Changed (written_in mode)) o o
 changed_none mode None = tt
-changed_none mode (Some t) = record { attached = refl; still = λ other apart. refl }
+changed_none mode (Some t) = record { attached = refl; still = λ other apart. as_it_was }
 
 -- what a session that ran changes
 pub changed_run : (mode : Mode) (leaf : LinkedFile) (others : List LinkedFile) (lines : List Line) (told : List Told) (closed : Result (Unit {0}) StoreFault) (a b : Option Trace) → WhereBothTold (HaveHistory mode (leaf ∷ others) lines told closed) a b
     → WhereBothTold (Changed (written_in mode)) a b
 changed_run mode leaf others lines told closed a b h =
-    both_from (HaveHistory mode (leaf ∷ others) lines told closed) (Changed (written_in mode)) a b (λ trace now k. record { attached = attached_since trace now k.moments.since; still = λ other apart. still_in mode trace now other k.still k.unchanged apart }) h
+    both_from (HaveHistory mode (leaf ∷ others) lines told closed) (Changed (written_in mode)) a b (λ trace now k. record { attached = attached_since trace now k.moments.since; still = λ other apart. kept_same (file_of trace other) (file_of now other) (still_in mode trace now other k.still k.unchanged apart) }) h
   where
     still_in : (mode : Mode) (trace now : Trace) (other : ℕ) → ((n : ℕ) → n ≢ 0 → file_of now n ≡ file_of trace n) → (can_change mode ≡ false → now ≡ trace) → written_in mode other ≡ false → file_of now other ≡ file_of trace other
     still_in Guests trace now other still same apart = still other (not_first other apart)
@@ -170,7 +172,7 @@ changed_none_run mode leaf others a b (inl same) still read = subst (WhereBothTo
 changed_none_run ReadOnly leaf others a b (inr alike) still read = subst (WhereBothTold (Changed (written_in ReadOnly)) a) (sym (read refl)) (changed_none ReadOnly a)
 changed_none_run Guests leaf others a b (inr alike) still read =
     both_and (λ trace now. EachMoment (EachOpens (way_to leaf (leaf ∷ others) None) (λ s. false) (opening_disk trace (leaf ∷ others))) trace now) (λ trace now. (other : ℕ) → other ≢ 0 → file_of now other ≡ file_of trace other) (Changed (written_in Guests)) a b
-    (λ trace now moments others_still. record { attached = attached_since trace now moments.since; still = λ other apart. others_still other (not_first other apart) }) alike still
+    (λ trace now moments others_still. record { attached = attached_since trace now moments.since; still = λ other apart. kept_same (file_of trace other) (file_of now other) (others_still other (not_first other apart)) }) alike still
 
 -- ---- what the host is left with
 

@@ -41,6 +41,8 @@ use Rattle.script_session.specs.MergeRunning.{HasHistoryOver, IsAtRestOver, Scop
 use Rattle.script_session.specs.MergeRunning as scoped
 use Rattle.script_session.specs.Told.{HasMemory, Told, failed_by, last_fault, transcript}
 use Rattle.script_session.specs.declared.session.ScriptRun.{ScriptRun}
+use Rattle.chain_core.specs.Sealed.{as_it_was}
+use Rattle.vhdx_app.proofs.Sparing.{kept_same}
 use Rattle.vhdx_app.specs.Commands.{AreOpened, IsOpened, Lends}
 use Rattle.vhdx_app.specs.Folders.{LeadsTo, files_of}
 use Rattle.vhdx_app.specs.Making.{ShowIds}
@@ -125,7 +127,7 @@ module _ (leaf : LinkedFile) (others : List LinkedFile) (name : List ℕ) (lent 
     where
       all_kept : (o : Option Trace) → WhereBothTold (Changed (λ n. false)) o o
       all_kept None = tt
-      all_kept (Some t) = record { attached = refl; still = λ other apart. refl }
+      all_kept (Some t) = record { attached = refl; still = λ other apart. as_it_was }
 
   pub left_begun : (changes : ℕ → Bool) → ((n : ℕ) → changes n ≡ true → is_among (slice_index_or (names_of (leaf ∷ others)) n []) (changed_names false (Some name) (leaf ∷ others)) ≡ true) → EachOpensAlike (leaf ∷ others) lent.told disk.told
       → LeavesAllBut changes lent.told disk.told → LeftMerged
@@ -133,7 +135,7 @@ module _ (leaf : LinkedFile) (others : List LinkedFile) (name : List ℕ) (lent 
     written = changes;
     may = may;
     changed = both_and (λ trace t. EachMoment (EachOpens (way_to leaf (leaf ∷ others) None) (λ s. false) (opening_disk trace (leaf ∷ others))) trace t) (λ trace t. (other : ℕ) → changes other ≡ false → file_of t other ≡ file_of trace other) (Changed changes) lent.told disk.told
-        (λ trace t moments kept. record { attached = attached_since trace t moments.since; still = kept }) alike still;
+        (λ trace t moments kept. record { attached = attached_since trace t moments.since; still = λ other apart. kept_same (file_of trace other) (file_of t other) (kept other apart) }) alike still;
   }
 
 -- ---- a session that ran, by its scope
@@ -146,7 +148,7 @@ module _ (leaf : LinkedFile) (others : List LinkedFile) (name : List ℕ) where
   pub scope_changed : (changes : ℕ → Bool) (staying : List (List ℕ)) (lines : List Line) (told : List Told) (closed : Result (Unit {0}) StoreFault) (a b : Option Trace) → WhereBothTold (HasHistoryOver (scope_over changes staying) lines told closed) a b
       → WhereBothTold (Changed changes) a b
   scope_changed changes staying lines told closed a b h =
-      both_from (HasHistoryOver (scope_over changes staying) lines told closed) (Changed changes) a b (λ trace t k. record { attached = attached_since trace t k.moments.since; still = k.still }) h
+      both_from (HasHistoryOver (scope_over changes staying) lines told closed) (Changed changes) a b (λ trace t k. record { attached = attached_since trace t k.moments.since; still = λ other apart. kept_same (file_of trace other) (file_of t other) (k.still other apart) }) h
 
 -- ---- over a host
 

@@ -8,7 +8,7 @@ use Rattle.vhdx_app.proofs.Followed.{last_once}
 use Rattle.store_model.specs.Disk.{Disk as StoreDisk, WhereBothTold, WhereTold}
 use Rattle.store_model.specs.File as stored
 use Rattle.store_model.specs.File.{is_synced, seen}
-use Rattle.store_model.specs.Folder.{AreAway, HasFailed, Held, Hosted, IsKept, KeepsStore, Returned, RoseWhere, attached_trace, come_back, fresh, given_back, without}
+use Rattle.store_model.specs.Folder.{AreAway, HasFailed, Held, Hosted, IsKept, KeepsStore, Returned, RoseWhere, attached_trace, come_back, given_back, without}
 use Rattle.store_model.specs.Moments.{LastReturnedCounts, Throughout}
 use Rattle.store_model.specs.Trace.{NamedBytes, Trace, at_moment, file_of, moment}
 use Rattle.store_model.specs.declared.fault.StoreFault.{StoreFault}
@@ -32,6 +32,7 @@ use Rattle.script_session.specs.Histories.{Break, IsEndTold, IsSoLong}
 use Rattle.script_session.specs.Running.{open_by, open_last}
 use Rattle.script_session.specs.Told.{Told}
 use Rattle.script_session.proofs.Lengths.{ends_later}
+use Rattle.chain_core.specs.Sealed.{IsKept as IsKeptFile}
 use Rattle.vhdx_app.specs.Commands.{AreAnew, Lends}
 use Rattle.vhdx_app.specs.Crashes.{AreSpared, EachImageOpens, HasLong, IsSpared, NoneNamesLog, OpensToFirst}
 use Rattle.vhdx_app.specs.Crashes as spared
@@ -73,7 +74,7 @@ home_spared changed (held ∷ folder) (later ∷ now) home h = by_place (home_sp
     by_held : (later : Held) → IsSpared changed held later → (file : stored.File) × (later.file ≡ Some file)
     by_held _ (spared.may_change file among) = (file, refl)
     by_held _ spared.untouched = home zero held (omega arith)
-    by_held _ (spared.attached file had) = (fresh (seen file), refl)
+    by_held _ (spared.attached file after had same synced) = (after, refl)
 
     by_place : AllHome now → AllHome (later ∷ now)
     by_place rest zero d w = by_held later h.0
@@ -149,7 +150,7 @@ kept_told store (Some before) (Some after) h now is = (before, refl, sym (same_S
 -- what a session leaves of the files' trace, which may change some files
 pub record Changed (written : ℕ → Bool) (before now : Trace) : Type 0 where
   pub attached : now.attached ≡ before.attached
-  pub still : (other : ℕ) → written other ≡ false → file_of now other ≡ file_of before other
+  pub still : (other : ℕ) → written other ≡ false → IsKeptFile (file_of before other) (file_of now other)
 
 module _ (retired : List (List ℕ)) (leaf : LinkedFile) (others : List LinkedFile) (old mid : Hosted) (lent : StoreDisk) (idle : WhereTold old.folder AllIdle) (once : NoneTwice (retired ++ names_of (leaf ∷ others)))
     (chain : WhereTold old.folder (IsChainIn (record { retired = retired; files = leaf ∷ others }))) (lends : Lends (names_of (leaf ∷ others)) old mid lent) (disk : StoreDisk) (mode : Mode) (merge : Option (List ℕ)) (written : ℕ → Bool)

@@ -1,5 +1,5 @@
 -- Guests served over a chain's files, with a merge beside them or without: from what the store's session leaves to what the host is left with.
-use Rattle.std.proofs.Common.{◌≡◌, ◌≢◌, ◌==◌, ◌++◌, ℕ, Bool, true, false, List, [], ◌∷◌, length, Option, Some, None, Result, Ok, Err, refl, sym, subst, ◌∙◌, inl, inr}
+use Rattle.std.proofs.Common.{◌≡◌, ◌≢◌, ◌==◌, ◌<◌, ◌++◌, ℕ, Bool, true, false, List, [], ◌∷◌, length, Option, Some, None, Result, Ok, Err, refl, sym, subst, ◌∙◌, inl, inr}
 use Rattle.std.specs.Prelude.{⊤, All, IfErr, IfOk, IfSome, OnOk, option_map, slice_index_or, string_bytes}
 use Rattle.std.specs.List.{AllByRecursion}
 use Rattle.std.proofs.lemmas.Option.{same_Some}
@@ -34,7 +34,7 @@ use Rattle.script_session.specs.Told.{failed_by}
 use Rattle.serve_session.specs.MergeServed.{HasRunServeLeafMerge, HasRunServeMerge, HasServedOver, StopsMerge}
 use Rattle.serve_session.specs.MergeServed as session
 use Rattle.serve_session.specs.Running.{HasRunServe, HasServedFiles, HaveServed}
-use Rattle.serve_session.specs.Served.{AreServed, IsTranscript, Outcome, all_told, guest_count}
+use Rattle.serve_session.specs.Served.{AreServed, IsTranscript, Outcome, all_told, all_unread, guest_count}
 use Rattle.serve_session.specs.declared.merging.MergeRun.{MergeRun}
 use Rattle.vhdx_app.specs.Commands.{Lends}
 use Rattle.vhdx_app.specs.Crashes.{HasLong, NoneNamesLog}
@@ -88,7 +88,7 @@ module _ (retired : List (List ℕ)) (leaf : LinkedFile) (others : List LinkedFi
   abbrev L : Linked
   L = record { retired = retired; files = leaf ∷ others }
 
-  module _ (h : HasRunServe (leaf ∷ others) (names_of (leaf ∷ others)) lines run.run lent disk before after) (none : IfErr run.merged (λ e. ⊥)) where
+  module _ (h : HasRunServe (leaf ∷ others) (names_of (leaf ∷ others)) lines (record { run = run.run; unread = run.unread }) lent disk before after) (none : IfErr run.merged (λ e. ⊥)) where
     changed : WhereBothTold (Changed (written_in Guests)) lent.told disk.told
     changed = changed_served leaf others lines h.guests h.history h.broken run.run.closed lent.told disk.told h.served
 
@@ -119,6 +119,7 @@ module _ (retired : List (List ℕ)) (leaf : LinkedFile) (others : List LinkedFi
         stands = stands retired leaf others old mid lent idle once chain lends disk Guests None (written_in Guests) (first_may Guests leaf others) changed now back_is past_is count f told h.history h.broken files.moments (λ reading. let never : false ≡ true = reading in cc) files.last;
         faults = last_returned retired leaf others old mid lent idle once chain lends disk Guests None (written_in Guests) (first_may Guests leaf others) changed now back_is past_is count f told
             (λ store. FaultsAreTold (all_told h.guests) (failed_by run.run.closed) (length (leaf ∷ others)) (λ file. 0) store.failed_reads store.failed_changes) (λ trace rest. lent_faults Guests retired leaf others old mid now lent disk idle served once chain lends back_is past_is count before after None (written_in Guests) (first_may Guests leaf others) (all_told h.guests) (failed_by run.run.closed) h.faults);
+        unread = subst (λ n. AllByRecursion (λ fault. fault.file < n) (all_unread h.guests)) (scoped.files_lent retired leaf others old mid lent chain lends) h.unread;
         full = full_ends retired leaf others old mid lent idle once chain lends disk Guests None (written_in Guests) (first_may Guests leaf others) changed now back_is past_is count f told (λ n. n == 0) (changed_names false None (leaf ∷ others)) (first_may Guests leaf others) (all_told h.guests) files.full;
         stopped = none_stopped run.merged _ none;
         rests = rests_by run.run.closed files.at_rest;
@@ -137,6 +138,7 @@ module _ (retired : List (List ℕ)) (leaf : LinkedFile) (others : List LinkedFi
       counted = if_some Guests retired leaf others old mid now lent disk idle served once chain lends back_is past_is count before after None (written_in Guests) (first_may Guests leaf others) changed run.run.fault h.counted;
       ended = if_err Guests retired leaf others old mid now lent disk idle served once chain lends back_is past_is count before after None (written_in Guests) (first_may Guests leaf others) changed run.run.closed h.ended;
       quiet = λ none. on_ok Guests retired leaf others old mid now lent disk idle served once chain lends back_is past_is count before after None (written_in Guests) (first_may Guests leaf others) changed run.run.closed (h.quiet none);
+      unread_is = h.unread_is;
       stopped = none_unfinished run.merged _ none;
       served = served_in;
     }
@@ -145,7 +147,7 @@ module _ (retired : List (List ℕ)) (leaf : LinkedFile) (others : List LinkedFi
 
   module _ (name : List ℕ) (changes : ℕ → Bool) (staying : List (List ℕ)) (may : (n : ℕ) → changes n ≡ true → is_among (slice_index_or (names_of (leaf ∷ others)) n []) (changed_names false (Some name) (leaf ∷ others)) ≡ true) (are_left : AreLeft (leaf ∷ others) name staying)
       (guests : List (List Outcome)) (h : History) (broken : Option Break) (past : WhereBothTold (HasServedOver (scope_over leaf others name changes staying) lines guests h broken run.merged run.run.closed) lent.told disk.told)
-      (told_faults : FaultsAreTold (all_told guests) (failed_by run.run.closed) lent.files lent.failed_changes disk.failed_reads disk.failed_changes)
+      (told_faults : FaultsAreTold (all_told guests) (failed_by run.run.closed) lent.files lent.failed_changes disk.failed_reads disk.failed_changes) (unread : AllByRecursion (λ fault. fault.file < lent.files) (all_unread guests))
       (ended_all : (t : Trace) → ((n : ℕ) → changes n ≡ true → NamesNoLog (seen (file_of t n))) → AllByRecursion (IsUnlogged (leaf ∷ others) t) (changed_names false (Some name) (leaf ∷ others))) where
     abbrev scope : Scope
     scope = scope_over leaf others name changes staying
@@ -214,6 +216,7 @@ module _ (retired : List (List ℕ)) (leaf : LinkedFile) (others : List LinkedFi
         stands = stands retired leaf others old mid lent idle once chain lends disk Guests (Some name) changes may became now back_is past_is count f told h broken over.moments (λ reading. let never : false ≡ true = reading in cc) over.last;
         faults = last_returned retired leaf others old mid lent idle once chain lends disk Guests (Some name) changes may became now back_is past_is count f told
             (λ store. FaultsAreTold (all_told guests) (failed_by run.run.closed) (length (leaf ∷ others)) (λ file. 0) store.failed_reads store.failed_changes) (λ trace rest. lent_faults Guests retired leaf others old mid now lent disk idle served once chain lends back_is past_is count before after (Some name) changes may (all_told guests) (failed_by run.run.closed) told_faults);
+        unread = subst (λ n. AllByRecursion (λ fault. fault.file < n) (all_unread guests)) (scoped.files_lent retired leaf others old mid lent chain lends) unread;
         full = full_ends retired leaf others old mid lent idle once chain lends disk Guests (Some name) changes may became now back_is past_is count f told changes (changed_names false (Some name) (leaf ∷ others)) may (all_told guests) over.full;
         stopped = stopped_as run.merged over.stopped;
         rests = scope_rests_by run.run.closed over.at_rest;
@@ -222,9 +225,9 @@ module _ (retired : List (List ℕ)) (leaf : LinkedFile) (others : List LinkedFi
       }
 
     beside_over : length guests ≡ guest_count lines → IfOk run.run.transcript (λ text. IsTranscript (names_of (leaf ∷ others)) lines guests h (string_bytes text)) → IfSome run.run.fault (Counts disk) → IfErr run.run.closed (Counts disk)
-        → (run.run.fault ≡ None → OnOk run.run.closed (disk ≡ record lent { told = disk.told })) → IfErr run.merged (StopsMerge run.run) → JudgesMergeOf (is_leaf (leaf ∷ others) name) L name old.folder before after None
+        → (run.run.fault ≡ None → OnOk run.run.closed (disk ≡ record lent { told = disk.told })) → run.unread ≡ length (all_unread guests) → IfErr run.merged (StopsMerge run.run) → JudgesMergeOf (is_leaf (leaf ∷ others) name) L name old.folder before after None
         → ServedOver (Some name) L lines run old now before after
-    beside_over is_count transcript counted ended quiet stopped drawn = record {
+    beside_over is_count transcript counted ended quiet unread_is stopped drawn = record {
       guests = guests;
       history = h;
       broken = broken;
@@ -234,6 +237,7 @@ module _ (retired : List (List ℕ)) (leaf : LinkedFile) (others : List LinkedFi
       counted = if_some Guests retired leaf others old mid now lent disk idle served once chain lends back_is past_is count before after (Some name) changes may became run.run.fault counted;
       ended = if_err Guests retired leaf others old mid now lent disk idle served once chain lends back_is past_is count before after (Some name) changes may became run.run.closed ended;
       quiet = λ none. on_ok Guests retired leaf others old mid now lent disk idle served once chain lends back_is past_is count before after (Some name) changes may became run.run.closed (quiet none);
+      unread_is = unread_is;
       stopped = stopped_so run.merged stopped;
       served = beside_in;
     }
@@ -273,12 +277,12 @@ module _ (retired : List (List ℕ)) (leaf : LinkedFile) (others : List LinkedFi
       (count : RoseWhere (HasFailed disk) mid.faults now.faults) where
     over_beside : (b : Bool) → is_leaf (leaf ∷ others) name ≡ b → HasServedMergeOf b (leaf ∷ others) name (names_of (leaf ∷ others)) lines run lent disk before after → ServedOver (Some name) (record { retired = retired; files = leaf ∷ others }) lines run old now before after
     over_beside true is h =
-        beside_over retired leaf others old mid now lent disk idle served once chain lends back_is past_is count before after lines run name is_first_two (leaf_left_names h.m) (leaf_merge.may retired leaf others old mid lent disk chain lends before after name is) (leaf_merge.left retired leaf others old mid lent disk chain lends before after name is h.m h.merge h.planned) h.serves.guests h.serves.history h.serves.broken (past_leaf h is) h.serves.faults (unlogged_two leaf others name is)
-        h.serves.count h.serves.transcript h.serves.counted h.serves.ended h.serves.quiet h.serves.stopped (leaf_merge.drawn retired leaf others old mid lent disk chain lends before after name is h.m h.merge h.planned)
+        beside_over retired leaf others old mid now lent disk idle served once chain lends back_is past_is count before after lines run name is_first_two (leaf_left_names h.m) (leaf_merge.may retired leaf others old mid lent disk chain lends before after name is) (leaf_merge.left retired leaf others old mid lent disk chain lends before after name is h.m h.merge h.planned) h.serves.guests h.serves.history h.serves.broken (past_leaf h is) h.serves.faults h.serves.unread (unlogged_two leaf others name is)
+        h.serves.count h.serves.transcript h.serves.counted h.serves.ended h.serves.quiet h.serves.unread_is h.serves.stopped (leaf_merge.drawn retired leaf others old mid lent disk chain lends before after name is h.m h.merge h.planned)
     over_beside false is h =
-        beside_over retired leaf others old mid now lent disk idle served once chain lends back_is past_is count before after lines run name (is_changed h.m) (names_without h.m) (merge.may retired leaf others old mid lent disk chain lends before after name is h.m h.merge h.planned) (merge.left retired leaf others old mid lent disk chain lends before after name is h.m h.merge h.planned) h.serves.guests h.serves.history h.serves.broken (past_other h is) h.serves.faults
+        beside_over retired leaf others old mid now lent disk idle served once chain lends back_is past_is count before after lines run name (is_changed h.m) (names_without h.m) (merge.may retired leaf others old mid lent disk chain lends before after name is h.m h.merge h.planned) (merge.left retired leaf others old mid lent disk chain lends before after name is h.m h.merge h.planned) h.serves.guests h.serves.history h.serves.broken (past_other h is) h.serves.faults h.serves.unread
         (merge.ended_all retired leaf others old mid lent disk chain lends before after name is h.m h.merge h.planned (last_once retired (names_of (leaf ∷ others)) once))
-        h.serves.count h.serves.transcript h.serves.counted h.serves.ended h.serves.quiet h.serves.stopped (merge.drawn retired leaf others old mid lent disk chain lends before after name is h.m h.merge h.planned)
+        h.serves.count h.serves.transcript h.serves.counted h.serves.ended h.serves.quiet h.serves.unread_is h.serves.stopped (merge.drawn retired leaf others old mid lent disk chain lends before after name is h.m h.merge h.planned)
 
 -- ---- of what was linked, whose files are these
 

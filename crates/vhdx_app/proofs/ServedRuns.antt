@@ -1,6 +1,6 @@
 -- What `serve` does once the chain is opened, from what the session leaves.
-use Rattle.std.proofs.Common.{◌≡◌, ◌≢◌, ℕ, true, false, List, [], length, Option, Some, None, Result, Ok, Err, refl, sym, ap, subst, ◌∙◌, inl, inr, arith}
-use Rattle.std.specs.Prelude.{IfErr, IfOk, IfSome, OnOk, String, codes, is_some, string_bytes}
+use Rattle.std.proofs.Common.{◌≡◌, ◌≢◌, ◌⊎◌, ◌<◌, ◌==◌, ℕ, zero, suc, Bool, true, false, List, [], length, Option, Some, None, Result, Ok, Err, refl, sym, ap, subst, ◌∙◌, inl, inr, arith, eqb-true}
+use Rattle.std.specs.Prelude.{IfErr, IfOk, IfSome, OnOk, String, codes, if◌then◌else◌, is_some, string_bytes}
 use Rattle.std.specs.List.{AllByRecursion}
 use Rattle.std.proofs.lemmas.Option.{same_Some}
 use Rattle.file_open.specs.Causes.{IfCause, Meaning, refuses, host_failed, store_failed, no_memory, cause_in}
@@ -21,6 +21,7 @@ use Rattle.guest_model.specs.declared.refusal.ChainRefusal.TheVariants as refusa
 use Rattle.chain_model.specs.Files.{OpensTo}
 use Rattle.chain_model.specs.Members.{disk_of}
 use Rattle.chain_core.specs.declared.starting.Mode.TheVariants.{Guests}
+use Rattle.layer_session.proofs.Equal.{true_false}
 use Rattle.link_rules.specs.Causes.{meaning_of}
 use Rattle.link_rules.specs.Chains.{Links, names_of}
 use Rattle.link_rules.specs.Chains as chains
@@ -39,7 +40,7 @@ use Rattle.script_session.specs.Told.{failed_by}
 use Rattle.script_session.specs.declared.session.ScriptRun.{ScriptRun}
 use Rattle.serve_session.specs.MergeServed.{StopsMerge}
 use Rattle.serve_session.specs.declared.merging.MergeRun.{MergeRun}
-use Rattle.serve_session.specs.Served.{AreServed, IsTranscript, all_told}
+use Rattle.serve_session.specs.Served.{AreServed, IsTranscript, all_told, all_unread}
 use Rattle.printing.specs.Answers.{fault_line}
 use Rattle.printing.specs.Sent.{Sent, cut, whole}
 use Rattle.printing.specs.declared.status.Status.{Status}
@@ -48,15 +49,15 @@ use Rattle.vhdx_app.specs.Causes.{meaning_of_chain, of_chain}
 use Rattle.vhdx_app.specs.Commands.{LeavesFollowedBy, Reports}
 use Rattle.vhdx_app.specs.Crashes.{EachImageOpens, HasLong, NoneNamesLog, OpensToFirst}
 use Rattle.vhdx_app.specs.Folders.{AllHome, LastReturned, OnlyFollows, files_of}
-use Rattle.vhdx_app.specs.Guests.{LeafIsServed, ReportsServed, ServedOver, end_of, stopped_by}
+use Rattle.vhdx_app.specs.Guests.{LeafIsServed, ReportsServed, ServedOver, end_of, served_of, served_said, stopped_by}
 use Rattle.vhdx_app.specs.Guests as code_guests
-use Rattle.vhdx_app.specs.Printed.{Prints, ShowsFault, of_host, of_store}
+use Rattle.vhdx_app.specs.Printed.{Prints, ShowsFault}
 use Rattle.vhdx_app.specs.Printed as printed
 use Rattle.vhdx_app.specs.Refusals.{IdUnfit, IsBase, LocatorTooLarge, MetadataFull, NotInChain, OfCall, OfChain, Refusal}
 use Rattle.vhdx_app.specs.Runs.{Ends, HasMerge}
-use Rattle.vhdx_app.specs.Serves.{HasServedOut, IsMergeLeft, IsServeText, IsServiceText, IsStopTold, IsUnfinished, KeepsServed, RunsServe, Service, met, no_service}
+use Rattle.vhdx_app.specs.Serves.{HasServedOut, HasUnread, IsMergeLeft, IsServeText, IsServiceText, IsStopTold, IsUnfinished, KeepsServed, RunsServe, ServesOver, Service, met, no_service, of_readers, of_readers_alone, of_store, unread_by}
 use Rattle.vhdx_app.specs.Serves as serves
-use Rattle.vhdx_app.specs.Sessions.{IsCounted, IsFollowedTo, IsNotFollowed, NotRunOver, OpensIn, Rests, Stands, UnlessMerging, UnlessStore, leaf_name, meaning_of_steps, run_said, said_of}
+use Rattle.vhdx_app.specs.Sessions.{IsCounted, IsFollowedTo, IsNotFollowed, NotRunOver, OpensIn, Rests, Stands, UnlessMerging, UnlessStore, leaf_name, meaning_of_steps}
 use Rattle.vhdx_app.specs.Sessions as code
 use Rattle.vhdx_app.specs.Starts.{RefusesSession, changed_names}
 use Rattle.vhdx_app.specs.Steps.{IsUnopenedText, Opened, RunsUnopened, drive_over, way_by}
@@ -70,7 +71,7 @@ use Rattle.vhdx_app.proofs.Followed.{has_followed, order_stopped}
 use Rattle.vhdx_app.proofs.Home.{StaysHome, home_followed}
 use Rattle.vhdx_app.proofs.Left.{counted, followed, idle_left, stopped}
 use Rattle.vhdx_app.proofs.Said.{CountsIn, counts_as, is_fault}
-use Rattle.vhdx_app.proofs.Stepped.{ends_by, not_opened, unread_ends}
+use Rattle.vhdx_app.proofs.Stepped.{ends_by, ends_with, not_opened, unread_ends}
 
 ended_well : (closed : Result (Unit {0}) StoreFault) {P : Type 0} → OnOk closed P → failed_by closed ≡ None → P
 ended_well (Ok done) p none = p
@@ -115,7 +116,7 @@ module _ (leaf : List ℕ) (merge : Option (List ℕ)) (before now : World) (sta
   -- ---- a report
 
   reports_end : (meaning : Meaning Refusal) → CountsIn before.host now.host meaning → Reports meaning before.written now.written before.sink_faults now.sink_faults status → StaysHome before.host.folder now.host.folder
-      → (status ≢ Fault → (status ≡ NoMemory → ¬ HasMerge merge) → WhereTold before.host.folder (λ f. WhereTold now.host.folder AllIdle)) → Ends (HasMerge merge) before now status
+      → (status ≢ Fault → (status ≡ NoMemory → ¬ HasMerge merge) → WhereTold before.host.folder (λ f. WhereTold now.host.folder AllIdle)) → Ends (HasMerge merge) (HasUnread leaf merge before now status) before now status
   reports_end (refuses r) counts (inl sent) home idles = ends_by (HasMerge merge) before now Refused status _ sent (λ e. cc) (λ e. (counts, unread)) home idles
   reports_end (refuses r) counts (inr sent) home idles = ends_by (HasMerge merge) before now NoMemory status _ sent (λ e. cc) (λ e. (counts, unread)) home idles
   reports_end (host_failed fault) counts sent home idles = ends_by (HasMerge merge) before now Fault status _ sent (λ e. inl counts.0) (λ e. absurd (e refl)) home idles
@@ -128,8 +129,8 @@ module _ (leaf : List ℕ) (merge : Option (List ℕ)) (before now : World) (sta
       → Reports (of_chain meaning) before.written now.written before.sink_faults now.sink_faults status → Prints (IsUnopenedText leaf before now) before now status
   unlinked_said (refuses r) links counts (inl sent) = record { meant = Refused; text = _; said = record { refusal = OfChain r; text_is = refl; so = printed.unlinked r links }; sent = sent }
   unlinked_said (refuses r) links counts (inr sent) = record { meant = NoMemory; text = codes "no memory\n"; said = refl; sent = sent }
-  unlinked_said (host_failed fault) links counts sent = record { meant = Fault; text = _; said = (of_host counts.0 counts.2 (ap (fault_line (codes "host")) counts.1)); sent = sent }
-  unlinked_said (store_failed fault) links counts sent = record { meant = Fault; text = _; said = (of_store fault.count counts.1 counts.0 (counts_as fault.count before.host now.host before.host.folder counts.2) refl); sent = sent }
+  unlinked_said (host_failed fault) links counts sent = record { meant = Fault; text = _; said = (printed.of_host counts.0 counts.2 (ap (fault_line (codes "host")) counts.1)); sent = sent }
+  unlinked_said (store_failed fault) links counts sent = record { meant = Fault; text = _; said = (printed.of_store fault.count counts.1 counts.0 (counts_as fault.count before.host now.host before.host.folder counts.2) refl); sent = sent }
   unlinked_said no_memory links counts sent = record { meant = NoMemory; text = codes "no memory\n"; said = refl; sent = sent }
 
   module _ (r : LinkRefusal) (h : IsNotFollowed leaf r before.host now.host) (reports : Reports (of_chain (meaning_of r)) before.written now.written before.sink_faults now.sink_faults status) where
@@ -148,7 +149,7 @@ module _ (leaf : List ℕ) (merge : Option (List ℕ)) (before now : World) (sta
       undrawn = undrawn;
     })
 
-    unlinked_ends : Ends (HasMerge merge) before now status
+    unlinked_ends : Ends (HasMerge merge) (HasUnread leaf merge before now status) before now status
     unlinked_ends = reports_end (of_chain (meaning_of r)) (counted leaf before.host now.host (of_chain (meaning_of r)) left_by) reports (home_followed leaf before.host.folder now.host.folder idle unlinked_follows)
         (λ fault none. idle_left leaf before.host now.host (of_chain (meaning_of r)) before.written now.written before.sink_faults now.sink_faults status left_by reports fault)
 
@@ -165,7 +166,7 @@ module _ (leaf : List ℕ) (merge : Option (List ℕ)) (before now : World) (sta
     healthy_all healthy f told = let g = told_mid leaf linked before.host mid h f told in returned_join IsHealthy before.host mid now.host (h.replayed.healthy f told) (healthy g.0 g.1)
 
     fault_shown : (fault : StoreFault) → IsCounted mid now.host fault → ShowsFault before.host now.host (fault_line (codes "store") fault.count)
-    fault_shown fault c = of_store fault.count c.some (rose_all c.rose) (counts_as fault.count before.host now.host before.host.folder (last_all fault.count c.last)) refl
+    fault_shown fault c = printed.of_store fault.count c.some (rose_all c.rose) (counts_as fault.count before.host now.host before.host.folder (last_all fault.count c.last)) refl
 
     home_all : WhereTold mid.folder (λ g. WhereTold now.host.folder AllHome) → StaysHome before.host.folder now.host.folder
     home_all home f told = let g = told_mid leaf linked before.host mid h f told in home g.0 g.1
@@ -211,8 +212,8 @@ module _ (leaf : List ℕ) (merge : Option (List ℕ)) (before now : World) (sta
       no_log : HasServedOut merge service meant → service.has_begun ≡ true → WhereTold mid.folder (λ g. LogsEnded)
       left : HasServedOut merge service meant → service.has_begun ≡ true → WhereTold mid.folder (λ g. MergeLeft service (leaf_name linked))
       unchanged : meant ≡ Refused → service.has_begun ≡ false → code.StaysAsItWas mid.folder now.host.folder
-      rose : meant ≡ Fault → Rose before.host.faults now.host.faults
-      quiet : meant ≢ Fault → (now.host.faults ≡ before.host.faults) × (met service ≡ None)
+      rose : meant ≡ Fault → Rose before.host.faults now.host.faults ⊎ (0 < unread_by service)
+      quiet : meant ≢ Fault → (now.host.faults ≡ before.host.faults) × (met service ≡ None) × (unread_by service ≡ 0)
 
     abbrev EndsOf : Service → Type 0
     EndsOf service = AllByRecursion (IsEndTold (λ next. WhereTold now.host.folder (HasLong (changed_names false merge linked.files) next))) (all_told service.guests)
@@ -220,28 +221,34 @@ module _ (leaf : List ℕ) (merge : Option (List ℕ)) (before now : World) (sta
     abbrev StopOf : Service → Type 0
     StopOf service = IfSome service.stopped (IsStopTold (λ next. WhereTold now.host.folder (HasLong (changed_names false merge linked.files) next)))
 
+    abbrev UnreadOf : Service → Type 0
+    UnreadOf service = AllByRecursion (λ fault. fault.file < length linked.files) (all_unread service.guests)
+
     abbrev FaultsOf : Service → Type 0
     FaultsOf service = LastReturned (λ store. FaultsAreTold (all_told service.guests) service.ended (length linked.files) (λ file. 0) store.failed_reads store.failed_changes) mid now.host
 
     over_by : (service : Service) → (service.has_begun ≡ false → service ≡ no_service) → HasSaid service → WhereTold mid.folder (λ g. OpensIn linked g (λ disk. AreServed (is_some merge) (drive_over false disk) lines service.guests service.history service.ended service.broken))
-        → WhereTold mid.folder (λ g. Stands Guests merge linked service.history service.broken g mid now.host) → WhereTold mid.folder (λ g. EndsOf service × StopOf service × (service.has_begun ≡ true → FaultsOf service)) → RunsServe leaf merge before now status
-    over_by service none s told_so stands outside = serves.served (record {
-      begun = begun;
-      taken = taken;
-      opened = mid;
-      followed = followed leaf before.host mid (has_followed leaf linked before.host h.links mid h.replayed) h.moments;
-      opening = h.moments;
-      service = service;
-      none = none;
-      meant = s.meant;
-      text = s.text;
-      said = s.said;
-      sent = s.sent;
-      kept = keeps;
-      unchanged = s.unchanged;
-      rose = s.rose;
-      quiet = s.quiet;
-    })
+        → WhereTold mid.folder (λ g. Stands Guests merge linked service.history service.broken g mid now.host) → WhereTold mid.folder (λ g. EndsOf service × StopOf service × (service.has_begun ≡ true → FaultsOf service) × UnreadOf service) → (over : ServesOver leaf merge before now status) × (over.service ≡ service)
+    over_by service none s told_so stands outside = (
+      record {
+        begun = begun;
+        taken = taken;
+        opened = mid;
+        followed = followed leaf before.host mid (has_followed leaf linked before.host h.links mid h.replayed) h.moments;
+        opening = h.moments;
+        service = service;
+        none = none;
+        meant = s.meant;
+        text = s.text;
+        said = s.said;
+        sent = s.sent;
+        kept = keeps;
+        unchanged = s.unchanged;
+        rose = s.rose;
+        quiet = s.quiet;
+      },
+      refl,
+    )
       where
         keeps : WhereTold before.host.folder (λ f. KeepsServed leaf linked begun.disk merge lines service s.meant mid now.host)
         keeps f told =
@@ -255,6 +262,7 @@ module _ (leaf : List ℕ) (merge : Option (List ℕ)) (before now : World) (sta
               full = (outside g.0 g.1).0;
               stopped = (outside g.0 g.1).1;
               faults = (outside g.0 g.1).2;
+              unread = (outside g.0 g.1).3;
               spared = λ x is. (stands x is).spared;
               idle = λ rested after is. (s.rests rested g.0 g.1).idle g.0 g.1 after is;
               at_rest = λ rested after is. subst (λ n. OpensTo (files_of after) n (replay sector_size begun.disk service.history)) name ((s.rests rested g.0 g.1).opens begun.disk opens after is);
@@ -294,7 +302,7 @@ module _ (leaf : List ℕ) (merge : Option (List ℕ)) (before now : World) (sta
       not_rests_by no_memory reports p fault memory = unless_memory merge p (memory (sent_is _ _ _ _ NoMemory _ status reports fault))
 
       module _ (reports : Reports (meaning_of_steps r) before.written now.written before.sink_faults now.sink_faults status) where
-        not_run_ends : Ends (HasMerge merge) before now status
+        not_run_ends : Ends (HasMerge merge) (HasUnread leaf merge before now status) before now status
         not_run_ends =
             reports_end (meaning_of_steps r) (counts_all (meaning_of_steps r) n.counts) reports (home_all (λ g is. (n.stands g is).home)) (λ fault none. idle_all (λ g is. (not_rests_by (meaning_of_steps r) reports n.rests fault (λ e. none_of merge (none e)) g is).idle g is))
 
@@ -310,8 +318,8 @@ module _ (leaf : List ℕ) (merge : Option (List ℕ)) (before now : World) (sta
           no_log = λ rested some. let never : false ≡ true = some in cc;
           left = λ rested some. let never : false ≡ true = some in cc;
           unchanged = λ refused begun. unchanged refused;
-          rose = rose;
-          quiet = λ other. (quiet other, refl);
+          rose = λ fault. inl (rose fault);
+          quiet = λ other. (quiet other, refl, refl);
         }
 
         not_run_said : HasSaid no_service
@@ -320,8 +328,8 @@ module _ (leaf : List ℕ) (merge : Option (List ℕ)) (before now : World) (sta
             by_meaning : (m : Meaning Refusal) → code.CountsRefusal mid now.host m → code.IsNoRule m → UnlessStore m (UnlessMerging merge m RestsNone) → Reports m before.written now.written before.sink_faults now.sink_faults status → HasSaid no_service
             by_meaning (refuses x) counts none rests sent = absurd none
             by_meaning (host_failed fault) counts none rests sent =
-                not_said Fault _ (steps.unrun refl (of_host (rose_all counts.0) (healthy_all counts.2) (ap (fault_line (codes "host")) counts.1))) sent (λ other. absurd (other refl)) (λ e. cc) (λ e. rose_all counts.0) (λ other. absurd (other refl))
-            by_meaning (store_failed fault) counts none rests sent = not_said Fault _ (steps.unrun refl (fault_shown fault counts)) sent (λ other. absurd (other refl)) (λ e. cc) (λ e. rose_all counts.rose) (λ other. absurd (other refl))
+                not_said Fault _ (of_store (steps.unrun refl (printed.of_host (rose_all counts.0) (healthy_all counts.2) (ap (fault_line (codes "host")) counts.1)))) sent (λ other. absurd (other refl)) (λ e. cc) (λ e. rose_all counts.0) (λ other. absurd (other refl))
+            by_meaning (store_failed fault) counts none rests sent = not_said Fault _ (of_store (steps.unrun refl (fault_shown fault counts))) sent (λ other. absurd (other refl)) (λ e. cc) (λ e. rose_all counts.rose) (λ other. absurd (other refl))
             by_meaning no_memory counts none rests sent = not_said NoMemory (codes "no memory\n") refl sent (λ other memory. unless_memory merge rests (memory refl)) (λ e. cc) (λ e. cc) (λ other. counts ∙ h.replayed.quiet)
 
             -- it was refused by a rule, or memory ran out for the line
@@ -344,10 +352,10 @@ module _ (leaf : List ℕ) (merge : Option (List ℕ)) (before now : World) (sta
             by_refusal (refusal.MetadataFull file) counts cause rests same sent = refused_by (MetadataFull file) (refuses_by leaf linked before.host mid h before.drawn now.drawn false false merge (refusal.MetadataFull file) refl cause (MetadataFull file) refl tt) counts rests same sent
 
         none_told : (g : List Held) → OpensIn linked g (λ disk. AreServed (is_some merge) (drive_over false disk) lines [] [] None None)
-        none_told g disk opens = record { told = tt; order = tt; all = λ p low high. absurd (omega (arith, low, high)); breaker = tt }
+        none_told g disk opens = record { told = tt; order = tt; unread = tt; all = λ p low high. absurd (omega (arith, low, high)); breaker = tt }
 
         not_run_runs : RunsServe leaf merge before now status
-        not_run_runs = over_by no_service (λ e. refl) not_run_said (λ g is. none_told g) n.stands (λ g is. (tt, tt, λ some. let never : false ≡ true = some in cc))
+        not_run_runs = serves.served (over_by no_service (λ e. refl) not_run_said (λ g is. none_told g) n.stands (λ g is. (tt, tt, (λ some. let never : false ≡ true = some in cc), tt))).0
 
     -- ---- a session ran
 
@@ -364,93 +372,104 @@ module _ (leaf : List ℕ) (merge : Option (List ℕ)) (before now : World) (sta
       transcript_is : (merged : Result (Unit {0}) ChainRefusal) (fault : Option StoreFault) (closed : Result (Unit {0}) StoreFault) (text : List ℕ) → TextIs text → IsServiceText begun merge now (service_by merged fault closed) text
       transcript_is merged fault closed text w = record { count = o.count; transcript = w; drawn = drawn_before leaf linked before.host mid h before.drawn now.drawn false merge false o.drawn }
 
+      -- how many reads failed by a reader
+      abbrev missed : ℕ
+      missed = length (all_unread o.guests)
+
       record Shown (merged : Result (Unit {0}) ChainRefusal) (fault : Option StoreFault) (closed : Result (Unit {0}) StoreFault) (said : Status × List ℕ) : Type 0 where
         so : IsServeText begun merge now (service_by merged fault closed) said.0 said.1
-        rose : said.0 ≡ Fault → Rose before.host.faults now.host.faults
-        quiet : said.0 ≢ Fault → (now.host.faults ≡ before.host.faults) × (met (service_by merged fault closed) ≡ None)
+        rose : said.0 ≡ Fault → Rose before.host.faults now.host.faults ⊎ (0 < missed)
+        quiet : said.0 ≢ Fault → (now.host.faults ≡ before.host.faults) × (met (service_by merged fault closed) ≡ None) × (missed ≡ 0)
 
       -- what stopped a merge whose transcript is whole, if no fault was met
       abbrev Unfinished : {Z : Type 0} → Result (String Z) NoRoom → Option StoreFault → Result (Unit {0}) StoreFault → Result (Unit {0}) ChainRefusal → Type 0
       Unfinished t fault closed merged = IfErr merged (λ e. (merge ≢ None) × (fault ≡ None → IfErr closed (λ x. ⊥) → IfErr t (λ x. ⊥) → IsUnfinished (Some e)))
 
-      whole_shown : {Z : Type 0} (text : String Z) (u : Unit {0}) (merged : Result (Unit {0}) ChainRefusal) → TextIs (string_bytes text) → Unfinished (Ok text) None (Ok u) merged → (now.host.faults ≡ before.host.faults) → Shown merged None (Ok u) (end_of merged, string_bytes text)
-      whole_shown text u (Ok done) w stopped quiet = record { so = (transcript_is (Ok done) None (Ok u) (string_bytes text) w, refl, refl); rose = λ e. cc; quiet = λ other. (quiet, refl) }
-      whole_shown text u (Err e) w stopped quiet =
-          record { so = serves.unfinished refl stopped.0 (stopped.1 refl tt tt) (transcript_is (Err e) None (Ok u) (string_bytes text) w); rose = λ e. cc; quiet = λ other. (quiet, refl) }
+      whole_shown : {Z : Type 0} (text : String Z) (u : Unit {0}) (merged : Result (Unit {0}) ChainRefusal) → TextIs (string_bytes text) → Unfinished (Ok text) None (Ok u) merged → (now.host.faults ≡ before.host.faults) → missed ≡ 0
+          → Shown merged None (Ok u) (end_of merged, string_bytes text)
+      whole_shown text u (Ok done) w stopped quiet none = record { so = (transcript_is (Ok done) None (Ok u) (string_bytes text) w, refl, refl); rose = λ e. cc; quiet = λ other. (quiet, refl, none) }
+      whole_shown text u (Err e) w stopped quiet none =
+          record { so = serves.unfinished refl stopped.0 (stopped.1 refl tt tt) (transcript_is (Err e) None (Ok u) (string_bytes text) w); rose = λ e. cc; quiet = λ other. (quiet, refl, none) }
 
       stopped_so : (merged : Result (Unit {0}) ChainRefusal) → IfErr merged (λ e. (merge ≢ None) × StopsMerge run.run e) → Unfinished run.run.transcript run.run.fault run.run.closed merged
       stopped_so (Ok done) k = tt
       stopped_so (Err e) k = (k.0, unfinished_by run.run e k.1)
 
-      shown_by : {Z : Type 0} (t : Result (String Z) NoRoom) (fault : Option StoreFault) (closed : Result (Unit {0}) StoreFault) (merged : Result (Unit {0}) ChainRefusal) → IfOk t (λ text. TextIs (string_bytes text))
-          → IfSome fault (IsCounted mid now.host) → IfErr closed (IsCounted mid now.host) → (fault ≡ None → OnOk closed (now.host.faults ≡ mid.faults)) → Unfinished t fault closed merged → Shown merged fault closed (said_of (end_of merged) t fault closed)
-      shown_by (Ok text) None (Ok done) merged w counts ended quiet stopped = whole_shown text done merged w stopped (quiet refl ∙ h.replayed.quiet)
-      shown_by (Ok text) None (Err last) merged w counts ended quiet stopped =
-          record { so = steps.in_lines last refl (transcript_is merged None (Err last) (string_bytes text) w); rose = λ e. rose_all ended.rose; quiet = λ other. absurd (other refl) }
-      shown_by (Ok text) (Some fault) (Ok done) merged w counts ended quiet stopped =
-          record { so = steps.in_lines fault refl (transcript_is merged (Some fault) (Ok done) (string_bytes text) w); rose = λ e. rose_all counts.rose; quiet = λ other. absurd (other refl) }
-      shown_by (Ok text) (Some fault) (Err last) merged w counts ended quiet stopped =
-          record { so = steps.in_lines last refl (transcript_is merged (Some fault) (Err last) (string_bytes text) w); rose = λ e. rose_all counts.rose; quiet = λ other. absurd (other refl) }
-      shown_by (Err e) fault (Err last) merged w counts ended quiet stopped = record { so = steps.no_text last refl (fault_shown last ended) refl; rose = λ e. rose_all ended.rose; quiet = λ other. absurd (other refl) }
-      shown_by (Err e) (Some fault) (Ok done) merged w counts ended quiet stopped = record { so = steps.no_text fault refl (fault_shown fault counts) refl; rose = λ e. rose_all counts.rose; quiet = λ other. absurd (other refl) }
-      shown_by (Err e) None (Ok done) merged w counts ended quiet stopped = record { so = refl; rose = λ e. cc; quiet = λ other. (quiet refl ∙ h.replayed.quiet, refl) }
+      some_missed : (unread : ℕ) → unread ≡ missed → (unread == 0) ≡ false → 0 < missed
+      some_missed unread is some = positive unread is some
+        where
+          positive : (n : ℕ) → n ≡ missed → (n == 0) ≡ false → 0 < missed
+          positive zero e f = absurd (true_false f)
+          positive (suc n) e f = omega (arith, e)
+
+      shown_by : {Z : Type 0} (t : Result (String Z) NoRoom) (fault : Option StoreFault) (closed : Result (Unit {0}) StoreFault) (merged : Result (Unit {0}) ChainRefusal) (unread : ℕ) → IfOk t (λ text. TextIs (string_bytes text))
+          → IfSome fault (IsCounted mid now.host) → IfErr closed (IsCounted mid now.host) → (fault ≡ None → OnOk closed (now.host.faults ≡ mid.faults)) → Unfinished t fault closed merged → unread ≡ missed → Shown merged fault closed (served_of (end_of merged) unread t fault closed)
+      shown_by (Ok text) None (Ok done) merged unread w counts ended quiet stopped is = by_count (unread == 0) refl
+        where
+          by_count : (b : Bool) → (unread == 0) ≡ b → Shown merged None (Ok done) (if b then end_of merged else Fault, string_bytes text)
+          by_count true none = whole_shown text done merged w stopped (quiet refl ∙ h.replayed.quiet) (sym is ∙ eqb-true unread 0 none)
+          by_count false some =
+              record { so = of_readers (some_missed unread is some) (transcript_is merged None (Ok done) (string_bytes text) w); rose = λ e. inr (some_missed unread is some); quiet = λ other. absurd (other refl) }
+      shown_by (Ok text) None (Err last) merged unread w counts ended quiet stopped is =
+          record { so = of_store (steps.in_lines last refl (transcript_is merged None (Err last) (string_bytes text) w)); rose = λ e. inl (rose_all ended.rose); quiet = λ other. absurd (other refl) }
+      shown_by (Ok text) (Some fault) (Ok done) merged unread w counts ended quiet stopped is =
+          record { so = of_store (steps.in_lines fault refl (transcript_is merged (Some fault) (Ok done) (string_bytes text) w)); rose = λ e. inl (rose_all counts.rose); quiet = λ other. absurd (other refl) }
+      shown_by (Ok text) (Some fault) (Err last) merged unread w counts ended quiet stopped is =
+          record { so = of_store (steps.in_lines last refl (transcript_is merged (Some fault) (Err last) (string_bytes text) w)); rose = λ e. inl (rose_all counts.rose); quiet = λ other. absurd (other refl) }
+      shown_by (Err e) fault (Err last) merged unread w counts ended quiet stopped is = record { so = of_store (steps.no_text last refl (fault_shown last ended) refl); rose = λ e. inl (rose_all ended.rose); quiet = λ other. absurd (other refl) }
+      shown_by (Err e) (Some fault) (Ok done) merged unread w counts ended quiet stopped is = record { so = of_store (steps.no_text fault refl (fault_shown fault counts) refl); rose = λ e. inl (rose_all counts.rose); quiet = λ other. absurd (other refl) }
+      shown_by (Err e) None (Ok done) merged unread w counts ended quiet stopped is = by_count (unread == 0) refl
+        where
+          by_count : (b : Bool) → (unread == 0) ≡ b → Shown merged None (Ok done) (if b then (NoMemory, codes "no memory\n") else (Fault, fault_line (codes "reader") unread))
+          by_count true none = record { so = refl; rose = λ e. cc; quiet = λ other. (quiet refl ∙ h.replayed.quiet, refl, sym is ∙ eqb-true unread 0 none) }
+          by_count false some =
+              record { so = of_readers_alone (some_missed unread is some) refl (ap (fault_line (codes "reader")) is); rose = λ e. inr (some_missed unread is some); quiet = λ other. absurd (other refl) }
 
       -- where no fault was meant the session ended
-      closed_well : {Z : Type 0} (end : Status) (t : Result (String Z) NoRoom) (fault : Option StoreFault) (closed : Result (Unit {0}) StoreFault) {P : Type 0} → Sent before.written now.written before.sink_faults now.sink_faults (said_of end t fault closed).0 (said_of end t fault closed).1 status
+      closed_well : {Z : Type 0} (end : Status) (unread : ℕ) (t : Result (String Z) NoRoom) (fault : Option StoreFault) (closed : Result (Unit {0}) StoreFault) {P : Type 0} → Sent before.written now.written before.sink_faults now.sink_faults (served_of end unread t fault closed).0 (served_of end unread t fault closed).1 status
           → OnOk closed P → status ≢ Fault → P
-      closed_well end (Ok text) None (Ok done) sent p none = p
-      closed_well end (Ok text) None (Err fault) sent p none = absurd (none (is_fault _ _ _ _ _ status sent))
-      closed_well end (Ok text) (Some fault) closed sent p none = absurd (none (is_fault _ _ _ _ _ status sent))
-      closed_well end (Err e) fault (Err last) sent p none = absurd (none (is_fault _ _ _ _ _ status sent))
-      closed_well end (Err e) (Some fault) (Ok done) sent p none = p
-      closed_well end (Err e) None (Ok done) sent p none = p
+      closed_well end unread (Ok text) None (Ok done) sent p none = p
+      closed_well end unread (Ok text) None (Err fault) sent p none = absurd (none (is_fault _ _ _ _ _ status sent))
+      closed_well end unread (Ok text) (Some fault) closed sent p none = absurd (none (is_fault _ _ _ _ _ status sent))
+      closed_well end unread (Err e) fault (Err last) sent p none = absurd (none (is_fault _ _ _ _ _ status sent))
+      closed_well end unread (Err e) (Some fault) (Ok done) sent p none = p
+      closed_well end unread (Err e) None (Ok done) sent p none = p
 
-      module _ (sent : Sent before.written now.written before.sink_faults now.sink_faults (run_said (end_of run.merged) run.run).0 (run_said (end_of run.merged) run.run).1 status) where
-        in_mid : (P : List Held → Type 0) (g : List Held) → mid.folder ≡ Some g → P g → WhereTold mid.folder P
-        in_mid P g g_is p x is = subst P (same_Some g x (sym g_is ∙ is)) p
+      module _ (sent : Sent before.written now.written before.sink_faults now.sink_faults (served_said run).0 (served_said run).1 status) where
+        shown : Shown run.merged run.run.fault run.run.closed (served_said run)
+        shown = shown_by run.run.transcript run.run.fault run.run.closed run.merged run.unread o.transcript o.counted o.ended o.quiet (stopped_so run.merged o.stopped) o.unread_is
 
         said_all : HasSaid service
-        said_all =
-            let shown = shown_by run.run.transcript run.run.fault run.run.closed run.merged o.transcript o.counted o.ended o.quiet (stopped_so run.merged o.stopped) in
-            record {
-              meant = (run_said (end_of run.merged) run.run).0;
-              text = (run_said (end_of run.merged) run.run).1;
-              said = shown.so;
-              sent = sent;
-              rests = λ rested g is. ended_well run.run.closed (o.served g is).rests rested.sound.0;
-              no_log = λ rested some g is. ended_well run.run.closed (o.served g is).no_log rested.sound.0;
-              left = λ rested some g is. ended_well run.run.closed (o.served g is).left rested.sound.0;
-              unchanged = λ e begun. let never : true ≡ false = begun in cc;
-              rose = shown.rose;
-              quiet = shown.quiet;
-            }
+        said_all = record {
+          meant = (served_said run).0;
+          text = (served_said run).1;
+          said = shown.so;
+          sent = sent;
+          rests = λ rested g is. ended_well run.run.closed (o.served g is).rests rested.sound.0;
+          no_log = λ rested some g is. ended_well run.run.closed (o.served g is).no_log rested.sound.0;
+          left = λ rested some g is. ended_well run.run.closed (o.served g is).left rested.sound.0;
+          unchanged = λ e begun. let never : true ≡ false = begun in cc;
+          rose = shown.rose;
+          quiet = shown.quiet;
+        }
+
+        serves_over : (over : ServesOver leaf merge before now status) × (over.service ≡ service)
+        serves_over =
+            over_by service (λ e. let never : true ≡ false = e in cc) said_all (λ g is. (o.served g is).told_so) (λ g is. (o.served g is).stands) (λ g is. ((o.served g is).full, (o.served g is).stopped, (λ some. (o.served g is).faults), (o.served g is).unread))
 
         run_runs : RunsServe leaf merge before now status
-        run_runs = over_by service (λ e. let never : true ≡ false = e in cc) said_all (λ g is. (o.served g is).told_so) (λ g is. (o.served g is).stands) (λ g is. ((o.served g is).full, (o.served g is).stopped, λ some. (o.served g is).faults))
+        run_runs = serves.served serves_over.0
 
-        run_ends : Ends (HasMerge merge) before now status
+        run_ends : Ends (HasMerge merge) (HasUnread leaf merge before now status) before now status
         run_ends =
-            ends_all (end_of run.merged) (ended_so run.merged) run.run.transcript run.run.fault run.run.closed o.counted o.ended o.quiet sent (home_all (λ g is. (o.served g is).stands.home))
-            (λ none memory. idle_all (λ g is. (closed_well (end_of run.merged) run.run.transcript run.run.fault run.run.closed sent (o.served g is).rests none).idle g is))
-          where
-            ended_so : (merged : Result (Unit {0}) ChainRefusal) → end_of merged ≢ Fault
-            ended_so (Ok done) = λ e. cc
-            ended_so (Err refusal) = λ e. cc
-
-            ends_all : {Z : Type 0} (end : Status) → end ≢ Fault → (t : Result (String Z) NoRoom) (fault : Option StoreFault) (closed : Result (Unit {0}) StoreFault) → IfSome fault (IsCounted mid now.host) → IfErr closed (IsCounted mid now.host) → (fault ≡ None → OnOk closed (now.host.faults ≡ mid.faults))
-                → Sent before.written now.written before.sink_faults now.sink_faults (said_of end t fault closed).0 (said_of end t fault closed).1 status → StaysHome before.host.folder now.host.folder
-                → (status ≢ Fault → (status ≡ NoMemory → ¬ HasMerge merge) → WhereTold before.host.folder (λ f. WhereTold now.host.folder AllIdle)) → Ends (HasMerge merge) before now status
-            ends_all end sound (Ok text) None (Ok done) counts ended quiet sent home idles = ends_by (HasMerge merge) before now end status _ sent (λ e. absurd (sound e)) (λ e. (quiet refl ∙ h.replayed.quiet, unread)) home idles
-            ends_all end sound (Ok text) None (Err last) counts ended quiet sent home idles = ends_by (HasMerge merge) before now Fault status _ sent (λ e. inl (rose_all ended.rose)) (λ e. absurd (e refl)) home idles
-            ends_all end sound (Ok text) (Some fault) closed counts ended quiet sent home idles = ends_by (HasMerge merge) before now Fault status _ sent (λ e. inl (rose_all counts.rose)) (λ e. absurd (e refl)) home idles
-            ends_all end sound (Err x) fault (Err last) counts ended quiet sent home idles = ends_by (HasMerge merge) before now Fault status _ sent (λ e. inl (rose_all ended.rose)) (λ e. absurd (e refl)) home idles
-            ends_all end sound (Err x) (Some fault) (Ok done) counts ended quiet sent home idles = ends_by (HasMerge merge) before now Fault status _ sent (λ e. inl (rose_all counts.rose)) (λ e. absurd (e refl)) home idles
-            ends_all end sound (Err x) None (Ok done) counts ended quiet sent home idles = ends_by (HasMerge merge) before now NoMemory status _ sent (λ e. cc) (λ e. (quiet refl ∙ h.replayed.quiet, unread)) home idles
+            ends_with (HasMerge merge) (HasUnread leaf merge before now status) before now (served_said run).0 status (served_said run).1 sent
+            (λ fault. elim (shown.rose fault) [ inl rose ↦ inl (inl rose) | inr some ↦ inr (serves_over.0, subst (λ s. 0 < unread_by s) (sym serves_over.1) some) ]) (λ other. ((shown.quiet other).0, unread)) (home_all (λ g is. (o.served g is).stands.home))
+            (λ none memory. idle_all (λ g is. (closed_well (end_of run.merged) run.unread run.run.transcript run.run.fault run.run.closed sent (o.served g is).rests none).idle g is))
 
   -- ---- whatever the answer
 
   both : (result : Result MergeRun StepsRefusal) → LeafIsServed leaf merge lines before.host now.host before.drawn now.drawn result → ReportsServed result before.written now.written before.sink_faults now.sink_faults status
-      → RunsServe leaf merge before now status × Ends (HasMerge merge) before now status
+      → RunsServe leaf merge before now status × Ends (HasMerge merge) (HasUnread leaf merge before now status) before now status
   both result (code_guests.no_room is same undrawn) reports =
       let sent : Sent before.written now.written before.sink_faults now.sink_faults NoMemory (codes "no memory\n") status = subst (λ x. ReportsServed x before.written now.written before.sink_faults now.sink_faults status) is reports in (
         serves.unopened (not_opened kinds.Serve leaf (HasMerge merge) before now status same undrawn NoMemory (codes "no memory\n") sent refl (λ bytes told. ((lines, is_script bytes told), taken bytes told))),
@@ -465,7 +484,7 @@ module _ (leaf : List ℕ) (merge : Option (List ℕ)) (before now : World) (sta
   pub leaf_serves : (result : Result MergeRun StepsRefusal) → LeafIsServed leaf merge lines before.host now.host before.drawn now.drawn result → ReportsServed result before.written now.written before.sink_faults now.sink_faults status → RunsServe leaf merge before now status
   leaf_serves result h reports = (both result h reports).0
 
-  pub leaf_serves_ends : (result : Result MergeRun StepsRefusal) → LeafIsServed leaf merge lines before.host now.host before.drawn now.drawn result → ReportsServed result before.written now.written before.sink_faults now.sink_faults status → Ends (HasMerge merge) before now status
+  pub leaf_serves_ends : (result : Result MergeRun StepsRefusal) → LeafIsServed leaf merge lines before.host now.host before.drawn now.drawn result → ReportsServed result before.written now.written before.sink_faults now.sink_faults status → Ends (HasMerge merge) (HasUnread leaf merge before now status) before now status
   leaf_serves_ends result h reports = (both result h reports).1
 
 -- a run over the leaf's name, by what its arguments are

@@ -27,6 +27,7 @@ use Rattle.chain_core.specs.Starting.{opening_disk, placed_from as placed, way_t
 use Rattle.vhdx_app.specs.Commands.{AreOpened, placed_from}
 use Rattle.script_session.specs.Histories.{Break, IsSoLong}
 use Rattle.script_session.specs.Running.{open_last}
+use Rattle.chain_core.specs.Sealed.{IsKept}
 use Rattle.vhdx_app.specs.Crashes.{AreSpared, EachImageOpens, HasLong, OpensToFirst}
 use Rattle.vhdx_app.specs.Sessions.{LeadsWhole}
 use Rattle.vhdx_app.specs.Folders.{LeadsTo, files_of}
@@ -36,7 +37,7 @@ use Rattle.vhdx_app.proofs.Lent.{back_over, each_at, names_attached, names_in, o
 use Rattle.vhdx_app.proofs.Reopened.{OutOf, images_link, images_relink, images_reopen, way_at}
 use Rattle.vhdx_app.proofs.Resting.{leads_at_rest, opens_at_rest}
 use Rattle.vhdx_app.proofs.Returned.{AreBack, are_back}
-use Rattle.vhdx_app.proofs.Sparing.{are_spared, spared_idle, still_before}
+use Rattle.vhdx_app.proofs.Sparing.{are_spared, kept_before, spared_idle}
 
 -- ---- names
 
@@ -115,7 +116,7 @@ module _ (retired : List (List ℕ)) (leaf : LinkedFile) (others : List LinkedFi
   retired_once = subst NoneTwice (sym chain.names) (first_once_of retired (names_of (leaf ∷ others)) once)
 
   module _ (whole : LeadsWhole (files_of folder) name (names_of (leaf ∷ others))) (drops : Option (List ℕ)) (changed : List (List ℕ)) (written : ℕ → Bool) (may : (n : ℕ) → written n ≡ true → is_among (slice_index_or (names_of (leaf ∷ others)) n []) changed ≡ true) (trace : Trace) (same : trace.attached ≡ old.attached)
-      (still : (other : ℕ) → written other ≡ false → file_of trace other ≡ file_of old other) where
+      (still : (other : ℕ) → written other ≡ false → IsKept (file_of old other) (file_of trace other)) where
     abbrev pub rest : List Held
     rest = without names folder
 
@@ -141,7 +142,7 @@ module _ (retired : List (List ℕ)) (leaf : LinkedFile) (others : List LinkedFi
         (subst (λ n. EachOpens (way_at n way.first drops) among disk (at_moment k trace)) (sym first_is) opens)
 
     pub spared_at : (k : ℕ) → AreSpared changed folder (given_back (at_moment k trace) rest)
-    spared_at k = are_spared changed (names_of (leaf ∷ others)) folder idle names_once there written may (at_moment k trace) (attached_at k) (λ other apart. still_before other k old trace refl same (still other apart))
+    spared_at k = are_spared changed (names_of (leaf ∷ others)) folder idle names_once there written may (at_moment k trace) (attached_at k) (λ other apart. kept_before other k old trace refl same (still other apart))
 
     now_at : at_moment (moment trace) trace ≡ trace
     now_at = at_moment-now trace

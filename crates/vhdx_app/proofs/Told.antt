@@ -1,6 +1,6 @@
 -- What is said of a script's run, by what it gave.
-use Rattle.std.proofs.Common.{◌≡◌, ℕ, List, Option, Some, None, Result, Ok, Err, sym, ap, subst, ◌∙◌}
-use Rattle.std.specs.Prelude.{String, codes, string_bytes}
+use Rattle.std.proofs.Common.{◌≡◌, ◌<◌, ◌≤◌, arith, ne_eqb, ℕ, List, Option, Some, None, Result, Ok, Err, sym, ap, subst, ◌∙◌}
+use Rattle.std.specs.Prelude.{◌==◌, if◌then◌else◌, String, codes, string_bytes}
 use Rattle.store_model.specs.declared.fault.StoreFault.{StoreFault}
 use Rattle.vx_base.specs.declared.NoRoom.{NoRoom}
 use Rattle.script.specs.declared.refusal.SourceRefusal.{SourceRefusal}
@@ -9,7 +9,7 @@ use Rattle.printing.specs.Answers.{fault_line}
 use Rattle.printing.specs.Sent.{Sent}
 use Rattle.vhdx_app.specs.Sessions.{ReportsRun, Said, lines_said, none_said, run_said, said_of, source_said}
 use Rattle.serve_session.specs.declared.merging.MergeRun.{MergeRun}
-use Rattle.vhdx_app.specs.Guests.{ReportsServed, end_of}
+use Rattle.vhdx_app.specs.Guests.{ReportsServed, end_of, none_served, served_of, served_said, unread_said, with_unread}
 use Rattle.vhdx_app.specs.declared.refusal.StepsRefusal.{StepsRefusal}
 use Rattle.printing.specs.declared.status.Status.{Status}
 use Rattle.printing.specs.declared.status.Status.TheVariants.{Done, Fault, NoMemory}
@@ -59,8 +59,35 @@ module _ (before after : Option (List ℕ)) (old new : ℕ) (status : Status) wh
   pub source_told : (refusal r : SourceRefusal) → refusal ≡ r → IsSaid (source_said r) → IsSaid (source_said refusal)
   source_told refusal r is h = subst (λ x. IsSaid (source_said x)) (sym is) h
 
-  pub merge_said : (run : MergeRun) (end : Status) → end ≡ end_of run.merged → IsSaid (run_said end run.run) → IsSaid (run_said (end_of run.merged) run.run)
-  merge_said run end is h = subst (λ e. IsSaid (run_said e run.run)) is h
+  -- ---- of guests
 
-  pub served_told : (result : Result MergeRun StepsRefusal) (run : MergeRun) → result ≡ Ok run → IsSaid (run_said (end_of run.merged) run.run) → ReportsServed result before after old new status
+  -- a count that is none, or isn't
+  pub unread_some : (unread : ℕ) → 0 < unread → Sent before after old new Fault (fault_line (codes "reader") unread) status → IsSaid (unread_said unread)
+  unread_some unread some h =
+      said_by (unread_said unread) (Fault, fault_line (codes "reader") unread) (ap (λ b. if b then (NoMemory, codes "no memory\n") else (Fault, fault_line (codes "reader") unread)) (ne_eqb unread 0 (λ none. absurd (omega (arith, some, none))))) h
+
+  pub unread_none : (unread : ℕ) → unread ≤ 0 → Sent before after old new NoMemory (codes "no memory\n") status → IsSaid (unread_said unread)
+  unread_none unread none h = said_by (unread_said unread) (NoMemory, codes "no memory\n") (ap unread_said {x = unread} {y = 0} (omega (arith, none))) h
+
+  pub served_at_end : (unread : ℕ) (fault : Option StoreFault) (closed : Result (Unit {0}) StoreFault) (f : StoreFault) → closed ≡ Err f → Sent before after old new Fault (fault_line (codes "store") f.count) status → IsSaid (none_served unread fault closed)
+  served_at_end unread fault closed f b h = said_by (none_served unread fault closed) (none_served unread fault (Err f)) (ap (none_served unread fault) b) h
+
+  pub served_at_line : (unread : ℕ) (fault : Option StoreFault) (closed : Result (Unit {0}) StoreFault) (f : StoreFault) (u : Unit {0}) → fault ≡ Some f → closed ≡ Ok u → Sent before after old new Fault (fault_line (codes "store") f.count) status
+      → IsSaid (none_served unread fault closed)
+  served_at_line unread fault closed f u a b h =
+      said_by (none_served unread fault closed) (none_served unread (Some f) (Ok u)) (ap (λ x. none_served unread x closed) a ∙ ap (none_served unread (Some f)) b) h
+
+  pub served_at_all : (unread : ℕ) (fault : Option StoreFault) (closed : Result (Unit {0}) StoreFault) (u : Unit {0}) → fault ≡ None → closed ≡ Ok u → IsSaid (unread_said unread) → IsSaid (none_served unread fault closed)
+  served_at_all unread fault closed u a b h = said_by (none_served unread fault closed) (none_served unread None (Ok u)) (ap (λ x. none_served unread x closed) a ∙ ap (none_served unread None) b) h
+
+  pub served_lines : {Z : Type 0} (end : Status) (unread : ℕ) (meant : Status) (t : Result (String Z) NoRoom) (fault : Option StoreFault) (closed : Result (Unit {0}) StoreFault) (text : String Z) (bytes : List ℕ) → t ≡ Ok text → bytes ≡ string_bytes text → meant ≡ with_unread end unread
+      → IsSaid (lines_said meant bytes fault closed) → IsSaid (served_of end unread t fault closed)
+  served_lines end unread meant t fault closed text bytes a b c h =
+      said_by (served_of end unread t fault closed) (lines_said (with_unread end unread) (string_bytes text) fault closed) (ap (λ x. served_of end unread x fault closed) a)
+      (subst (λ e. IsSaid (lines_said e (string_bytes text) fault closed)) c (subst (λ x. IsSaid (lines_said meant x fault closed)) b h))
+
+  pub served_none : {Z : Type 0} (end : Status) (unread : ℕ) (t : Result (String Z) NoRoom) (fault : Option StoreFault) (closed : Result (Unit {0}) StoreFault) (e : NoRoom) → t ≡ Err e → IsSaid (none_served unread fault closed) → IsSaid (served_of end unread t fault closed)
+  served_none end unread t fault closed e a h = said_by (served_of end unread t fault closed) (none_served unread fault closed) (ap (λ x. served_of end unread x fault closed) a) h
+
+  pub served_told : (result : Result MergeRun StepsRefusal) (run : MergeRun) → result ≡ Ok run → IsSaid (served_said run) → ReportsServed result before after old new status
   served_told result run is h = subst (λ r. ReportsServed r before after old new status) (sym is) h

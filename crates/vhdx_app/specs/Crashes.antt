@@ -1,8 +1,8 @@
 -- What a crash may leave of a folder while a session goes on, and what that is opened to.
 use Rattle.std.specs.Prelude.{◌≡◌, ◌<◌, ◌≤◌, ◌+◌, ◌*◌, ⊤, ℕ, Bool, true, List, [], ◌∷◌, length, take, Some}
 use Rattle.std.specs.List.{AllByRecursion}
-use Rattle.store_model.specs.File.{File, seen}
-use Rattle.store_model.specs.Folder.{Held, IsFolderImage, fresh}
+use Rattle.store_model.specs.File.{File, is_synced, seen}
+use Rattle.store_model.specs.Folder.{Held, IsFolderImage}
 use Rattle.store_model.specs.Trace.{NamedBytes}
 use Rattle.torn_match.specs.TornMatches.{HasNoTornMatch}
 use Rattle.guest_model.specs.Calls.{Disk}
@@ -42,7 +42,7 @@ pub record OpensToFirst (leaf : Way) (opening : Disk) (h : History) (is_broken :
 pub data IsSpared (changed : List (List ℕ)) (held : Held) : Held → Type 0 where
   may_change : (file : File) → is_among held.name changed ≡ true → IsSpared changed held (record held { file = Some file })
   untouched : IsSpared changed held held
-  attached : (file : File) → held.file ≡ Some file → IsSpared changed held (record held { file = Some (fresh (seen file)) })
+  attached : (file after : File) → held.file ≡ Some file → seen after ≡ seen file → is_synced after ≡ true → IsSpared changed held (record held { file = Some after })
 
 -- so it is with each file of a folder
 abbrev pub AreSpared : List (List ℕ) → List Held → List Held → Type 0

@@ -1,5 +1,5 @@
 -- What the functions of `serve` say of themselves; what a run promises doesn't rest on these.
-use Rattle.std.specs.Prelude.{◌≡◌, ◌≢◌, ℕ, Bool, true, false, is_some, List, length, string_bytes, Option, None, Some, Result, Ok, Err, IfErr, IfOk, IfSome, OnOk, option_map}
+use Rattle.std.specs.Prelude.{◌≡◌, ◌≢◌, ◌<◌, ◌==◌, if◌then◌else◌, codes, ℕ, Bool, true, false, is_some, List, length, String, string_bytes, Option, None, Some, Result, Ok, Err, IfErr, IfOk, IfSome, OnOk, option_map}
 use Rattle.std.specs.List.{AllByRecursion}
 use Rattle.store_model.specs.Disk.{Disk, WhereTold}
 use Rattle.store_model.specs.Folder.{Held, Hosted}
@@ -17,16 +17,18 @@ use Rattle.script_session.specs.Histories.{Break, IsEndTold}
 use Rattle.script_session.specs.Told.{failed_by}
 use Rattle.serve_session.specs.MergeServed.{HasRunServeLeafMerge, HasRunServeMerge, StopsMerge}
 use Rattle.serve_session.specs.Running.{HasRunServe}
-use Rattle.serve_session.specs.Served.{AreServed, IsTranscript, Outcome, all_told, guest_count}
+use Rattle.serve_session.specs.Served.{AreServed, IsTranscript, Outcome, all_told, all_unread, guest_count}
 use Rattle.serve_session.specs.declared.merging.MergeRun.{MergeRun}
+use Rattle.vx_base.specs.declared.NoRoom.{NoRoom}
+use Rattle.printing.specs.Answers.{fault_line}
 use Rattle.printing.specs.Sent.{Sent}
 use Rattle.printing.specs.declared.status.Status.{Status}
-use Rattle.printing.specs.declared.status.Status.TheVariants.{Done, Refused}
+use Rattle.printing.specs.declared.status.Status.TheVariants.{Done, Fault, NoMemory, Refused}
 use Rattle.vhdx_app.specs.Commands.{Reports}
 use Rattle.vhdx_app.specs.Crashes.{HasLong, NoneNamesLog}
 use Rattle.vhdx_app.specs.Folders.{LastReturned}
 use Rattle.vhdx_app.specs.Serves.{IsMergeLeft, IsStopTold}
-use Rattle.vhdx_app.specs.Sessions.{IsCounted, IsFollowedTo, IsNotFollowed, NotRunOver, OpensIn, Rests, Stands, leaf_name, meaning_of_steps, run_said}
+use Rattle.vhdx_app.specs.Sessions.{IsCounted, IsFollowedTo, IsNotFollowed, NotRunOver, OpensIn, Rests, Said, Stands, leaf_name, lines_said, meaning_of_steps}
 use Rattle.vhdx_app.specs.Starts.{DrawsFor, changed_names, is_leaf}
 use Rattle.vhdx_app.specs.Steps.{drive_over}
 use Rattle.vhdx_app.specs.declared.refusal.ChainRefusal.TheVariants as chain
@@ -47,7 +49,7 @@ HasServedMergeOf false files name names lines run old new before now = HasRunSer
 
 -- in a session without a merge none isn't finished
 pub record HasServedAlone (files : List LinkedFile) (names : List (List ℕ)) (lines : List Line) (run : MergeRun) (old new : Disk) (before now : Option (List (List ℕ))) : Type 0 where
-  pub ran : HasRunServe files names lines run.run old new before now
+  pub ran : HasRunServe files names lines (record { run = run.run; unread = run.unread }) old new before now
   pub none : IfErr run.merged (λ refusal. ⊥)
 
 -- with a merge of the file of this name, if there is one
@@ -69,6 +71,7 @@ pub record ServedIn (merge : Option (List ℕ)) (linked : Linked) (lines : List 
   pub full : AllByRecursion (IsEndTold (λ next. WhereTold new.folder (HasLong (changed_names false merge linked.files) next))) (all_told guests)
   pub stopped : IfSome (stopped_by merged) (IsStopTold (λ next. WhereTold new.folder (HasLong (changed_names false merge linked.files) next)))
   pub faults : LastReturned (λ store. FaultsAreTold (all_told guests) (failed_by closed) (length linked.files) (λ file. 0) store.failed_reads store.failed_changes) old new
+  pub unread : AllByRecursion (λ fault. fault.file < length linked.files) (all_unread guests)
   pub rests : OnOk closed (Rests linked history folder old new)
   pub no_log : OnOk closed (WhereTold new.folder (NoneNamesLog (changed_names false merge linked.files)))
   pub left : OnOk closed (IfSome merge (IsMergeLeft (stopped_by merged) (leaf_name linked) linked new))
@@ -84,6 +87,7 @@ pub record ServedOver (merge : Option (List ℕ)) (linked : Linked) (lines : Lis
   pub counted : IfSome run.run.fault (IsCounted old new)
   pub ended : IfErr run.run.closed (IsCounted old new)
   pub quiet : run.run.fault ≡ None → OnOk run.run.closed (new.faults ≡ old.faults)
+  pub unread_is : run.unread ≡ length (all_unread guests)
   pub stopped : IfErr run.merged (λ refusal. (merge ≢ None) × StopsMerge run.run refusal)
   pub served : WhereTold old.folder (λ folder. ServedIn merge linked lines guests history broken run.merged run.run.closed folder old new)
 
@@ -102,7 +106,27 @@ abbrev pub end_of : Result (Unit {0}) ChainRefusal → Status
 end_of (Ok done) = Done
 end_of (Err refusal) = Refused
 
+-- of whose reads so many failed by a reader
+abbrev pub with_unread : Status → ℕ → Status
+with_unread end unread = if unread == 0 then end else Fault
+
+-- and where memory ran out for it
+abbrev pub unread_said : ℕ → Said
+unread_said unread = if unread == 0 then (NoMemory, codes "no memory\n") else (Fault, fault_line (codes "reader") unread)
+
+abbrev pub none_served : ℕ → Option StoreFault → Result (Unit {0}) StoreFault → Said
+none_served unread refused (Err fault) = (Fault, fault_line (codes "store") fault.count)
+none_served unread (Some fault) (Ok done) = (Fault, fault_line (codes "store") fault.count)
+none_served unread None (Ok done) = unread_said unread
+
+abbrev pub served_of : {Z : Type 0} → Status → ℕ → Result (String Z) NoRoom → Option StoreFault → Result (Unit {0}) StoreFault → Said
+served_of end unread (Ok text) refused closed = lines_said (with_unread end unread) (string_bytes text) refused closed
+served_of end unread (Err e) refused closed = none_served unread refused closed
+
+abbrev pub served_said : MergeRun → Said
+served_said run = served_of (end_of run.merged) run.unread run.run.transcript run.run.fault run.run.closed
+
 -- what became of a script's guests was said
 abbrev pub ReportsServed : Result MergeRun StepsRefusal → Option (List ℕ) → Option (List ℕ) → ℕ → ℕ → Status → Type 0
-ReportsServed (Ok run) before after old new status = Sent before after old new (run_said (end_of run.merged) run.run).0 (run_said (end_of run.merged) run.run).1 status
+ReportsServed (Ok run) before after old new status = Sent before after old new (served_said run).0 (served_said run).1 status
 ReportsServed (Err refusal) before after old new status = Reports (meaning_of_steps refusal) before after old new status

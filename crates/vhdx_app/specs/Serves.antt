@@ -23,7 +23,8 @@ use Rattle.script_session.specs.Faults.{FaultsAreTold}
 use Rattle.script_session.specs.Histories.{Break, IsEndTold}
 use Rattle.script_session.specs.Running.{open_by, open_last}
 use Rattle.script_session.specs.Told.{later_of}
-use Rattle.serve_session.specs.Served.{AreServed, IsTranscript, Outcome, all_told, guest_count}
+use Rattle.serve_session.specs.Served.{AreServed, IsTranscript, Outcome, all_told, all_unread, guest_count}
+use Rattle.printing.specs.Answers.{fault_line}
 use Rattle.printing.specs.Sent.{Sent}
 use Rattle.vhdx_app.specs.Crashes.{AreSpared, EachImageOpens, HasLong, NoneNamesLog, OpensToFirst}
 use Rattle.vhdx_app.specs.Folders.{LastReturned, LeadsTo, OnlyFollows, files_of}
@@ -54,6 +55,10 @@ no_service = record { has_begun = false; guests = []; history = []; broken = Non
 abbrev pub met : Service → Option StoreFault
 met service = later_of service.refused service.ended
 
+-- how many reads of the guests stand in the history and failed by a reader
+abbrev pub unread_by : Service → ℕ
+unread_by service = length (all_unread service.guests)
+
 -- ---- what is printed
 
 -- The transcript of the whole script, in which files have the names of the chain's.
@@ -73,11 +78,18 @@ pub data ShowsRefused {leaf : List ℕ} {before : World} (begun : Opened script.
   unbegun : service.has_begun ≡ false → ShowsRefusal (RefusesSession false begun.linked before.host.folder before.drawn now.drawn merge) text → ShowsRefused begun merge now service text
   unfinished : service.has_begun ≡ true → merge ≢ None → IsUnfinished service.stopped → IsServiceText begun merge now service text → ShowsRefused begun merge now service text
 
+-- What is told of a fault: of the store's as of `steps`; where reads failed by a reader the transcript, or, where memory ran out for that and no
+-- fault of the store was met, the line of so many.
+pub data ShowsServeFault {leaf : List ℕ} {before : World} (begun : Opened script.Serve leaf before) (merge : Option (List ℕ)) (now : World) (service : Service) (text : List ℕ) : Type 0 where
+  of_store : ShowsStepsFault (IsServiceText begun merge now service) (service.has_begun ≡ false) (met service) before now text → ShowsServeFault begun merge now service text
+  of_readers : 0 < unread_by service → IsServiceText begun merge now service text → ShowsServeFault begun merge now service text
+  of_readers_alone : 0 < unread_by service → met service ≡ None → text ≡ fault_line (codes "reader") (unread_by service) → ShowsServeFault begun merge now service text
+
 -- what is printed once the chain is opened
 abbrev pub IsServeText : {leaf : List ℕ} {before : World} → Opened script.Serve leaf before → Option (List ℕ) → World → Service → Status → List ℕ → Type 0
 IsServeText begun merge now service Done text = IsServiceText begun merge now service text × (service.has_begun ≡ true) × (service.stopped ≡ None)
 IsServeText begun merge now service Refused text = ShowsRefused begun merge now service text
-IsServeText {before = before} begun merge now service Fault text = ShowsStepsFault (IsServiceText begun merge now service) (service.has_begun ≡ false) (met service) before now text
+IsServeText begun merge now service Fault text = ShowsServeFault begun merge now service text
 IsServeText begun merge now service NoMemory text = text ≡ codes "no memory\n"
 IsServeText begun merge now service other text = ⊥
 
@@ -102,8 +114,9 @@ IsMergeLeft (Some stopped) leaf linked now name = WhereTold now.folder (λ folde
 -- What stands of the files since the chain was opened to this disk. The guests were told so over it. Each image of each moment opens to the disk
 -- of the first calls of the history, by the chain's files or by these without the one that is merged, of the last moment to that of all, and no
 -- file is changed but those that the session may change. Where a call is told that a file is full, or a merge isn't finished for that, one of
--- those is so long; what is told of faults is what the session's store counts. Where the run came to its end nothing is unsynced, the name is
--- opened to the disk of all calls, and of a session that began a merge has left the chain so, and no file that it may change names a log.
+-- those is so long; what is told of faults is what the session's store counts, but for the reads that failed by a reader of a file of the chain.
+-- Where the run came to its end nothing is unsynced, the name is opened to the disk of all calls, and of a session that began a merge has left
+-- the chain so, and no file that it may change names a log.
 pub record KeepsServed (leaf : List ℕ) (linked : Linked) (disk : Disk) (merge : Option (List ℕ)) (lines : List Line) (service : Service) (meant : Status) (opened now : Hosted) : Type 0 where
   pub told_so : AreServed (is_some merge) (drive_over false disk) lines service.guests service.history service.ended service.broken
   pub moments : Throughout (OpensToFirst (way_by leaf linked merge) disk service.history (open_by service.broken)) opened now
@@ -112,13 +125,14 @@ pub record KeepsServed (leaf : List ℕ) (linked : Linked) (disk : Disk) (merge 
   pub full : AllByRecursion (IsEndTold (λ next. WhereTold now.folder (HasLong (changed_names false merge linked.files) next))) (all_told service.guests)
   pub stopped : IfSome service.stopped (IsStopTold (λ next. WhereTold now.folder (HasLong (changed_names false merge linked.files) next)))
   pub faults : service.has_begun ≡ true → LastReturned (λ store. FaultsAreTold (all_told service.guests) service.ended (length linked.files) (λ file. 0) store.failed_reads store.failed_changes) opened now
+  pub unread : AllByRecursion (λ fault. fault.file < length linked.files) (all_unread service.guests)
   pub idle : HasServedOut merge service meant → WhereTold now.folder AllIdle
   pub at_rest : HasServedOut merge service meant → WhereTold now.folder (λ folder. OpensTo (files_of folder) leaf (replay sector_size disk service.history))
   pub no_log : HasServedOut merge service meant → service.has_begun ≡ true → WhereTold now.folder (NoneNamesLog (changed_names false merge linked.files))
   pub merged : HasServedOut merge service meant → service.has_begun ≡ true → IfSome merge (IsMergeLeft service.stopped leaf linked now)
 
--- The chain is opened, as by a dump, and its guests are served, or no session begins. A fault is met where the host's count rose, and only
--- there.
+-- The chain is opened, as by a dump, and its guests are served, or no session begins. A fault is met where the host's count rose, or a guest's
+-- read failed by a reader, and only there.
 pub record ServesOver (leaf : List ℕ) (merge : Option (List ℕ)) (before now : World) (status : Status) : Type 0 where
   pub begun : Opened script.Serve leaf before
   pub taken : WhereTold before.left (λ bytes. IsTaken bytes now.left)
@@ -133,8 +147,8 @@ pub record ServesOver (leaf : List ℕ) (merge : Option (List ℕ)) (before now 
   pub sent : Sent before.written now.written before.sink_faults now.sink_faults meant text status
   pub kept : WhereTold before.host.folder (λ folder. KeepsServed leaf begun.linked begun.disk merge begun.lines service meant opened now.host)
   pub unchanged : meant ≡ Refused → service.has_begun ≡ false → WhereTold opened.folder (λ folder. WhereTold now.host.folder (λ after. (name : List ℕ) → contents after name ≡ contents folder name))
-  pub rose : meant ≡ Fault → Rose before.host.faults now.host.faults
-  pub quiet : meant ≢ Fault → (now.host.faults ≡ before.host.faults) × (met service ≡ None)
+  pub rose : meant ≡ Fault → Rose before.host.faults now.host.faults ⊎ (0 < unread_by service)
+  pub quiet : meant ≢ Fault → (now.host.faults ≡ before.host.faults) × (met service ≡ None) × (unread_by service ≡ 0)
 
 -- The script isn't read to its end, or breaks the grammar; or it is read, and the leaf's name leads to no chain, or following it fails; or
 -- the chain is opened.
@@ -142,3 +156,7 @@ pub data RunsServe (leaf : List ℕ) (merge : Option (List ℕ)) (before now : W
   unread : RunsUnread script.Serve before now status → RunsServe leaf merge before now status
   unopened : RunsUnopened script.Serve leaf before now status → RunsServe leaf merge before now status
   served : ServesOver leaf merge before now status → RunsServe leaf merge before now status
+
+-- guests were served so, of whose reads some failed by a reader
+abbrev pub HasUnread : List ℕ → Option (List ℕ) → World → World → Status → Type 0
+HasUnread leaf merge before now status = (s : ServesOver leaf merge before now status) × (0 < unread_by s.service)

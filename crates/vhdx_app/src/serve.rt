@@ -9,7 +9,7 @@ ghost use Rattle.serve_session.specs.Served.{guest_count};
 ghost use Rattle.store_model.specs.Disk.{WhereTold};
 ghost use Rattle.vhdx_app.specs.Guests.{HasServedAlone, HasServedBy, HasServedMergeOf, LeafIsServed, ServedOver, source_of};
 ghost use Rattle.vhdx_app.specs.Runs.{Ends, HasMerge};
-ghost use Rattle.vhdx_app.specs.Serves.{RunsServe};
+ghost use Rattle.vhdx_app.specs.Serves.{HasUnread, RunsServe};
 ghost use Rattle.vhdx_app.specs.Sessions.{HasNotMerged, HasNotRun, HasNotRunWith, IsLentChain, IsLinkedChain, NotRunOver};
 ghost use Rattle.vhdx_app.specs.Starts.{is_leaf};
 ghost use Rattle.vhdx_app.specs.Worlds.{world};
@@ -79,7 +79,7 @@ fn serve_alone<S: Store + Send, R: Threads + Wait + Sync, I: Ids, G: Gate + Sync
     gate: &G,
 ) -> (S, Result<MergeRun, StepsRefusal>)
 where
-    S::R: Send,
+    S::R: Send + Drop,
     requires chain { IsLentChain files.now (S.disk store) }
     requires lines { length lines.now ≤ 2 ^ 20 }
     requires count { length rooms.items ≡ guest_count lines.now }
@@ -95,7 +95,8 @@ where
         Ok(run) => (
             store,
             Ok(MergeRun {
-                run,
+                run: run.run,
+                unread: run.unread,
                 merged: Ok(()),
             }),
         ),
@@ -119,7 +120,7 @@ fn serve_leaf_merge<S: Store + Send, R: Threads + Wait + Sync, I: Ids, G: Gate +
     gate: &G,
 ) -> (S, Result<MergeRun, StepsRefusal>)
 where
-    S::R: Send,
+    S::R: Send + Drop,
     requires leaf { is_leaf files.now source.now ≡ true }
     requires chain { IsLentChain files.now (S.disk store) }
     requires names { names.now ≡ file_names files.now }
@@ -158,7 +159,7 @@ fn serve_other_merge<S: Store + Send, R: Threads + Wait + Sync, I: Ids, G: Gate 
     gate: &G,
 ) -> (S, Result<MergeRun, StepsRefusal>)
 where
-    S::R: Send,
+    S::R: Send + Drop,
     requires below { is_leaf files.now source.now ≡ false }
     requires chain { IsLentChain files.now (S.disk store) }
     requires names { names.now ≡ file_names files.now }
@@ -195,7 +196,7 @@ fn serve_merging<S: Store + Send, R: Threads + Wait + Sync, I: Ids, G: Gate + Sy
     gate: &G,
 ) -> (S, Result<MergeRun, StepsRefusal>)
 where
-    S::R: Send,
+    S::R: Send + Drop,
     requires chain { IsLentChain files.now (S.disk store) }
     requires names { names.now ≡ file_names files.now }
     requires lines { length lines.now ≤ 2 ^ 20 }
@@ -237,7 +238,7 @@ fn serve_lent<S: Store + Send, R: Threads + Wait + Sync, I: Ids, G: Gate + Sync>
     gate: &G,
 ) -> (S, Result<MergeRun, StepsRefusal>)
 where
-    S::R: Send,
+    S::R: Send + Drop,
     requires chain { IsLentChain files.now (S.disk store) }
     requires names { names.now ≡ file_names files.now }
     requires lines { length lines.now ≤ 2 ^ 20 }
@@ -269,7 +270,7 @@ fn serve_linked<H: Host, R: Threads + Wait + Sync, I: Ids, G: Gate + Sync>(
 ) -> Result<MergeRun, StepsRefusal>
 where
     H::S: Send,
-    <H::S as Store>::R: Send,
+    <H::S as Store>::R: Send + Drop,
     requires chain { IsLinkedChain linked.now (H.hosted host.old) }
     requires lines { length lines.now ≤ 2 ^ 20 }
     requires count { length rooms.items ≡ guest_count lines.now }
@@ -311,7 +312,7 @@ fn serve_leaf<H: Host, R: Threads + Wait + Sync, I: Ids, G: Gate + Sync>(
 ) -> Result<MergeRun, StepsRefusal>
 where
     H::S: Send,
-    <H::S as Store>::R: Send,
+    <H::S as Store>::R: Send + Drop,
     requires idle { WhereTold (H.hosted host.old).folder AllIdle }
     requires workers { workers ≤ 64 }
     requires lines { length lines.now ≤ 2 ^ 20 }
@@ -340,7 +341,7 @@ pub fn serve<H: Host, R: Threads + Wait + Sync, I: Ids, S: Source, K: Sink, G: G
 ) -> Status
 where
     H::S: Send,
-    <H::S as Store>::R: Send,
+    <H::S as Store>::R: Send + Drop,
     requires idle { WhereTold (H.hosted host.old).folder AllIdle }
     requires name { IsName leaf.now }
     requires workers { workers ≤ 64 }
@@ -350,7 +351,7 @@ where
         RunsServe leaf.now (option_map (λ s. s.now) merge.entry) before now result }
     ensures ends { let before = world (H.hosted host.old) (I.drawn ids.old) (S.left input.old) (S.faults input.old) (K.written out.old) (K.faults out.old) in
         let now = world (H.hosted host.new) (I.drawn ids.new) (S.left input.new) (S.faults input.new) (K.written out.new) (K.faults out.new) in
-        Ends (HasMerge (option_map (λ s. s.now) merge.entry)) before now result }
+        Ends (HasMerge (option_map (λ s. s.now) merge.entry)) (HasUnread leaf.now (option_map (λ s. s.now) merge.entry) before now result) before now result }
 {
     let (leaf, source) = match names_in(alloc, leaf, merge) {
         Ok(names) => names,

@@ -1,5 +1,5 @@
 use Rattle.std.proofs.Common.{ap}
-use Rattle.check_tests.proofs.Folders.{none_idle}
+use Rattle.mem_store.proofs.Idle.{none_idle}
 use Rattle.check_tests.proofs.common.empty_host.Goals as goal
 
 pub returns : goal.returns

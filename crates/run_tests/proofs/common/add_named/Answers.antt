@@ -1,5 +1,5 @@
 use Rattle.std.proofs.Common.{refl, ap}
-use Rattle.run_tests.proofs.Folders.{more_idle}
+use Rattle.mem_store.proofs.Idle.{more_idle}
 use Rattle.run_tests.proofs.common.add_named.Goals as goal
 
 pub returns : goal.returns

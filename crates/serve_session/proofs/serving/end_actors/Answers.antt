@@ -5,8 +5,8 @@ use Rattle.turn_lock.specs.Seats.{together_of}
 use Rattle.shared_chain.specs.Bases.{Contains, together}
 use Rattle.serve_session.specs.Actors.{AreJoined, HasRun}
 use Rattle.serve_session.specs.Lists.{AreActors}
-use Rattle.serve_session.proofs.Guests.{forms_few}
-use Rattle.serve_session.proofs.Joining.{join_more, last_actor, one_joined}
+use Rattle.serve_session.proofs.Guests.{all_unread_count, forms_few}
+use Rattle.serve_session.proofs.Joining.{few_unread, join_more, last_actor, one_joined}
 use Rattle.serve_session.proofs.serving.end_actors.Goals as goal
 use Rattle.serve_session.proofs.serving.end_actors.Goals.{then-is_short, else-is_short}
 
@@ -23,6 +23,16 @@ join-requires-clause-free g c =
     let n = length c.args.actors.now.items in
     let last = last_actor g.S.Store.disk c.args.chain.now.value.first c.args.lock.now (map g.N.AsStr.text c.args.names.now) c.args.lines.now P n c.pop.new.self.items c.in-Some.actor (subst (AreActors P n) c.in-Some.ensures.items c.loop-actor.invariant.left) in
     (c.loop-actor.invariant.joined.free.1, ap (λ s. s.turn) c.end-seat.ensures.0 ∙ last.2.free.1)
+
+pub overflow_add-unread : goal.overflow_add-unread
+overflow_add-unread g c =
+    let disk = g.S.Store.disk in
+    let first = c.args.chain.now.value.first in
+    let names = map g.N.AsStr.text c.args.names.now in
+    let P = HasRun disk first c.args.lock.now names c.args.lines.now in
+    let i = c.loop-actor.invariant in
+    let last = last_actor disk first c.args.lock.now names c.args.lines.now P (length c.args.actors.now.items) c.pop.new.self.items c.in-Some.actor (subst (AreActors P (length c.args.actors.now.items)) c.in-Some.ensures.items i.left) in
+    omega (arith, i.unread, i.few_unread, i.count, c.requires.guests, c.requires.few, c.end-seat.ensures.2, last.2.unread, few_unread disk first c.args.lock.now names c.args.lines.now c.in-Some.actor last.2)
 
 pub loop-actor-preserved : goal.loop-actor-preserved
 loop-actor-preserved g c =
@@ -41,8 +51,10 @@ loop-actor-preserved g c =
     let told = c.push_reserved.ensures.items ∙ ap (λ t. c.loop-actor.told.items ++ t ∷ []) (c.from_vec.ensures ∙ ap (λ v. v.items) c.end-seat.ensures.1) in
     let short : c.if-is_short.is_short ≡ (c.loop-actor.is_short || a.is_short) = elim c.if-is_short.branch [
       | then-is_short w ↦ w.is_short-is ∙ w.if-is_short.true ∙ sym (ap (λ b. b || a.is_short) w.if-is_short.true)
-      | else-is_short w ↦ w.is_short-is ∙ c.end-seat.ensures.2 ∙ sym (ap (λ b. b || a.is_short) w.if-is_short.false)
+      | else-is_short w ↦ w.is_short-is ∙ c.end-seat.ensures.3 ∙ sym (ap (λ b. b || a.is_short) w.if-is_short.false)
     ] in
+    let unread_now = all_unread_count i.guests outcomes in
+    let unread_most = few_unread disk c.args.chain.now.value.first c.args.lock.now names c.args.lines.now a last.2 in
     let drawn : c.join.new.first.drawn ≡ c.loop-actor.first.drawn + a.guest.seat.drawn = ap (λ s. s.drawn) met.0 in
     let joined = one_joined disk c.args.chain.now.value.first c.args.lock.now names c.args.lines.now c.loop-actor.first c.join.new.first c.loop-actor.told.items c.loop-actor.is_short i.guests i.joined a last.2 (last.1 ∙ omega (arith, i.count, popped)) met.0 met.1 met.2 in
     record {
@@ -51,6 +63,8 @@ loop-actor-preserved g c =
           (subst (λ b. AreJoined disk c.args.chain.now.value.first false c.args.lock.now names c.args.lines.now c.join.new.first (c.loop-actor.told.items ++ a.told.items ∷ []) b (i.guests ++ outcomes ∷ [])) (sym short) joined);
       left = last.0;
       count = omega (arith, more, i.count, popped);
+      unread = omega (arith, i.unread, c.end-seat.ensures.2, last.2.unread, unread_now);
+      few_unread = omega (arith, i.few_unread, unread_now, unread_most, c.requires.few, more);
       family = join_more c.args.first.now.family c.loop-actor.first.family c.join.new.first.family (length i.guests) (length (i.guests ++ outcomes ∷ [])) i.family (ap (λ s. s.family) c.join.ensures.both) more;
       first_ticket = ap (λ s. s.first_ticket) c.join.ensures.both ∙ i.first_ticket;
       drawn = omega (arith, drawn, last.2.hears.drawn, forms_few a.number c.args.lines.now, c.requires.few, more, i.drawn);

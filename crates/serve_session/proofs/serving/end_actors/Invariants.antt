@@ -1,7 +1,7 @@
 use Rattle.std.proofs.Common.{◌≡◌, ◌+◌, ◌*◌, ◌^◌, ◌≤◌, false, List, length, map, vec_capacity}
 use Rattle.serve_session.specs.Actors.{AreJoined, HasRun}
 use Rattle.serve_session.specs.Lists.{AreActors}
-use Rattle.serve_session.specs.Served.{Outcome}
+use Rattle.serve_session.specs.Served.{Outcome, all_unread}
 use Rattle.serve_session.proofs.serving.end_actors.Given as goal
 
 -- the seats of the actors that were taken are joined
@@ -11,6 +11,8 @@ invariant-loop-actor g l = record {
   joined : AreJoined g.S.Store.disk l.chain.value.first false l.lock (map g.N.AsStr.text l.names) l.lines l.first l.told.items l.is_short guests;
   left : AreActors (HasRun g.S.Store.disk l.chain.value.first l.lock (map g.N.AsStr.text l.names) l.lines) (length l.fn.actors.items) l.actors.items;
   count : length guests + length l.actors.items ≡ length l.fn.actors.items;
+  unread : l.unread ≡ length (all_unread guests);
+  few_unread : length (all_unread guests) ≤ 2 ^ 20 * length guests;
   family : l.first.family ≡ record (l.fn.first.family) { joins = l.fn.first.family.joins + length guests };
   first_ticket : l.first.first_ticket ≡ l.fn.first.first_ticket;
   drawn : l.first.drawn ≤ l.fn.first.drawn + 2 ^ 20 * length guests;

@@ -2,19 +2,25 @@ use Rattle.std.proofs.Common.{◌≡◌, ◌++◌, ◌+◌, ap, arith, drop, fal
 use Rattle.std.specs.Prelude.{All}
 use Rattle.serve_session.specs.Actors.{AreJoined, HasRun}
 use Rattle.serve_session.specs.Lists.{AreActors, AreFresh, HasDone, IsFreshWorker, IsReady}
+use Rattle.serve_session.specs.Sealing.{IsSetFor}
 use Rattle.serve_session.specs.Serving.{IsShared}
 use Rattle.serve_session.specs.Served.{greatest_from}
-use Rattle.serve_session.proofs.Final.{few_turns, made_all, made_ready, made_run}
+use Rattle.serve_session.proofs.Final.{few_guests, few_turns, made_all, made_ready, made_run}
 use Rattle.serve_session.proofs.Guests.{written_all}
 use Rattle.serve_session.proofs.Joining.{all_done, wider_joined}
 use Rattle.serve_session.proofs.serving.share.Goals as goal
 
 pub run_beside-requires-clause-guests : goal.run_beside-requires-clause-guests
-run_beside-requires-clause-guests g c κs within = subst (λ xs. All (IsReady c.in-Ok-new.made.0) xs) (sym c.as_mut_slice-guests.ensures.value)
-    (made_ready g.S.Store.disk c.args.chain c.requires.begun.fresh c.requires.begun.whole c.in-Ok-new.made.0 c.in-Ok-new.made.1 c.in-Ok-new.ensures.ok (length c.args.rooms.items) c.add_actors.new.actors.items c.add_actors.ensures.fresh)
+run_beside-requires-clause-guests g c κs within =
+    let disk = g.S.Store.disk in
+    let made = c.in-Ok-new.made.1 in
+    let n = length c.args.rooms.items in
+    let fresh = subst (λ v. AreFresh (IsSetFor disk v.first) made n c.add_actors.new.actors.items) c.of-was.ensures c.add_actors.ensures.fresh in
+    subst (λ xs. All (IsReady disk c.in-Ok-new.made.0) xs) (sym c.as_mut_slice-guests.ensures.value)
+    (made_ready disk c.args.chain c.requires.begun.fresh c.requires.begun.whole c.in-Ok-new.made.0 made c.in-Ok-new.ensures.ok n c.add_actors.new.actors.items fresh)
 
-pub end_actors-is_short-requires-clause-ran : goal.end_actors-is_short-requires-clause-ran
-end_actors-is_short-requires-clause-ran g c =
+pub end_actors-unread-requires-clause-ran : goal.end_actors-unread-requires-clause-ran
+end_actors-unread-requires-clause-ran g c =
     let disk = g.S.Store.disk in
     let names = map g.N.AsStr.text c.args.names.now in
     let lines = c.args.lines.now in
@@ -24,10 +30,17 @@ end_actors-is_short-requires-clause-ran g c =
     let all = written_all c.add_actors.new.actors.len c.run_beside.new.actors (drop (length c.run_beside.new.actors) c.add_actors.new.actors.items) whole in
     let count : length c.run_beside.new.actors ≡ n = c.run_beside.ensures.guests.count ∙ ap length c.as_mut_slice-guests.ensures.value ∙ c.add_actors.ensures.count in
     let made = made_run disk c.args.chain c.requires.begun.fresh c.requires.begun.whole lock c.in-Ok-new.made.1 c.in-Ok-new.ensures.ok c.requires.begun.sound.sector names lines n c.as_mut_slice-guests.result.now c.run_beside.new.actors
-    (subst (AreFresh c.in-Ok-new.made.1 n) (sym c.as_mut_slice-guests.ensures.value) c.add_actors.ensures.fresh) c.run_beside.ensures.guests in
+    (subst (AreFresh (IsSetFor disk c.args.chain.first) c.in-Ok-new.made.1 n) (sym c.as_mut_slice-guests.ensures.value) (subst (λ v. AreFresh (IsSetFor disk v.first) c.in-Ok-new.made.1 n c.add_actors.new.actors.items) c.of-was.ensures c.add_actors.ensures.fresh)) c.run_beside.ensures.guests in
     let xs = take c.add_actors.new.actors.len (c.run_beside.new.actors ++ drop (length c.run_beside.new.actors) c.add_actors.new.actors.items) in
     subst (λ f. AreActors (HasRun disk f lock names lines) (length xs) xs) (sym (ap (λ v. v.first) c.of-was.ensures))
     (subst (λ xs. AreActors (HasRun disk c.args.chain.first lock names lines) (length xs) xs) (sym all) (subst (λ k. AreActors (HasRun disk c.args.chain.first lock names lines) k c.run_beside.new.actors) (sym count) made))
+
+pub end_actors-unread-requires-clause-guests : goal.end_actors-unread-requires-clause-guests
+end_actors-unread-requires-clause-guests g c =
+    let whole : c.add_actors.new.actors.len ≡ length c.run_beside.new.actors = c.add_actors.new.actors.ok.0 ∙ ap length (sym c.as_mut_slice-guests.ensures.value) ∙ sym c.run_beside.ensures.guests.count in
+    let all = written_all c.add_actors.new.actors.len c.run_beside.new.actors (drop (length c.run_beside.new.actors) c.add_actors.new.actors.items) whole in
+    few_guests (length (take c.add_actors.new.actors.len (c.run_beside.new.actors ++ drop (length c.run_beside.new.actors) c.add_actors.new.actors.items))) (greatest_from 0 c.args.lines.now)
+    (ap length all ∙ c.run_beside.ensures.guests.count ∙ ap length c.as_mut_slice-guests.ensures.value ∙ c.add_actors.ensures.count ∙ c.requires.count)
 
 pub end_workers-requires-clause-done : goal.end_workers-requires-clause-done
 end_workers-requires-clause-done g c =
@@ -45,8 +58,8 @@ close-chain-requires-clause-all g c =
     let actors = ap length (written_all c.add_actors.new.actors.len c.run_beside.new.actors (drop (length c.run_beside.new.actors) c.add_actors.new.actors.items) guests) in
     let workers = ap length (written_all c.add_workers.new.workers.len c.run_beside.new.workers (drop (length c.run_beside.new.workers) c.add_workers.new.workers.items) hands) in
     made_all g.S.Store.disk c.args.chain c.requires.begun.fresh c.requires.begun.whole c.in-Ok-new.made.0 c.in-Ok-new.made.1 c.in-Ok-new.ensures.ok
-    (length c.args.rooms.items) (length c.args.pieces.items) _ _ c.add_actors.new.first c.add_workers.new.first c.end_actors-is_short.new.first c.end_workers.new.first
-    c.add_actors.ensures.seat c.add_workers.ensures.seat c.end_actors-is_short.ensures.joined.family c.end_workers.ensures.family
+    (length c.args.rooms.items) (length c.args.pieces.items) _ _ c.add_actors.new.first c.add_workers.new.first c.end_actors-unread.new.first c.end_workers.new.first
+    c.add_actors.ensures.seat c.add_workers.ensures.seat c.end_actors-unread.ensures.joined.family c.end_workers.ensures.family
     (actors ∙ c.run_beside.ensures.guests.count ∙ ap length c.as_mut_slice-guests.ensures.value ∙ c.add_actors.ensures.count)
     (workers ∙ c.run_beside.ensures.workers.count ∙ ap length c.as_mut_slice-hands.ensures.value ∙ c.add_workers.ensures.count)
 
@@ -56,9 +69,9 @@ returns-clause-alone g c none =
     let names = map g.N.AsStr.text c.args.names.now in
     let lines = c.args.lines.now in
     let lock = c.in-Ok-new.made.0 in
-    let j = c.end_actors-is_short.ensures.joined in
-    let told = c.end_actors-is_short.new.told.items in
-    let short = c.end_actors-is_short.result in
+    let j = c.end_actors-unread.ensures.joined in
+    let told = c.end_actors-unread.new.told.items in
+    let short = c.end_actors-unread.result.is_short in
     let guests : c.add_actors.new.actors.len ≡ length c.run_beside.new.actors = c.add_actors.new.actors.ok.0 ∙ ap length (sym c.as_mut_slice-guests.ensures.value) ∙ sym c.run_beside.ensures.guests.count in
     let hands : c.add_workers.new.workers.len ≡ length c.run_beside.new.workers = c.add_workers.new.workers.ok.0 ∙ ap length (sym c.as_mut_slice-hands.ensures.value) ∙ sym c.run_beside.ensures.workers.count in
     let actors = ap length (written_all c.add_actors.new.actors.len c.run_beside.new.actors (drop (length c.run_beside.new.actors) c.add_actors.new.actors.items) guests) in
@@ -66,7 +79,7 @@ returns-clause-alone g c none =
     let same = c.end_workers.ensures.same (workers ∙ c.run_beside.ensures.workers.count ∙ ap length c.as_mut_slice-hands.ensures.value ∙ c.add_workers.ensures.count ∙ none) in
     let n_is = actors ∙ c.run_beside.ensures.guests.count ∙ ap length c.as_mut_slice-guests.ensures.value ∙ c.add_actors.ensures.count ∙ c.requires.count in
     let m_is = workers ∙ c.run_beside.ensures.workers.count ∙ ap length c.as_mut_slice-hands.ensures.value ∙ c.add_workers.ensures.count in
-    let bounds = few_turns disk lock _ c.in-Ok-new.made.1 c.add_actors.new.first c.add_workers.new.first c.end_actors-is_short.new.first c.end_workers.new.first _ _ _ _ (greatest_from 0 lines) c.close-chain.result.chain.events
+    let bounds = few_turns disk lock _ c.in-Ok-new.made.1 c.add_actors.new.first c.add_workers.new.first c.end_actors-unread.new.first c.end_workers.new.first _ _ _ _ (greatest_from 0 lines) c.close-chain.result.chain.events
     c.in-Ok-new.ensures.ok c.add_actors.ensures.seat c.add_workers.ensures.seat j.first_ticket j.drawn c.end_workers.ensures.first_ticket c.end_workers.ensures.drawn n_is (omega (arith, m_is, c.requires.workers))
     c.close-chain.ensures.refused c.close-chain.ensures.worked in
     IsShared.was_shared (record {
@@ -76,6 +89,7 @@ returns-clause-alone g c none =
       joined = subst (λ f. AreJoined disk f false lock names lines c.end_workers.new.first told short j.guests) (ap (λ v. v.first) c.of-was.ensures)
           (subst (λ s. AreJoined disk c.of-was.result.value.first false lock names lines s told short j.guests) (sym same) j.joined);
       count = j.count_is ∙ actors ∙ c.run_beside.ensures.guests.count ∙ ap length c.as_mut_slice-guests.ensures.value ∙ c.add_actors.ensures.count ∙ c.requires.count;
+      unread_is = j.unread_is;
       history = c.close-chain.ensures.history;
       basis = c.close-chain.ensures.basis;
       places = c.close-chain.ensures.places;
@@ -89,18 +103,18 @@ returns-clause-beside g c =
     let names = map g.N.AsStr.text c.args.names.now in
     let lines = c.args.lines.now in
     let lock = c.in-Ok-new.made.0 in
-    let j = c.end_actors-is_short.ensures.joined in
-    let told = c.end_actors-is_short.new.told.items in
-    let short = c.end_actors-is_short.result in
+    let j = c.end_actors-unread.ensures.joined in
+    let told = c.end_actors-unread.new.told.items in
+    let short = c.end_actors-unread.result.is_short in
     let first = c.of-was.result.value.first in
     let guests : c.add_actors.new.actors.len ≡ length c.run_beside.new.actors = c.add_actors.new.actors.ok.0 ∙ ap length (sym c.as_mut_slice-guests.ensures.value) ∙ sym c.run_beside.ensures.guests.count in
     let actors = ap length (written_all c.add_actors.new.actors.len c.run_beside.new.actors (drop (length c.run_beside.new.actors) c.add_actors.new.actors.items) guests) in
     let hands : c.add_workers.new.workers.len ≡ length c.run_beside.new.workers = c.add_workers.new.workers.ok.0 ∙ ap length (sym c.as_mut_slice-hands.ensures.value) ∙ sym c.run_beside.ensures.workers.count in
     let workers = ap length (written_all c.add_workers.new.workers.len c.run_beside.new.workers (drop (length c.run_beside.new.workers) c.add_workers.new.workers.items) hands) in
-    let wide = c.end_workers.ensures.joined first names lines told short j.guests (wider_joined disk first lock names lines c.end_actors-is_short.new.first told short j.guests j.joined) in
+    let wide = c.end_workers.ensures.joined first names lines told short j.guests (wider_joined disk first lock names lines c.end_actors-unread.new.first told short j.guests j.joined) in
     let n_is = actors ∙ c.run_beside.ensures.guests.count ∙ ap length c.as_mut_slice-guests.ensures.value ∙ c.add_actors.ensures.count ∙ c.requires.count in
     let m_is = workers ∙ c.run_beside.ensures.workers.count ∙ ap length c.as_mut_slice-hands.ensures.value ∙ c.add_workers.ensures.count in
-    let bounds = few_turns disk lock _ c.in-Ok-new.made.1 c.add_actors.new.first c.add_workers.new.first c.end_actors-is_short.new.first c.end_workers.new.first _ _ _ _ (greatest_from 0 lines) c.close-chain.result.chain.events
+    let bounds = few_turns disk lock _ c.in-Ok-new.made.1 c.add_actors.new.first c.add_workers.new.first c.end_actors-unread.new.first c.end_workers.new.first _ _ _ _ (greatest_from 0 lines) c.close-chain.result.chain.events
     c.in-Ok-new.ensures.ok c.add_actors.ensures.seat c.add_workers.ensures.seat j.first_ticket j.drawn c.end_workers.ensures.first_ticket c.end_workers.ensures.drawn n_is (omega (arith, m_is, c.requires.workers))
     c.close-chain.ensures.refused c.close-chain.ensures.worked in
     IsShared.was_shared (record {
@@ -109,6 +123,7 @@ returns-clause-beside g c =
       guests = j.guests;
       joined = subst (λ f. AreJoined disk f true lock names lines c.end_workers.new.first told short j.guests) (ap (λ v. v.first) c.of-was.ensures) wide;
       count = j.count_is ∙ actors ∙ c.run_beside.ensures.guests.count ∙ ap length c.as_mut_slice-guests.ensures.value ∙ c.add_actors.ensures.count ∙ c.requires.count;
+      unread_is = j.unread_is;
       history = c.close-chain.ensures.history;
       basis = c.close-chain.ensures.basis;
       places = c.close-chain.ensures.places;

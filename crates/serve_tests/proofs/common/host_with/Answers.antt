@@ -1,5 +1,5 @@
 use Rattle.std.proofs.Common.{ap}
-use Rattle.serve_tests.proofs.Folders.{one_idle}
+use Rattle.mem_store.proofs.Idle.{one_idle}
 use Rattle.serve_tests.proofs.common.host_with.Goals as goal
 
 pub returns : goal.returns

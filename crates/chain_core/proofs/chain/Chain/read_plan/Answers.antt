@@ -11,7 +11,8 @@ use Rattle.std.specs.Prelude.{List}
 use Rattle.store_model.specs.Disk.{Disk}
 use Rattle.read_plan.specs.Plans.{LiesIn}
 use Rattle.read_plan.specs.declared.plan.Extent.{Extent}
-use Rattle.sealed_layer.specs.Planned.{AreNamedRead, AreOfFiles, EndsBy, LieInStore, files_in}
+use Rattle.read_plan.proofs.Among.{none_there}
+use Rattle.sealed_layer.specs.Planned.{EndsBy, LieInStore, files_in}
 use Rattle.chain_core.specs.Planned.{FindsPlanned}
 use Rattle.chain_core.specs.Refusing.{IfRefused, refused}
 use Rattle.chain_core.specs.Sessions.{IsCounted, Session, leaf_number, seen, AreReady}
@@ -51,7 +52,7 @@ returns-in_err-accept g c =
       finds = not_ok r _ same.1 _;
       fit = subst (λ (p : List Extent). AllByRecursion (EndsBy (length c.args.out.now / c.args.self.now.layers.geometry.sector)) p) (sym c.clear.ensures) tt;
       lie = λ t told. subst (λ (p : List Extent). AllByRecursion (LiesIn c.args.self.now.layers.geometry.sector (files_in t)) p) (sym c.clear.ensures) tt;
-      files = λ of named. subst (AreOfFiles of) (sym c.clear.ensures) tt;
+      there = none_there c.args.readers.now c.clear.new.self c.clear.ensures;
       told = d.told;
     }
 
@@ -96,7 +97,7 @@ returns g c =
           (planned_before c.args.first (length c.args.out.now / c.from.result) place c.plan.new.plan c.plan.new.out before.layers mid.layers before.disk disk1 found r layers_is disk_is answer p.finds);
       fit = subst (λ (n : ℕ). AllByRecursion (EndsBy (length c.args.out.now / n)) c.plan.new.plan) c.from.ensures p.fit;
       lie = subst (λ (d : Disk). LieInStore c.args.self.now.layers.geometry.sector d c.plan.new.plan) disk_is (subst (λ (l : Layers). LieInStore l.geometry.sector disk1 c.plan.new.plan) layers_is p.lie);
-      files = λ of named. p.files of (subst (λ (l : Layers). AreNamedRead of l.below.items) (sym layers_is) named);
+      there = p.there;
       told = answered c.args.who call (before.noted + 1) place before.layers mid.layers new after.layers before.disk disk1 disk2 after.disk (as_read found) r layers_is disk_is layers_then disk_then answer
           (looked c.args.first count mid.layers new disk1 disk2 found p.reads (before.noted + 1));
     }

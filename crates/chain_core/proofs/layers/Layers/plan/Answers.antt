@@ -1,13 +1,13 @@
 use Rattle.std.proofs.Common.{◌+◌, ◌*◌, ◌≤◌, ap, length, subst, sym, ◌∙◌}
 use Rattle.std.specs.Prelude.{IfErr, List, OnOk}
 use Rattle.read_plan.specs.declared.plan.Extent.{Extent}
-use Rattle.sealed_layer.specs.Planned.{AreOfFiles}
+use Rattle.read_plan.proofs.Among.{none_there}
 use Rattle.chain_core.specs.Planned.{PlansPart}
 use Rattle.chain_core.specs.Reading.{of_read}
 use Rattle.layer_session.specs.ReadOnly.{SomeReadFailed}
 use Rattle.store_model.specs.Disk.{Disk}
 use Rattle.vx_base.specs.declared.parts.Geometry.{Geometry}
-use Rattle.chain_core.proofs.Finding.{finds_planned, named_so}
+use Rattle.chain_core.proofs.Finding.{finds_planned}
 use Rattle.vx_base.proofs.Handed.{failed_for, not_ok, ok_then}
 use Rattle.chain_core.proofs.Onward.{reads_on}
 use Rattle.chain_core.proofs.Numbers.{mask_holds}
@@ -66,5 +66,8 @@ returns-clause-stays g c = ok_then c.plan_below.result (λ same. same ∙ c.in_o
 pub returns-clause-err : goal.returns-clause-err
 returns-clause-err g c = subst (λ (d : Disk). IfErr c.plan_below.result (SomeReadFailed d (g.S.Store.disk c.plan_below.new.store))) c.in_ok-own_leaf.ensures.stays c.plan_below.ensures.err
 
-pub returns-clause-files : goal.returns-clause-files
-returns-clause-files g c of named = c.plan_below.ensures.files of (named_so c.args.self.now c.own_leaf.new.self of c.in_ok-own_leaf.ensures.below named) (subst (AreOfFiles of) (sym c.requires.empty) tt)
+pub returns-in_err-own_leaf-clause-there : goal.returns-in_err-own_leaf-clause-there
+returns-in_err-own_leaf-clause-there g c = none_there c.args.readers.now c.args.plan.now c.requires.empty
+
+pub returns-clause-there : goal.returns-clause-there
+returns-clause-there g c = c.plan_below.ensures.there (none_there c.args.readers.now c.args.plan.now c.requires.empty)

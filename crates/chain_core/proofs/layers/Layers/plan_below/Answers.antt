@@ -6,7 +6,6 @@ use Rattle.std.specs.Vec.{with_items}
 use Rattle.chain_core.specs.declared.layers.Layers.{Layers}
 use Rattle.chain_core.proofs.Finding.{below_plans, below_reads}
 use Rattle.chain_core.proofs.Numbers.{length_items}
-use Rattle.sealed_layer.specs.Planned.{AreNamedRead}
 use Rattle.chain_core.proofs.layers.Layers.plan_below.Goals as goal
 
 pub returns-clause-reads : goal.returns-clause-reads
@@ -19,9 +18,6 @@ pub returns-clause-plans : goal.returns-clause-plans
 returns-clause-plans g c =
     below_plans c.args.self.now c.as_mut_slice-below.result.now (g.S.Store.disk c.args.store.now) c.args.first c.args.count c.args.mask.now c.plan_files.new.mask c.args.plan.now c.plan_files.new.plan c.args.out.now c.plan_files.new.out c.plan_files.result
     c.as_mut_slice-below.ensures.value c.plan_files.ensures.planned
-
-pub returns-clause-files : goal.returns-clause-files
-returns-clause-files g c of named all = c.plan_files.ensures.files of (subst (AreNamedRead of) (sym c.as_mut_slice-below.ensures.value) named) all
 
 pub plan_files-requires-clause-readable : goal.plan_files-requires-clause-readable
 plan_files-requires-clause-readable g c =

@@ -1,4 +1,5 @@
 use Rattle.std.proofs.Common.{◌≡◌, ◌+◌, ◌<◌, ◌^◌, ap, length, length-take-le, map, sym, subst, take, ◌∙◌, arith}
+use Rattle.guest_io.specs.Guests.{HaveReaders}
 use Rattle.shared_chain.specs.Seats.{IsFree}
 use Rattle.script.specs.declared.form.Form.TheVariants.{Read}
 use Rattle.script.specs.declared.form.Line.{Line}
@@ -22,6 +23,7 @@ loop-line-preserved g c =
     elim c.if-line-self.branch [
       | then-line-self w ↦ record {
         free = subst (λ a. IsFree c.args.lock.now a.guest.seat) (sym w.self-is) w.step.ensures.free;
+        readers = subst (λ a. HaveReaders disk a.guest.seat.basis a.guest.readers) (sym w.self-is) w.step.ensures.have;
         room = ap (λ a. length a.room.items) w.self-is ∙ w.step.ensures.room;
         number = ap (λ a. a.number) w.self-is ∙ w.step.ensures.number ∙ i.number;
         ran = λ first is. subst (λ a. IsActor disk first c.args.lock.now names (forms_of number (take (n + 1) lines)) a) (sym w.self-is)
@@ -29,6 +31,7 @@ loop-line-preserved g c =
       }
       | else-line-self w ↦ record {
         free = subst (λ a. IsFree c.args.lock.now a.guest.seat) (sym w.self-is) i.free;
+        readers = subst (λ a. HaveReaders disk a.guest.seat.basis a.guest.readers) (sym w.self-is) i.readers;
         room = ap (λ a. length a.room.items) w.self-is ∙ i.room;
         number = ap (λ a. a.number) w.self-is ∙ i.number;
         ran = λ first is. subst (λ a. IsActor disk first c.args.lock.now names (forms_of number (take (n + 1) lines)) a) (sym w.self-is)

@@ -1,6 +1,7 @@
 use Rattle.std.proofs.Common.{◌≡◌, [], length, map, take}
 use Rattle.guest_model.specs.declared.recorder.KeepAll.{KeepAll}
 use Rattle.chain_core.specs.declared.chain.Chain.{Chain}
+use Rattle.guest_io.specs.Guests.{HaveReaders}
 use Rattle.shared_chain.specs.Seats.{IsFree}
 use Rattle.serve_session.specs.Actors.{IsActor}
 use Rattle.serve_session.specs.Served.{forms_of}
@@ -10,6 +11,7 @@ use Rattle.serve_session.proofs.actor.Actor.run.Given as goal
 abbrev pub invariant-loop-line : goal.invariant-loop-line
 invariant-loop-line g l = record {
   free : IsFree l.lock l.self.guest.seat;
+  readers : HaveReaders g.S.Store.disk l.self.guest.seat.basis l.self.guest.readers;
   room : length l.self.room.items ≡ 1048576;
   number : l.self.number ≡ l.fn.self.number;
   ran : (first : Chain g.row.S.Denot KeepAll g.row.S-R.Denot) → IsActor g.S.Store.disk first l.lock (map g.N.AsStr.text l.names) [] l.fn.self

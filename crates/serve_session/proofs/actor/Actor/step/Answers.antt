@@ -17,19 +17,19 @@ pub returns-in-Err-clause-actor : goal.returns-in-Err-clause-actor
 returns-in-Err-clause-actor g c =
     let o = c.keep.ensures.only in
     λ first forms few is. called g.S.Store.disk first c.args.lock.now (map g.N.AsStr.text c.args.names.now) forms c.args.form c.args.self.now is c.call-answer.new.room c.call-answer.new.guest.seat c.call-answer.result
-    c.call-answer.ensures.called few c.if-self.false (sym c.is_call.ensures ∙ c.if-not-is_call.false)
+    c.call-answer.ensures.called c.call-answer.new.guest.readers c.call-answer.ensures.only c.call-answer.ensures.reads few c.if-self.false (sym c.is_call.ensures ∙ c.if-not-is_call.false)
     (record (c.keep.new.self) { is_short = true })
-    (ap (λ a. a.guest.seat) o) (ap (λ a. a.guest.number) o ∙ c.call-answer.ensures.next.0) (ap (λ a. a.guest.next) o ∙ c.call-answer.ensures.next.1) (ap (λ a. a.number) o)
-    (ap (λ a. length a.room.items) o ∙ (search rules)) (λ e. absurd (true_false e))
+    (ap (λ a. a.guest.seat) o) (ap (λ a. a.guest.readers) o) (ap (λ a. a.guest.number) o ∙ c.call-answer.ensures.next.0) (ap (λ a. a.guest.next) o ∙ c.call-answer.ensures.next.1) (ap (λ a. a.number) o)
+    (ap (λ a. length a.room.items) o ∙ (search rules)) (ap (λ a. a.unread) o ∙ c.with_answer-self.ensures) (λ e. absurd (true_false e))
 
 pub returns-in_default-clause-actor : goal.returns-in_default-clause-actor
 returns-in_default-clause-actor g c =
     let o = c.keep.ensures.only in
     λ first forms few is. called g.S.Store.disk first c.args.lock.now (map g.N.AsStr.text c.args.names.now) forms c.args.form c.args.self.now is c.call-answer.new.room c.call-answer.new.guest.seat c.call-answer.result
-    c.call-answer.ensures.called few c.if-self.false (sym c.is_call.ensures ∙ c.if-not-is_call.false)
+    c.call-answer.ensures.called c.call-answer.new.guest.readers c.call-answer.ensures.only c.call-answer.ensures.reads few c.if-self.false (sym c.is_call.ensures ∙ c.if-not-is_call.false)
     c.keep.new.self
-    (ap (λ a. a.guest.seat) o) (ap (λ a. a.guest.number) o ∙ c.call-answer.ensures.next.0) (ap (λ a. a.guest.next) o ∙ c.call-answer.ensures.next.1) (ap (λ a. a.number) o)
-    (ap (λ a. length a.room.items) o ∙ (search rules)) (λ e. (
+    (ap (λ a. a.guest.seat) o) (ap (λ a. a.guest.readers) o) (ap (λ a. a.guest.number) o ∙ c.call-answer.ensures.next.0) (ap (λ a. a.guest.next) o ∙ c.call-answer.ensures.next.1) (ap (λ a. a.number) o)
+    (ap (λ a. length a.room.items) o ∙ (search rules)) (ap (λ a. a.unread) o ∙ c.with_answer-self.ensures) (λ e. (
       c.in_default.ensures.want,
       c.in_default.ensures.kept ∙ ap (λ r. c.args.self.now.told.items ++ told_call (map g.N.AsStr.text c.args.names.now) c.args.form (outcome_of (shown_in r c.args.form) c.call-answer.result) ∷ [])
           (written_all c.args.self.now.room.len c.call-answer.new.room (drop (length c.call-answer.new.room) c.args.self.now.room.items) (search rules)),

@@ -1,18 +1,20 @@
 use Rattle.std.proofs.Common.{[], None, subst, sym}
-use Rattle.script_session.specs.Running.{IsEnded}
+use Rattle.chain_core.specs.Sessions.{has_merge}
+use Rattle.shared_chain.specs.Closing.{LeavesHistory}
+use Rattle.shared_chain.specs.Faults.{EndsCounted}
 use Rattle.shared_chain.specs.Homes.{IsHome, session_of}
-use Rattle.shared_chain.proofs.Ended.{ended, leaves}
 use Rattle.shared_chain.proofs.Homing.{begins}
 use Rattle.shared_chain.proofs.shared.SharedChain.new.Goals as goal
+
+pub returns-in-Err-clause-counted : goal.returns-in-Err-clause-counted
+returns-in-Err-clause-counted g c =
+    let disk = g.S.Store.disk in
+    subst (λ o. EndsCounted (disk o.store) (disk c.end_fresh.result.0) None c.end_fresh.result.1) c.in-Err.ensures.back (c.end_fresh.ensures.counted None tt)
 
 pub returns-in-Err-clause-leaves : goal.returns-in-Err-clause-leaves
 returns-in-Err-clause-leaves g c =
     let disk = g.S.Store.disk in
-    let e = c.close-store.ensures in
-    let end = subst (λ o. IsEnded (session_of disk o) (disk c.close-store.result.0) c.close-store.result.2) c.in-Err.ensures.back
-    (ended disk c.in-Err.chain c.close-store.result.0 c.close-store.result.2 e.broken e.read e.counts e.err e.told) in
-    let s = session_of disk c.args.chain in
-    leaves s s [] (disk c.close-store.result.0) c.close-store.result.2 None None None (begins s c.requires.sound c.requires.fresh.1) end.broken end.told
+    subst (λ o. LeavesHistory (session_of disk o) [] None None (has_merge o.layers) c.end_fresh.result.1 (disk c.end_fresh.result.0)) c.in-Err.ensures.back c.end_fresh.ensures.leaves
 
 pub invariant_of-result : goal.invariant_of-result
 invariant_of-result g c =
