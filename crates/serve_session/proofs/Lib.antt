@@ -1,5 +1,6 @@
 mod Guests
 mod Hearing
+mod Back
 mod Reading
 mod Stepping
 mod Joining

@@ -25,6 +25,7 @@ use Rattle.guest_io.specs.declared.placed.Placed.{Placed}
 use Rattle.serve_session.specs.Actors.{HasReaders, IsUnread}
 use Rattle.serve_session.specs.Asking.{is_want, outcome_of, read_as}
 use Rattle.serve_session.specs.Served.{Outcome, call_of, counts_behind, none_failed, unread_in, unread_of, with_count}
+use Rattle.serve_session.proofs.Back.{failed_at, risen_lt, snoc_lt}
 use Rattle.serve_session.proofs.Guests.{unread_snoc}
 
 -- the counts behind one more failed read
@@ -106,6 +107,7 @@ module _ {S T : Type 0} (disk : S → Disk) (first : Chain S KeepAll T) where
       counts = λ k d within.
           counted_at k d (let size : length (set readers f.i f.now) ≡ length readers = length-set readers f.i f.now in omega (arith, size, within))
           ∙ sym (counts_more none_failed unread told (get_or (set readers f.i f.now) k d).file);
+      failed = failed_at readers f.i f.now f.within (risen_lt f.was.failed f.now.failed f.failed.rose) ∙ sym (snoc_lt unread told);
     })
 
   -- ---- a call

@@ -27,6 +27,7 @@ use Rattle.chain_core.proofs.SealedSteps.{files_all, read_files_are_synced, read
 use Rattle.shared_chain.specs.Faults.{CountsRead}
 use Rattle.shared_chain.specs.Homes.{session_of}
 use Rattle.shared_chain.specs.Planned.{IsReaderFor}
+use Rattle.serve_session.specs.Back.{has_failed}
 use Rattle.serve_session.specs.Served.{counts_behind, none_failed}
 use Rattle.serve_session.specs.Sealing.{IsSealing, IsSetFor, ServesFirst}
 
@@ -183,6 +184,10 @@ module _ {S T : Type 0} (disk : S → Disk) (old new : Chain S KeepAll T) (only 
       numbers_are [] = refl
       numbers_are (n ∷ ns) = ap (λ (ks : List ℕ). n ∷ ks) (numbers_are ns)
 
+      none_failed_yet : (ns : List ℕ) → has_failed (readers_of ns (disk new.store)) ≡ false
+      none_failed_yet [] = refl
+      none_failed_yet (n ∷ ns) = none_failed_yet ns
+
       own : IsSetFor disk new (readers_of numbers (disk new.store))
       own = record {
         own = All-map (IsReaderFor disk new) (λ n. reader_of n (disk new.store)) numbers (All-from_recursion (λ n. IsReaderFor disk new (reader_of n (disk new.store))) numbers (each numbers (each_among numbers)));
@@ -190,4 +195,5 @@ module _ {S T : Type 0} (disk : S → Disk) (old new : Chain S KeepAll T) (only 
             (All-from_recursion (λ n. n < (disk new.store).files) numbers (subst (λ k. AllByRecursion (λ n. n < k) numbers) (sym (ap (λ (d : Disk). d.files) is ∙ files_all numbers (disk old.store))) there));
         apart = subst AreApart (sym (numbers_are numbers)) apart;
         counts = All-map (λ (s : Sealed). s.failed ≡ counts_behind none_failed [] s.file) (λ n. reader_of n (disk new.store)) numbers (λ k d below. refl);
+        failed = none_failed_yet numbers;
       }

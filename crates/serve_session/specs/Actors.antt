@@ -1,5 +1,5 @@
 -- What a guest of a script has done so far, by its seat and what it was told.
-use Rattle.std.specs.Prelude.{◌≡◌, ◌⊎◌, ◌+◌, ◌-◌, ◌^◌, ◌<◌, ◌≤◌, ⊤, ℕ, Bool, false, true, All, List, [], ◌∷◌, ◌++◌, if◌then◌else◌, length, map, Some, None, Result, Ok, Err, IfErr, IfOk}
+use Rattle.std.specs.Prelude.{◌≡◌, ◌⊎◌, ◌+◌, ◌-◌, ◌^◌, ◌<◌, ◌≤◌, ⊤, ℕ, Bool, false, true, All, List, [], ◌∷◌, ◌++◌, if◌then◌else◌, length, map, nat_lt, Some, None, Result, Ok, Err, IfErr, IfOk}
 use Rattle.store_model.specs.Disk.{Disk, Sealed}
 use Rattle.store_model.specs.declared.fault.StoreFault.{StoreFault}
 use Rattle.guest_model.specs.declared.call.Call.{Call}
@@ -32,6 +32,7 @@ use Rattle.shared_chain.specs.Bases.{notes_in}
 use Rattle.shared_chain.specs.Notes.{HasNote}
 use Rattle.shared_chain.specs.Steps.{done_steps, open_by}
 use Rattle.shared_chain.specs.Seats.{IsFree, MergeBreaksAt}
+use Rattle.serve_session.specs.Back.{has_failed}
 use Rattle.serve_session.specs.declared.actor.Actor.{Actor}
 use Rattle.serve_session.specs.Served.{EachGuest, Has, IsCountedUp, IsRising, IsWhole, Outcome, SomeGuest, call_of, counts_behind, entry_of, forms_of, none_failed, places_in, told_calls, told_guests, unread_in}
 
@@ -135,12 +136,13 @@ module _ {S T : Type 0} (disk : S → Disk) (first : Chain S KeepAll T) where
     pub next : actor.guest.next ≡ length outcomes + 1
     pub told : actor.told.items ≡ told_calls names forms outcomes
 
-  -- Readers of a guest whose reads failed so by them: each counts those of its file, and no file has two.
+  -- Readers of a guest whose reads failed so by them: each counts those of its file, and no file has two; one has failed exactly where a read did.
   pub record HasReaders (unread : List StoreFault) (readers : List Sealed) : Type 0 where
     pub own : All (IsReaderFor disk first) readers
     pub there : All (λ s. s.file < (disk first.store).files) readers
     pub apart : AreApart (map (λ s. s.file) readers)
     pub counts : All (λ s. s.failed ≡ counts_behind none_failed unread s.file) readers
+    pub failed : has_failed readers ≡ nat_lt 0 (length unread)
 
   -- A guest whose lines have asked for these calls so far may make its next one, or memory ran out for it.
   pub record IsActor (lock : TableId) (names : List (List ℕ)) (forms : List Form) (actor : Actor S T) : Type 0 where

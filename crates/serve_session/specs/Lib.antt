@@ -1,6 +1,7 @@
 pub mod Beside
 pub mod Served
 pub mod Asking
+pub mod Back
 pub mod Sealing
 pub mod Actors
 pub mod Lists

@@ -246,7 +246,7 @@ impl<S: Store> Actor<S> {
 
     /// Its seat and its readers, and what it leaves.
     pub fn end(self) -> (Seat<SharedChain<S>>, ReaderSet<S::R>, Left)
-        ensures { (result.0 ≡ self.guest.seat) × (result.2.told ≡ self.told) × (result.2.unread ≡ self.unread) × (result.2.is_short ≡ self.is_short) }
+        ensures { (result.0 ≡ self.guest.seat) × (result.2.told ≡ self.told) × (result.2.unread ≡ self.unread) × (result.2.is_short ≡ self.is_short) × (result.1 ≡ self.guest.readers) }
     {
         let Actor {
             guest,

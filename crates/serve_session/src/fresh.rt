@@ -1,8 +1,9 @@
 //! A chain whose session has just begun, served.
 
-ghost use Rattle.std.specs.Prelude.{◌≡◌, ◌≤◌, ◌^◌, All, [], None, false, is_some, length, map, true};
+ghost use Rattle.std.specs.Prelude.{◌≡◌, ◌≤◌, ◌^◌, All, [], None, false, is_some, length, map, nat_lt, true};
 ghost use Rattle.chain_core.specs.Sessions.{IsSound, has_merge};
 ghost use Rattle.shared_chain.specs.Homes.{session_of};
+ghost use Rattle.serve_session.specs.Back.{any_failed};
 ghost use Rattle.serve_session.specs.Sealing.{ServesFirst, ServesSealed};
 ghost use Rattle.serve_session.specs.Served.{guest_count};
 
@@ -12,6 +13,7 @@ use crate::serving::{serve, unserved};
 use chain_core::Chain;
 use guest_model::KeepAll;
 use merge_core::Piece;
+use read_plan::ReaderSet;
 use script::Line;
 use shared_chain::SharedChain;
 use std::alloc::Global;
@@ -21,7 +23,7 @@ use std::thread::Threads;
 use store_model::{Gate, Store};
 
 /// Seals what a session only reads that has just begun, and serves the guests of a script over it, as `serve` does. Where a read fails before
-/// they are served, or memory runs out, the session ends.
+/// they are served, or memory runs out, the session ends, and no reader comes back, since none has read.
 pub(crate) fn serve_fresh<
     S: Store + Send,
     R: Threads + Wait + Sync,
@@ -38,7 +40,7 @@ pub(crate) fn serve_fresh<
     pieces: Vec<Piece>,
     last: Option<&mut Piece>,
     gate: &G,
-) -> (S, MergeRun)
+) -> (S, MergeRun, Vec<ReaderSet<S::R>>)
 where
     S::R: Send + Drop,
     requires sound { IsSound (session_of S.disk chain) }
@@ -51,16 +53,19 @@ where
     requires each { All (λ room. length room.items ≡ 1048576) rooms.items }
     requires workers { length pieces.items ≤ 64 }
     requires alone { is_some last ≡ false → length pieces.items ≡ 0 }
-    ensures { ServesSealed S.disk (is_some last.entry) chain (map N.text names.now) lines.now result.1 (S.disk result.0) }
+    ensures served { ServesSealed S.disk (is_some last.entry) chain (map N.text names.now) lines.now result.1 (S.disk result.0) }
+    ensures back { any_failed result.2.items ≡ nat_lt 0 result.1.unread }
 {
     let (chain, sets) = match seal(alloc, chain, rooms.len() as u32) {
         Ok(made) => made,
-        Err(Unserved { store, met, closed }) => return (store, unserved(met, closed)),
+        Err(Unserved { store, met, closed }) => {
+            return (store, unserved(met, closed), Vec::new(alloc));
+        }
     };
     match SharedChain::new(alloc, chain, stripes) {
         Ok(chain) => serve(
             rt, alloc, chain, names, lines, rooms, sets, stripes, pieces, last, gate,
         ),
-        Err((store, closed)) => (store, unserved(None, closed)),
+        Err((store, closed)) => (store, unserved(None, closed), Vec::new(alloc)),
     }
 }

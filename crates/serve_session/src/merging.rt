@@ -1,14 +1,12 @@
 //! A script's session with several guests over the files of a chain, in which a file is merged beside them.
 
-ghost use Rattle.std.specs.Prelude.{◌≡◌, ◌≤◌, ◌^◌, All, [], None, true, length, map, IfErr, IfOk, OnErr};
-ghost use Rattle.chain_core.specs.Sessions.{IsSound, has_merge};
-ghost use Rattle.shared_chain.specs.Homes.{session_of};
-ghost use Rattle.serve_session.specs.Serving.{HasServed};
+ghost use Rattle.std.specs.Prelude.{◌≡◌, ◌≤◌, ◌^◌, All, false, length, map, nat_lt, IfErr, IfOk, OnErr};
 ghost use Rattle.chain_core.specs.Starting.{EachOpensAlike};
 ghost use Rattle.chain_core.specs.LeafStarting.{RefusesLeafMerge};
 ghost use Rattle.chain_core.specs.MergeStarting.{RefusesMerge};
 ghost use Rattle.merge_plan.specs.Attached.{CanStart};
 ghost use Rattle.serve_session.specs.MergeServed.{HasRunServeLeafMerge, HasRunServeMerge};
+ghost use Rattle.serve_session.specs.Back.{any_failed};
 ghost use Rattle.serve_session.specs.Served.{guest_count};
 
 use crate::fresh::serve_fresh;
@@ -16,6 +14,7 @@ use chain_core::{Chain, MergeStartRefusal};
 use guest_model::{ChainRefusal, KeepAll};
 use link_rules::LinkedFile;
 use merge_core::Piece;
+use read_plan::ReaderSet;
 use script::Line;
 use script_session::ScriptRun;
 use std::alloc::Global;
@@ -63,7 +62,7 @@ fn stripes_of(files: &[LinkedFile]) -> u32 {
 /// Runs a script of `serve` in a session over the files of a chain that starts with the merge of its file `source`, which isn't the leaf, into
 /// its parent: each guest's calls in the script's order and in a thread of its own where one can be made, and a worker for each piece beside
 /// them, which copies stripes. Then what is missing is copied, the merge is finished, and the session ends. The store comes back, whatever is
-/// answered. The names are those of the files, from the leaf on; each guest has a room, and the last piece is for what the workers left.
+/// answered, and with it the guests' readers. The names are those of the files, from the leaf on; each guest has a room, and the last piece is for what the workers left.
 pub fn run_serve_merge<
     S: Store + Send,
     R: Threads + Wait + Sync,
@@ -83,7 +82,7 @@ pub fn run_serve_merge<
     pieces: Vec<Piece>,
     last: &mut Piece,
     gate: &G,
-) -> (S, Result<MergeRun, MergeStartRefusal>)
+) -> (S, Result<MergeRun, MergeStartRefusal>, Vec<ReaderSet<S::R>>)
 where
     S::R: Send + Drop,
     requires files { CanStart files.now (S.disk store) }
@@ -94,13 +93,15 @@ where
     ensures ran { IfOk result.1 (λ run. HasRunServeMerge files.now source.now (map N.text names.now) lines.now run (S.disk store) (S.disk result.0)
         (I.drawn ids.old) (I.drawn ids.new)) }
     ensures refused { IfErr result.1 (RefusesMerge files.now source.now (S.disk store) (S.disk result.0) (I.drawn ids.old) (I.drawn ids.new)) }
+    ensures back { IfOk result.1 (λ run. any_failed result.2.items ≡ nat_lt 0 run.unread) }
+    ensures none { OnErr result.1 (any_failed result.2.items ≡ false) }
     // Where no session started.
     ensures kept { OnErr result.1 (EachOpensAlike files.now (S.disk store).told (S.disk result.0).told) }
 {
     let stripes = stripes_of(files);
     match Chain::start_merge(alloc, store, files, source, KeepAll::new(alloc), ids) {
         Ok(chain) => {
-            let (store, run) = serve_fresh(
+            let (store, run, back) = serve_fresh(
                 rt,
                 alloc,
                 chain,
@@ -112,9 +113,9 @@ where
                 Some(last),
                 gate,
             );
-            (store, Ok(run))
+            (store, Ok(run), back)
         }
-        Err((store, refusal)) => (store, Err(refusal)),
+        Err((store, refusal)) => (store, Err(refusal), Vec::new(alloc)),
     }
 }
 
@@ -138,7 +139,7 @@ pub fn run_serve_leaf_merge<
     pieces: Vec<Piece>,
     last: &mut Piece,
     gate: &G,
-) -> (S, Result<MergeRun, MergeStartRefusal>)
+) -> (S, Result<MergeRun, MergeStartRefusal>, Vec<ReaderSet<S::R>>)
 where
     S::R: Send + Drop,
     requires files { CanStart files.now (S.disk store) }
@@ -150,13 +151,15 @@ where
     ensures ran { IfOk result.1 (λ run. HasRunServeLeafMerge files.now (map N.text names.now) lines.now run (S.disk store) (S.disk result.0)
         (I.drawn ids.old) (I.drawn ids.new)) }
     ensures refused { IfErr result.1 (RefusesLeafMerge files.now (S.disk store) (S.disk result.0) (I.drawn ids.old) (I.drawn ids.new)) }
+    ensures back { IfOk result.1 (λ run. any_failed result.2.items ≡ nat_lt 0 run.unread) }
+    ensures none { OnErr result.1 (any_failed result.2.items ≡ false) }
     // Where no session started.
     ensures kept { OnErr result.1 (EachOpensAlike files.now (S.disk store).told (S.disk result.0).told) }
 {
     let stripes = stripes_of(files);
     match Chain::start_leaf_merge(alloc, store, files, KeepAll::new(alloc), ids) {
         Ok(chain) => {
-            let (store, run) = serve_fresh(
+            let (store, run, back) = serve_fresh(
                 rt,
                 alloc,
                 chain,
@@ -168,8 +171,8 @@ where
                 Some(last),
                 gate,
             );
-            (store, Ok(run))
+            (store, Ok(run), back)
         }
-        Err((store, refusal)) => (store, Err(refusal)),
+        Err((store, refusal)) => (store, Err(refusal), Vec::new(alloc)),
     }
 }

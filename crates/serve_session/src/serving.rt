@@ -1,6 +1,6 @@
 //! A script's session with several guests, from the first call to its end.
 
-ghost use Rattle.std.specs.Prelude.{◌≡◌, ◌+◌, ◌*◌, ◌≤◌, ◌<◌, ◌^◌, ℕ, Bool, List, All, Err, Ok, false, true, length, map, is_some, string_bytes, vec_capacity, [], IfOk, IfSome, None};
+ghost use Rattle.std.specs.Prelude.{◌≡◌, ◌+◌, ◌*◌, ◌≤◌, ◌<◌, ◌^◌, ℕ, Bool, List, All, Err, Ok, false, true, length, map, nat_lt, is_some, string_bytes, vec_capacity, [], IfOk, IfSome, None};
 ghost use denote.Param.Send.{IsSend, IsSync};
 ghost use Rattle.std.specs.Fork.{AcceptsEach};
 ghost use Rattle.serve_session.specs.Beside.{WasCalledAt};
@@ -9,6 +9,7 @@ ghost use Rattle.guest_model.specs.declared.recorder.KeepAll.{KeepAll};
 ghost use Rattle.shared_chain.specs.Seats.{IsFree};
 ghost use Rattle.seats.specs.Families.{newborn};
 ghost use Rattle.serve_session.specs.Actors.{AreJoined, HasRun};
+ghost use Rattle.serve_session.specs.Back.{any_failed};
 ghost use Rattle.script.specs.Transcript.{IsTold, serve_text};
 ghost use Rattle.serve_session.specs.Lists.{AreActors, AreFresh, CanWork, HasDone, HasJoined, IsFreshWorker, IsReady, RunsEach, WorkersJoin, WorksEach, with_splits};
 ghost use Rattle.serve_session.specs.Served.{greatest_from, guest_count};
@@ -22,7 +23,7 @@ use copy_workers::Worker;
 use guest_io::Guest;
 use guest_model::{ChainRefusal, KeepAll};
 use merge_core::Piece;
-use read_plan::{Plan, Readers};
+use read_plan::{Plan, ReaderSet, Readers};
 use script::{Line, ToldCalls, serve_text};
 use script_session::ScriptRun;
 use shared_chain::SharedChain;
@@ -31,7 +32,7 @@ use std::convert::AsStr;
 use std::snapshot::Snapshot;
 use std::sync::Wait;
 use std::thread::{Threads, for_each_mut, join_mut};
-use store_model::{Gate, Store, StoreFault};
+use store_model::{Gate, Reader, Store, StoreFault};
 use turn_lock::{Seat, TurnLock};
 use vx_base::NoRoom;
 
@@ -153,32 +154,35 @@ struct Totals {
     is_short: bool,
 }
 
-// Joins the seats of all actors, and keeps what they leave, of the first guest first; there is room for it.
+// Joins the seats of all actors, and keeps their readers and what they leave, of the first guest first; there is room for it.
 fn end_actors<S: Store, N: AsStr>(
     lock: &TurnLock<SharedChain<S>>,
     first: &mut Seat<SharedChain<S>>,
     actors: &mut Vec<Actor<S>>,
     told: &mut Vec<ToldCalls>,
+    back: &mut Vec<ReaderSet<S::R>>,
     chain: &Snapshot<SharedChain<S>>,
     names: &[N],
     lines: &[Line],
 ) -> Totals
-where
-    S::R: Drop,
     requires joined { AreJoined S.disk chain.now.value.first false lock.now (map N.text names.now) lines.now first.old told.old.items false [] }
     requires ran { AreActors (HasRun S.disk chain.now.value.first lock.now (map N.text names.now) lines.now) (length actors.old.items) actors.old.items }
     requires few { length lines.now ≤ 2 ^ 20 }
     requires guests { length actors.old.items ≤ 64 }
+    requires none { back.old.items ≡ [] }
     requires reserved { length actors.old.items ≤ vec_capacity told.old }
+    requires reserved_back { length actors.old.items ≤ vec_capacity back.old }
     ensures joined { HasJoined S.disk false chain.now.value.first lock.now (map N.text names.now) lines.now (length actors.old.items) first.old first.new told.new.items result.is_short
         result.unread }
+    ensures back { any_failed back.new.items ≡ nat_lt 0 result.unread }
     ensures none { actors.new.items ≡ [] }
 {
     let mut unread = 0;
     let mut is_short = false;
     while let Some(actor) = actors.pop() {
-        let (seat, _, left) = actor.end();
+        let (seat, readers, left) = actor.end();
         lock.join(first, seat);
+        back.push_reserved(readers);
         let GuestLeft {
             told: calls,
             unread: more,
@@ -290,22 +294,24 @@ fn end_workers<S: Store>(
     }
 }
 
-// What threads left of a chain that they shared: the chain, what each guest was told, how many of the guests' reads failed by a reader, and
-// whether memory ran out.
+// What threads left of a chain that they shared: the chain, what each guest was told, its readers, how many of the guests' reads failed by one,
+// and whether memory ran out.
 struct Left<S: Store> {
     chain: SharedChain<S>,
     told: Vec<ToldCalls>,
+    back: Vec<ReaderSet<S::R>>,
     unread: u64,
     is_short: bool,
 }
 
 // A chain that wasn't shared, as memory ran out for it.
 fn unshared<S: Store>(alloc: Global, chain: SharedChain<S>) -> Left<S>
-    ensures { (result.chain ≡ chain) × (result.told.items ≡ []) × (result.unread ≡ 0) × (result.is_short ≡ true) }
+    ensures { (result.chain ≡ chain) × (result.told.items ≡ []) × (result.back.items ≡ []) × (result.unread ≡ 0) × (result.is_short ≡ true) }
 {
     Left {
         chain,
         told: Vec::new(alloc),
+        back: Vec::new(alloc),
         unread: 0,
         is_short: true,
     }
@@ -346,6 +352,18 @@ fn plans_for(alloc: Global, guests: usize) -> Result<Vec<Plan>, NoRoom>
     Ok(plans)
 }
 
+// Room for the readers of so many guests.
+fn room_for_sets<R: Reader + Drop>(
+    alloc: Global,
+    guests: usize,
+) -> Result<Vec<ReaderSet<R>>, AllocError>
+    ensures { IfOk result (λ sets. (sets.items ≡ []) × (guests ≤ vec_capacity sets)) }
+{
+    let mut sets = Vec::new(alloc);
+    sets.reserve(guests)?;
+    Ok(sets)
+}
+
 // Shares a chain among guests, each of which gets a set of readers, and among a worker for each piece.
 fn share<S: Store + Send, R: Threads + Wait + Sync, G: Gate + Sync, N: AsStr + Sync>(
     rt: &R,
@@ -369,6 +387,7 @@ where
     requires workers { length pieces.items ≤ 64 }
     ensures alone { length pieces.items ≡ 0 → IsShared S.disk false chain (map N.text names.now) lines.now result.chain result.told.items result.is_short result.unread }
     ensures beside { IsShared S.disk true chain (map N.text names.now) lines.now result.chain result.told.items result.is_short result.unread }
+    ensures back { any_failed result.back.items ≡ nat_lt 0 result.unread }
 {
     let mut rooms = rooms;
     let mut sets = sets;
@@ -378,6 +397,9 @@ where
         return unshared(alloc, chain);
     };
     let Ok(mut plans) = plans_for(alloc, rooms.len()) else {
+        return unshared(alloc, chain);
+    };
+    let Ok(mut back) = room_for_sets(alloc, rooms.len()) else {
         return unshared(alloc, chain);
     };
     let Some((mut actors, mut workers, mut told)) = reserved(alloc, rooms.len(), pieces.len())
@@ -417,6 +439,7 @@ where
         &mut first,
         &mut actors,
         &mut told,
+        &mut back,
         &was,
         names,
         lines,
@@ -428,6 +451,7 @@ where
     Left {
         chain,
         told,
+        back,
         unread,
         is_short,
     }
@@ -447,8 +471,9 @@ fn end_merge<S: Store>(
 }
 
 /// Runs a script of `serve` over a chain whose session has begun, each guest's calls in the script's order, beside a worker of the merge for
-/// each piece; then the merge, if there is one, is finished, and the session ends. The store comes back, whatever is answered. The names are
-/// those of the chain's files, from the leaf on; each guest has a room, and the merge a piece of its own for what is left to it.
+/// each piece; then the merge, if there is one, is finished, and the session ends. The store comes back, whatever is answered, and with it the
+/// guests' readers. The names are those of the chain's files, from the leaf on; each guest has a room, and the merge a piece of its own for what
+/// is left to it.
 pub(crate) fn serve<S: Store + Send, R: Threads + Wait + Sync, G: Gate + Sync, N: AsStr + Sync>(
     rt: &R,
     alloc: Global,
@@ -461,7 +486,7 @@ pub(crate) fn serve<S: Store + Send, R: Threads + Wait + Sync, G: Gate + Sync, N
     pieces: Vec<Piece>,
     last: Option<&mut Piece>,
     gate: &G,
-) -> (S, MergeRun)
+) -> (S, MergeRun, Vec<ReaderSet<S::R>>)
 where
     S::R: Send + Drop,
     requires begun { HasBegun S.disk chain }
@@ -471,7 +496,8 @@ where
     requires sets { (length sets ≡ length rooms.items) × All (IsSetFor S.disk chain.first) sets }
     requires workers { length pieces.items ≤ 64 }
     requires alone { is_some last ≡ false → length pieces.items ≡ 0 }
-    ensures { HasServed S.disk (is_some last.entry) chain.first (map N.text names.now) lines.now result.1 (S.disk result.0) }
+    ensures served { HasServed S.disk (is_some last.entry) chain.first (map N.text names.now) lines.now result.1 (S.disk result.0) }
+    ensures back { any_failed result.2.items ≡ nat_lt 0 result.1.unread }
 {
     let left = share(
         rt, alloc, chain, names, lines, rooms, sets, stripes, pieces, gate,
@@ -479,6 +505,7 @@ where
     let Left {
         mut chain,
         told,
+        back,
         unread,
         is_short,
     } = left;
@@ -495,7 +522,7 @@ where
         unread,
         merged,
     };
-    (store, run)
+    (store, run, back)
 }
 
 /// What is told where a read failed by this fault, or memory ran out, before the chain could be shared, and its session ended so.

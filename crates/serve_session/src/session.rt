@@ -1,16 +1,18 @@
 //! A script's session with several guests over the files of a chain, from its start to its end.
 
-ghost use Rattle.std.specs.Prelude.{◌≡◌, ◌≤◌, ◌^◌, All, length, map, IfErr, IfOk, OnErr};
+ghost use Rattle.std.specs.Prelude.{◌≡◌, ◌≤◌, ◌^◌, All, false, length, map, nat_lt, IfErr, IfOk, OnErr};
 ghost use Rattle.chain_core.specs.Starting.{EachOpensAlike, LeavesOthersFrom, RefusesStart};
 ghost use Rattle.chain_core.specs.declared.starting.Mode.TheVariants as modes;
 ghost use Rattle.merge_plan.specs.Attached.{CanStart};
 ghost use Rattle.serve_session.specs.Running.{HasRunServe};
+ghost use Rattle.serve_session.specs.Back.{any_failed};
 ghost use Rattle.serve_session.specs.Served.{guest_count};
 
 use crate::fresh::serve_fresh;
 use chain_core::{Chain, Mode, StartRefusal};
 use guest_model::KeepAll;
 use link_rules::LinkedFile;
+use read_plan::ReaderSet;
 use script::Line;
 use script_session::ScriptRun;
 use std::alloc::Global;
@@ -28,8 +30,8 @@ pub struct ServeRun {
 }
 
 /// Runs a script of `serve` in a session over the files of a chain, each guest's calls in the script's order and in a thread of its own
-/// where one can be made, and ends the session. The store comes back, whatever is answered. The names are those of the files, from the leaf
-/// on; each guest has a room.
+/// where one can be made, and ends the session. The store comes back, whatever is answered, and with it the guests' readers. The names are
+/// those of the files, from the leaf on; each guest has a room.
 pub fn run_serve<
     S: Store + Send,
     R: Threads + Wait + Sync,
@@ -46,7 +48,7 @@ pub fn run_serve<
     lines: &[Line],
     rooms: Vec<Vec<u8>>,
     gate: &G,
-) -> (S, Result<ServeRun, StartRefusal>)
+) -> (S, Result<ServeRun, StartRefusal>, Vec<ReaderSet<S::R>>)
 where
     S::R: Send + Drop,
     requires files { CanStart files.now (S.disk store) }
@@ -56,19 +58,23 @@ where
     ensures ran { IfOk result.1 (λ run. HasRunServe files.now (map N.text names.now) lines.now run (S.disk store) (S.disk result.0)
         (I.drawn ids.old) (I.drawn ids.new)) }
     ensures refused { IfErr result.1 (RefusesStart modes.Guests files.now (S.disk store) (S.disk result.0) (I.drawn ids.old) (I.drawn ids.new)) }
+    ensures back { IfOk result.1 (λ run. any_failed result.2.items ≡ nat_lt 0 run.unread) }
+    ensures none { OnErr result.1 (any_failed result.2.items ≡ false) }
     // Where no session started.
     ensures kept { OnErr result.1 (EachOpensAlike files.now (S.disk store).told (S.disk result.0).told) }
     ensures still { OnErr result.1 (LeavesOthersFrom (S.disk store).told (S.disk result.0).told) }
 {
     let chain = match Chain::start(alloc, store, files, Mode::Guests, KeepAll::new(alloc), ids) {
         Ok(chain) => chain,
-        Err((store, refusal)) => return (store, Err(refusal)),
+        Err((store, refusal)) => return (store, Err(refusal), Vec::new(alloc)),
     };
     let none = Vec::new(alloc);
-    let (store, served) = serve_fresh(rt, alloc, chain, names, lines, rooms, 0, none, None, gate);
+    let (store, served, back) = serve_fresh(
+        rt, alloc, chain, names, lines, rooms, 0, none, None, gate,
+    );
     let run = ServeRun {
         run: served.run,
         unread: served.unread,
     };
-    (store, Ok(run))
+    (store, Ok(run), back)
 }

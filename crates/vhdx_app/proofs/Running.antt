@@ -17,7 +17,7 @@ use Rattle.link_rules.specs.Touches.{IsOnWay, TouchesSafely}
 use Rattle.link_rules.proofs.Safe.{none_safely}
 use Rattle.vhdx_app.specs.Folders.{IsReplayedIn, OnlyFollows}
 use Rattle.printing.specs.Sent.{Sent, cut, whole}
-use Rattle.vhdx_app.specs.Runs.{AskMerge, AskUnread, Ends, HasMerge, FollowsFirst, IsMerging, IsRun, IsRunAlone, Runs, StartsNoThread, no_memory, serving, usage}
+use Rattle.vhdx_app.specs.Runs.{AskMerge, Ends, HasMerge, FollowsFirst, IsMerging, IsRun, IsRunAlone, Runs, StartsNoThread, no_memory, serving, usage}
 use Rattle.script.specs.declared.form.ScriptKind.TheVariants as kinds
 use Rattle.vhdx_app.specs.Serves as serves
 use Rattle.vhdx_app.specs.Steps as steps
@@ -45,20 +45,20 @@ module _ (words : List (List ℕ)) (told : Option Request) (h : MatchOption told
   none_asked is = asked_none words told is h
 
   -- how it ends where a merge may be asked for
-  merge_ends_by : (wish : Wish) → Asks words wish → (before now : World) (status : Status) (unread : Type 0) → (unread → AskUnread words before now status) → Ends (IsMerging wish) unread before now status → Ends (AskMerge words) (AskUnread words before now status) before now status
-  merge_ends_by wish asks before now status unread as_asked ends = record {
-    rose = λ fault. elim (ends.rose fault) [ inl rose ↦ inl rose | inr some ↦ inr (as_asked some) ];
+  merge_ends_by : (wish : Wish) → Asks words wish → (before now : World) (status : Status) → Ends (IsMerging wish) before now status → Ends (AskMerge words) before now status
+  merge_ends_by wish asks before now status ends = record {
+    rose = ends.rose;
     quiet = ends.quiet;
     home = ends.home;
     idle = λ fault none. ends.idle fault (λ memory has. none memory (wish, asks, has));
   }
 
-  pub merge_ends : (leaf : List ℕ) (merge : Option (List ℕ)) (read_only : Bool) (request : Request) → told ≡ Some request → plain request ≡ wish.steps leaf merge read_only → (before now : World) (status : Status) → Ends (HasMerge merge) ⊥ before now status
-      → Ends (AskMerge words) (AskUnread words before now status) before now status
-  merge_ends leaf merge read_only request is same before now status ends = merge_ends_by (wish.steps leaf merge read_only) (subst (Asks words) same (asked words told request is h)) before now status ⊥ (λ never. absurd never) ends
+  pub merge_ends : (leaf : List ℕ) (merge : Option (List ℕ)) (read_only : Bool) (request : Request) → told ≡ Some request → plain request ≡ wish.steps leaf merge read_only → (before now : World) (status : Status) → Ends (HasMerge merge) before now status
+      → Ends (AskMerge words) before now status
+  merge_ends leaf merge read_only request is same before now status ends = merge_ends_by (wish.steps leaf merge read_only) (subst (Asks words) same (asked words told request is h)) before now status ends
 
   -- what was told is done, and nothing else is asked for
-  pub told_is_run : (request : Request) → told ≡ Some request → (before now : World) (status : Status) → Runs (plain request) before now status → Ends (AskMerge words) (AskUnread words before now status) before now status → IsRun words before now status
+  pub told_is_run : (request : Request) → told ≡ Some request → (before now : World) (status : Status) → Runs (plain request) before now status → Ends (AskMerge words) before now status → IsRun words before now status
   told_is_run request is before now status runs ends = record {
     asked = runs_for request is before now status runs;
     nothing = λ nothing. absurd (some_asked request is nothing);
@@ -66,7 +66,7 @@ module _ (words : List (List ℕ)) (told : Option Request) (h : MatchOption told
   }
 
   -- the same without threads, if it isn't asked for guests to be served
-  pub told_alone : (request : Request) → told ≡ Some request → (before now : World) (status : Status) → Runs (plain request) before now status → Ends (AskMerge words) (AskUnread words before now status) before now status
+  pub told_alone : (request : Request) → told ≡ Some request → (before now : World) (status : Status) → Runs (plain request) before now status → Ends (AskMerge words) before now status
       → ((leaf : List ℕ) (workers : ℕ) (merge : Option (List ℕ)) → plain request ≡ wish.serve leaf workers merge → ⊥) → IsRunAlone words before now status
   told_alone request is before now status runs ends other = record {
     alone = λ none. told_is_run request is before now status runs ends;
@@ -110,25 +110,25 @@ module _ (words : List (List ℕ)) (told : Option Request) (h : MatchOption told
       go (Some request) t e = by_wish (plain request) (asked_once words (plain request) (wish.serve leaf workers merge) (asked words told request t h) asks) e
 
   -- guests were served
-  pub served_is_run : (leaf : List ℕ) (workers : ℕ) (merge : Option (List ℕ)) → serving (option_map plain told) ≡ Some (wish.serve leaf workers merge) → (before now : World) (status : Status) → Runs (wish.serve leaf workers merge) before now status → Ends (HasMerge merge) (serves.HasUnread leaf merge before now status) before now status
+  pub served_is_run : (leaf : List ℕ) (workers : ℕ) (merge : Option (List ℕ)) → serving (option_map plain told) ≡ Some (wish.serve leaf workers merge) → (before now : World) (status : Status) → Runs (wish.serve leaf workers merge) before now status → Ends (HasMerge merge) before now status
       → IsRun words before now status
   served_is_run leaf workers merge is before now status runs ends =
       let asks = serve_asked (wish.serve leaf workers merge) is in
       record {
         asked = λ w also. subst (λ w. Runs w before now status) (asked_once words (wish.serve leaf workers merge) w asks also) runs;
         nothing = λ nothing. absurd (nothing (wish.serve leaf workers merge) asks);
-        ends = merge_ends_by (wish.serve leaf workers merge) asks before now status (serves.HasUnread leaf merge before now status) (λ some. (leaf, workers, merge, asks, some)) ends;
+        ends = merge_ends_by (wish.serve leaf workers merge) asks before now status ends;
       }
 
   -- nothing was told, and nothing is done
-  pub none_is_run : told ≡ None → (before : World) (status : Status) → status ≡ Usage → Ends (AskMerge words) (AskUnread words before before status) before before status → IsRun words before before status
+  pub none_is_run : told ≡ None → (before : World) (status : Status) → status ≡ Usage → Ends (AskMerge words) before before status → IsRun words before before status
   none_is_run is before status ended ends = record {
     asked = λ w asks. absurd (none_asked is w asks);
     nothing = λ nothing. usage ended refl;
     ends = ends;
   }
 
-  pub none_alone : told ≡ None → (before : World) (status : Status) → status ≡ Usage → Ends (AskMerge words) (AskUnread words before before status) before before status → IsRunAlone words before before status
+  pub none_alone : told ≡ None → (before : World) (status : Status) → status ≡ Usage → Ends (AskMerge words) before before status → IsRunAlone words before before status
   none_alone is before status ended ends = record { alone = λ none. none_is_run is before status ended ends; other = λ leaf workers merge asks. usage ended refl }
 
 -- ---- the commands
@@ -143,16 +143,16 @@ not_of_source h = elim h [ inl a ↦ inl a | inr c ↦ inr (inr c) ]
 
 module _ (before now : World) (status : Status) (idle : WhereTold before.host.folder AllIdle) (unread : now.source_faults ≡ before.source_faults) where
   pub followed_ends : (leaf : List ℕ) (is_text : Status → List ℕ → Type 0) → Ended is_text before.host.faults now.host.faults before.written now.written before.sink_faults now.sink_faults status → OnlyFollows leaf before.host.folder now.host.folder
-      → (status ≢ Fault → WhereTold before.host.folder (λ folder. WhereTold now.host.folder AllIdle)) → {merges unread : Type 0} → Ends merges unread before now status
-  followed_ends leaf is_text ended followed stays_idle = record { rose = λ fault. inl (not_of_source (ended.rose fault)); quiet = λ fault. ((ended.quiet fault).0, unread, (ended.quiet fault).1); home = home_followed leaf before.host.folder now.host.folder idle followed; idle = λ fault none. stays_idle fault }
+      → (status ≢ Fault → WhereTold before.host.folder (λ folder. WhereTold now.host.folder AllIdle)) → {merges : Type 0} → Ends merges before now status
+  followed_ends leaf is_text ended followed stays_idle = record { rose = λ fault. not_of_source (ended.rose fault); quiet = λ fault. ((ended.quiet fault).0, unread, (ended.quiet fault).1); home = home_followed leaf before.host.folder now.host.folder idle followed; idle = λ fault none. stays_idle fault }
 
-  pub made_ends : (name : List ℕ) (file : File) → MakeEnded name file (outside before.host before.drawn) (outside now.host now.drawn) before.written now.written before.sink_faults now.sink_faults status → {merges unread : Type 0} → Ends merges unread before now status
-  made_ends name file ended = record { rose = λ fault. inl (not_of_source (ended.ended.rose fault)); quiet = λ fault. ((ended.ended.quiet fault).0, unread, (ended.ended.quiet fault).1); home = home_added name file before.host.folder now.host.folder idle ended.others; idle = λ fault none. ended.idle fault }
+  pub made_ends : (name : List ℕ) (file : File) → MakeEnded name file (outside before.host before.drawn) (outside now.host now.drawn) before.written now.written before.sink_faults now.sink_faults status → {merges : Type 0} → Ends merges before now status
+  made_ends name file ended = record { rose = λ fault. not_of_source (ended.ended.rose fault); quiet = λ fault. ((ended.ended.quiet fault).0, unread, (ended.ended.quiet fault).1); home = home_added name file before.host.folder now.host.folder idle ended.others; idle = λ fault none. ended.idle fault }
 
   -- of one file alone
   pub command_ends : (is_text : Status → List ℕ → Type 0) → Ended is_text before.host.faults now.host.faults before.written now.written before.sink_faults now.sink_faults status → StaysHome before.host.folder now.host.folder
-      → (status ≢ Fault → WhereTold before.host.folder (λ folder. WhereTold now.host.folder AllIdle)) → {merges unread : Type 0} → Ends merges unread before now status
-  command_ends is_text ended home stays_idle = record { rose = λ fault. inl (not_of_source (ended.rose fault)); quiet = λ fault. ((ended.quiet fault).0, unread, (ended.quiet fault).1); home = home; idle = λ fault none. stays_idle fault }
+      → (status ≢ Fault → WhereTold before.host.folder (λ folder. WhereTold now.host.folder AllIdle)) → {merges : Type 0} → Ends merges before now status
+  command_ends is_text ended home stays_idle = record { rose = λ fault. not_of_source (ended.rose fault); quiet = λ fault. ((ended.quiet fault).0, unread, (ended.quiet fault).1); home = home; idle = λ fault none. stays_idle fault }
 
 -- ---- where nothing is done but that a text is printed
 
@@ -165,9 +165,9 @@ sent_quiet meant before after old new text status (whole is sent same) fault = s
 sent_quiet meant before after old new text status (cut is n sent rose) fault = absurd (fault is)
 
 module _ (host : Hosted) (drawn : Option (List (List ℕ))) (left : Option (List ℕ)) (rises : ℕ) (sunk after : Option (List ℕ)) (old new : ℕ) (status : Status) (idle : WhereTold host.folder AllIdle) where
-  pub sent_ends : (meant : Status) (text : List ℕ) → (meant ≡ Fault → ⊥) → Sent sunk after old new meant text status → {merges unread : Type 0} → Ends merges unread (world host drawn left rises sunk old) (world host drawn left rises after new) status
+  pub sent_ends : (meant : Status) (text : List ℕ) → (meant ≡ Fault → ⊥) → Sent sunk after old new meant text status → {merges : Type 0} → Ends merges (world host drawn left rises sunk old) (world host drawn left rises after new) status
   sent_ends meant text none sent = record {
-    rose = λ fault. inl (inr (inr (sent_rose meant sunk after old new text status none sent fault)));
+    rose = λ fault. inr (inr (sent_rose meant sunk after old new text status none sent fault));
     quiet = λ fault. (refl, refl, sent_quiet meant sunk after old new text status sent fault);
     home = home_still host.folder host.folder idle refl;
     idle = λ fault none f told. idle;
@@ -209,5 +209,5 @@ module _ (host : Hosted) (drawn : Option (List (List ℕ))) (left : Option (List
   pub no_memory_alone : (words : List (List ℕ)) → Sent sunk after old new NoMemory (codes "no memory\n") status → IsRunAlone words (world host drawn left rises sunk old) (world host drawn left rises after new) status
   no_memory_alone words sent = record { alone = λ none. no_memory_is_run words sent; other = λ leaf workers merge asks. no_memory refl sent }
 
-pub usage_ends : (host : Hosted) (drawn : Option (List (List ℕ))) (left : Option (List ℕ)) (rises : ℕ) (sunk : Option (List ℕ)) (old : ℕ) (status : Status) → WhereTold host.folder AllIdle → status ≡ Usage → {merges unread : Type 0} → Ends merges unread (world host drawn left rises sunk old) (world host drawn left rises sunk old) status
+pub usage_ends : (host : Hosted) (drawn : Option (List (List ℕ))) (left : Option (List ℕ)) (rises : ℕ) (sunk : Option (List ℕ)) (old : ℕ) (status : Status) → WhereTold host.folder AllIdle → status ≡ Usage → {merges : Type 0} → Ends merges (world host drawn left rises sunk old) (world host drawn left rises sunk old) status
 usage_ends host drawn left rises sunk old status idle is = record { rose = λ fault. let e : Usage ≡ Fault = sym is ∙ fault in cc; quiet = λ fault. (refl, refl, refl); home = home_still host.folder host.folder idle refl; idle = λ fault none f told. idle }

@@ -6,7 +6,7 @@ use Rattle.std.proofs.lemmas.Option.{same_Some}
 use Rattle.file_open.specs.Causes.{IfCause, Meaning, refuses, host_failed, store_failed, no_memory, cause_in}
 use Rattle.store_model.specs.Cause.{Rose}
 use Rattle.store_model.specs.Disk.{WhereTold}
-use Rattle.store_model.specs.Folder.{Held, Hosted}
+use Rattle.store_model.specs.Folder.{Held, Hosted, RoseWhere}
 use Rattle.store_model.specs.Moments.{IsHealthy, LastReturnedCounts, Throughout}
 use Rattle.store_model.specs.declared.fault.HostFault.{HostFault}
 use Rattle.store_model.specs.declared.fault.StoreFault.{StoreFault}
@@ -47,15 +47,15 @@ use Rattle.printing.specs.declared.status.Status.{Status}
 use Rattle.printing.specs.declared.status.Status.TheVariants.{Fault, NoMemory, Refused}
 use Rattle.vhdx_app.specs.Causes.{meaning_of_chain, of_chain}
 use Rattle.vhdx_app.specs.Commands.{LeavesFollowedBy, Reports}
-use Rattle.vhdx_app.specs.Crashes.{EachImageOpens, HasLong, NoneNamesLog, OpensToFirst}
+use Rattle.vhdx_app.specs.Crashes.{AreSpared, EachImageOpens, HasLong, NoneNamesLog, OpensToFirst}
 use Rattle.vhdx_app.specs.Folders.{AllHome, LastReturned, OnlyFollows, files_of}
-use Rattle.vhdx_app.specs.Guests.{LeafIsServed, ReportsServed, ServedOver, end_of, served_of, served_said, stopped_by}
+use Rattle.vhdx_app.specs.Guests.{LeafIsServed, ReportsServed, ServedOver, ServedWith, end_of, served_of, served_said, stopped_by}
 use Rattle.vhdx_app.specs.Guests as code_guests
 use Rattle.vhdx_app.specs.Printed.{Prints, ShowsFault}
 use Rattle.vhdx_app.specs.Printed as printed
 use Rattle.vhdx_app.specs.Refusals.{IdUnfit, IsBase, LocatorTooLarge, MetadataFull, NotInChain, OfCall, OfChain, Refusal}
 use Rattle.vhdx_app.specs.Runs.{Ends, HasMerge}
-use Rattle.vhdx_app.specs.Serves.{HasServedOut, HasUnread, IsMergeLeft, IsServeText, IsServiceText, IsStopTold, IsUnfinished, KeepsServed, RunsServe, ServesOver, Service, met, no_service, of_readers, of_readers_alone, of_store, unread_by}
+use Rattle.vhdx_app.specs.Serves.{HasServedOut, IsMergeLeft, IsServeText, IsServiceText, IsStopTold, IsUnfinished, KeepsServed, RunsServe, ServesOver, Service, met, no_service, of_readers, of_readers_alone, of_store, unread_by}
 use Rattle.vhdx_app.specs.Serves as serves
 use Rattle.vhdx_app.specs.Sessions.{IsCounted, IsFollowedTo, IsNotFollowed, NotRunOver, OpensIn, Rests, Stands, UnlessMerging, UnlessStore, leaf_name, meaning_of_steps}
 use Rattle.vhdx_app.specs.Sessions as code
@@ -71,7 +71,8 @@ use Rattle.vhdx_app.proofs.Followed.{has_followed, order_stopped}
 use Rattle.vhdx_app.proofs.Home.{StaysHome, home_followed}
 use Rattle.vhdx_app.proofs.Left.{counted, followed, idle_left, stopped}
 use Rattle.vhdx_app.proofs.Said.{CountsIn, counts_as, is_fault}
-use Rattle.vhdx_app.proofs.Stepped.{ends_by, ends_with, not_opened, unread_ends}
+use Rattle.vhdx_app.proofs.Handing.{rose_later}
+use Rattle.vhdx_app.proofs.Stepped.{ends_by, not_opened, unread_ends}
 
 ended_well : (closed : Result (Unit {0}) StoreFault) {P : Type 0} → OnOk closed P → failed_by closed ≡ None → P
 ended_well (Ok done) p none = p
@@ -116,7 +117,7 @@ module _ (leaf : List ℕ) (merge : Option (List ℕ)) (before now : World) (sta
   -- ---- a report
 
   reports_end : (meaning : Meaning Refusal) → CountsIn before.host now.host meaning → Reports meaning before.written now.written before.sink_faults now.sink_faults status → StaysHome before.host.folder now.host.folder
-      → (status ≢ Fault → (status ≡ NoMemory → ¬ HasMerge merge) → WhereTold before.host.folder (λ f. WhereTold now.host.folder AllIdle)) → Ends (HasMerge merge) (HasUnread leaf merge before now status) before now status
+      → (status ≢ Fault → (status ≡ NoMemory → ¬ HasMerge merge) → WhereTold before.host.folder (λ f. WhereTold now.host.folder AllIdle)) → Ends (HasMerge merge) before now status
   reports_end (refuses r) counts (inl sent) home idles = ends_by (HasMerge merge) before now Refused status _ sent (λ e. cc) (λ e. (counts, unread)) home idles
   reports_end (refuses r) counts (inr sent) home idles = ends_by (HasMerge merge) before now NoMemory status _ sent (λ e. cc) (λ e. (counts, unread)) home idles
   reports_end (host_failed fault) counts sent home idles = ends_by (HasMerge merge) before now Fault status _ sent (λ e. inl counts.0) (λ e. absurd (e refl)) home idles
@@ -149,7 +150,7 @@ module _ (leaf : List ℕ) (merge : Option (List ℕ)) (before now : World) (sta
       undrawn = undrawn;
     })
 
-    unlinked_ends : Ends (HasMerge merge) (HasUnread leaf merge before now status) before now status
+    unlinked_ends : Ends (HasMerge merge) before now status
     unlinked_ends = reports_end (of_chain (meaning_of r)) (counted leaf before.host now.host (of_chain (meaning_of r)) left_by) reports (home_followed leaf before.host.folder now.host.folder idle unlinked_follows)
         (λ fault none. idle_left leaf before.host now.host (of_chain (meaning_of r)) before.written now.written before.sink_faults now.sink_faults status left_by reports fault)
 
@@ -212,7 +213,7 @@ module _ (leaf : List ℕ) (merge : Option (List ℕ)) (before now : World) (sta
       no_log : HasServedOut merge service meant → service.has_begun ≡ true → WhereTold mid.folder (λ g. LogsEnded)
       left : HasServedOut merge service meant → service.has_begun ≡ true → WhereTold mid.folder (λ g. MergeLeft service (leaf_name linked))
       unchanged : meant ≡ Refused → service.has_begun ≡ false → code.StaysAsItWas mid.folder now.host.folder
-      rose : meant ≡ Fault → Rose before.host.faults now.host.faults ⊎ (0 < unread_by service)
+      rose : meant ≡ Fault → Rose before.host.faults now.host.faults
       quiet : meant ≢ Fault → (now.host.faults ≡ before.host.faults) × (met service ≡ None) × (unread_by service ≡ 0)
 
     abbrev EndsOf : Service → Type 0
@@ -228,27 +229,24 @@ module _ (leaf : List ℕ) (merge : Option (List ℕ)) (before now : World) (sta
     FaultsOf service = LastReturned (λ store. FaultsAreTold (all_told service.guests) service.ended (length linked.files) (λ file. 0) store.failed_reads store.failed_changes) mid now.host
 
     over_by : (service : Service) → (service.has_begun ≡ false → service ≡ no_service) → HasSaid service → WhereTold mid.folder (λ g. OpensIn linked g (λ disk. AreServed (is_some merge) (drive_over false disk) lines service.guests service.history service.ended service.broken))
-        → WhereTold mid.folder (λ g. Stands Guests merge linked service.history service.broken g mid now.host) → WhereTold mid.folder (λ g. EndsOf service × StopOf service × (service.has_begun ≡ true → FaultsOf service) × UnreadOf service) → (over : ServesOver leaf merge before now status) × (over.service ≡ service)
-    over_by service none s told_so stands outside = (
-      record {
-        begun = begun;
-        taken = taken;
-        opened = mid;
-        followed = followed leaf before.host mid (has_followed leaf linked before.host h.links mid h.replayed) h.moments;
-        opening = h.moments;
-        service = service;
-        none = none;
-        meant = s.meant;
-        text = s.text;
-        said = s.said;
-        sent = s.sent;
-        kept = keeps;
-        unchanged = s.unchanged;
-        rose = s.rose;
-        quiet = s.quiet;
-      },
-      refl,
-    )
+        → WhereTold mid.folder (λ g. Stands Guests merge linked service.history service.broken g mid now.host) → WhereTold mid.folder (λ g. EndsOf service × StopOf service × (service.has_begun ≡ true → FaultsOf service) × UnreadOf service) → ServesOver leaf merge before now status
+    over_by service none s told_so stands outside = record {
+      begun = begun;
+      taken = taken;
+      opened = mid;
+      followed = followed leaf before.host mid (has_followed leaf linked before.host h.links mid h.replayed) h.moments;
+      opening = h.moments;
+      service = service;
+      none = none;
+      meant = s.meant;
+      text = s.text;
+      said = s.said;
+      sent = s.sent;
+      kept = keeps;
+      unchanged = s.unchanged;
+      rose = s.rose;
+      quiet = s.quiet;
+    }
       where
         keeps : WhereTold before.host.folder (λ f. KeepsServed leaf linked begun.disk merge lines service s.meant mid now.host)
         keeps f told =
@@ -302,7 +300,7 @@ module _ (leaf : List ℕ) (merge : Option (List ℕ)) (before now : World) (sta
       not_rests_by no_memory reports p fault memory = unless_memory merge p (memory (sent_is _ _ _ _ NoMemory _ status reports fault))
 
       module _ (reports : Reports (meaning_of_steps r) before.written now.written before.sink_faults now.sink_faults status) where
-        not_run_ends : Ends (HasMerge merge) (HasUnread leaf merge before now status) before now status
+        not_run_ends : Ends (HasMerge merge) before now status
         not_run_ends =
             reports_end (meaning_of_steps r) (counts_all (meaning_of_steps r) n.counts) reports (home_all (λ g is. (n.stands g is).home)) (λ fault none. idle_all (λ g is. (not_rests_by (meaning_of_steps r) reports n.rests fault (λ e. none_of merge (none e)) g is).idle g is))
 
@@ -318,7 +316,7 @@ module _ (leaf : List ℕ) (merge : Option (List ℕ)) (before now : World) (sta
           no_log = λ rested some. let never : false ≡ true = some in cc;
           left = λ rested some. let never : false ≡ true = some in cc;
           unchanged = λ refused begun. unchanged refused;
-          rose = λ fault. inl (rose fault);
+          rose = rose;
           quiet = λ other. (quiet other, refl, refl);
         }
 
@@ -355,11 +353,48 @@ module _ (leaf : List ℕ) (merge : Option (List ℕ)) (before now : World) (sta
         none_told g disk opens = record { told = tt; order = tt; unread = tt; all = λ p low high. absurd (omega (arith, low, high)); breaker = tt }
 
         not_run_runs : RunsServe leaf merge before now status
-        not_run_runs = serves.served (over_by no_service (λ e. refl) not_run_said (λ g is. none_told g) n.stands (λ g is. (tt, tt, (λ some. let never : false ≡ true = some in cc), tt))).0
+        not_run_runs = serves.served (over_by no_service (λ e. refl) not_run_said (λ g is. none_told g) n.stands (λ g is. (tt, tt, (λ some. let never : false ≡ true = some in cc), tt)))
 
     -- ---- a session ran
 
-    module _ (run : MergeRun) (o : ServedOver merge linked lines run mid now.host before.drawn now.drawn) where
+    module _ (run : MergeRun) (w : ServedWith merge linked lines run mid now.host before.drawn now.drawn) where
+      abbrev risen : Hosted
+      risen = record mid { faults = w.faults }
+
+      abbrev o : ServedOver merge linked lines run risen now.host before.drawn now.drawn
+      o = w.over
+
+      -- the host's count rose since the files were lent where it rose since the readers came back
+      rose_from : Rose w.faults now.host.faults → Rose mid.faults now.host.faults
+      rose_from rose = let l = rose_later run.unread mid.faults w.faults w.readers in let r = rose.risen in record { later = let m = rose.later in omega (arith, m, l); risen = omega (arith, r, l) }
+
+      counted_from : (fault : StoreFault) → IsCounted risen now.host fault → IsCounted mid now.host fault
+      counted_from fault c = record { rose = rose_from c.rose; some = c.some; last = c.last }
+
+      throughout_from : (P : List Held → Type 0) → Throughout P risen now.host → Throughout P mid now.host
+      throughout_from P t = record { past = t.past; now = t.now }
+
+      stands_from : (g : List Held) → Stands Guests merge linked o.history o.broken g risen now.host → Stands Guests merge linked o.history o.broken g mid now.host
+      stands_from g s = record {
+        moments = λ disk opens. throughout_from (OpensToFirst (way_by (leaf_name linked) linked merge) disk o.history (open_by o.broken)) (s.moments disk opens);
+        last = s.last;
+        spared = throughout_from (AreSpared (changed_names false merge linked.files) g) s.spared;
+        unchanged = s.unchanged;
+        home = s.home;
+      }
+
+      rests_from : (g : List Held) (closed : Result (Unit {0}) StoreFault) → OnOk closed (Rests linked o.history g risen now.host) → OnOk closed (Rests linked o.history g mid now.host)
+      rests_from g (Ok done) r = record { idle = r.idle; opens = r.opens }
+      rests_from g (Err fault) r = tt
+
+      some_from : (fault : Option StoreFault) → IfSome fault (IsCounted risen now.host) → IfSome fault (IsCounted mid now.host)
+      some_from None c = tt
+      some_from (Some fault) c = counted_from fault c
+
+      err_from : (closed : Result (Unit {0}) StoreFault) → IfErr closed (IsCounted risen now.host) → IfErr closed (IsCounted mid now.host)
+      err_from (Ok done) c = tt
+      err_from (Err fault) c = counted_from fault c
+
       abbrev service : Service
       service = record { has_begun = true; guests = o.guests; history = o.history; broken = o.broken; stopped = stopped_by run.merged; refused = run.run.fault; ended = failed_by run.run.closed }
 
@@ -378,7 +413,7 @@ module _ (leaf : List ℕ) (merge : Option (List ℕ)) (before now : World) (sta
 
       record Shown (merged : Result (Unit {0}) ChainRefusal) (fault : Option StoreFault) (closed : Result (Unit {0}) StoreFault) (said : Status × List ℕ) : Type 0 where
         so : IsServeText begun merge now (service_by merged fault closed) said.0 said.1
-        rose : said.0 ≡ Fault → Rose before.host.faults now.host.faults ⊎ (0 < missed)
+        rose : said.0 ≡ Fault → Rose before.host.faults now.host.faults
         quiet : said.0 ≢ Fault → (now.host.faults ≡ before.host.faults) × (met (service_by merged fault closed) ≡ None) × (missed ≡ 0)
 
       -- what stopped a merge whose transcript is whole, if no fault was met
@@ -402,28 +437,31 @@ module _ (leaf : List ℕ) (merge : Option (List ℕ)) (before now : World) (sta
           positive zero e f = absurd (true_false f)
           positive (suc n) e f = omega (arith, e)
 
+      none_risen : (unread : ℕ) → RoseWhere (0 < unread) mid.faults w.faults → unread ≡ 0 → w.faults ≡ mid.faults
+      none_risen unread r none = r.none (λ less. absurd (omega (arith, less, none)))
+
       shown_by : {Z : Type 0} (t : Result (String Z) NoRoom) (fault : Option StoreFault) (closed : Result (Unit {0}) StoreFault) (merged : Result (Unit {0}) ChainRefusal) (unread : ℕ) → IfOk t (λ text. TextIs (string_bytes text))
-          → IfSome fault (IsCounted mid now.host) → IfErr closed (IsCounted mid now.host) → (fault ≡ None → OnOk closed (now.host.faults ≡ mid.faults)) → Unfinished t fault closed merged → unread ≡ missed → Shown merged fault closed (served_of (end_of merged) unread t fault closed)
-      shown_by (Ok text) None (Ok done) merged unread w counts ended quiet stopped is = by_count (unread == 0) refl
+          → IfSome fault (IsCounted mid now.host) → IfErr closed (IsCounted mid now.host) → (fault ≡ None → OnOk closed (now.host.faults ≡ w.faults)) → RoseWhere (0 < unread) mid.faults w.faults → Unfinished t fault closed merged → unread ≡ missed → Shown merged fault closed (served_of (end_of merged) unread t fault closed)
+      shown_by (Ok text) None (Ok done) merged unread text_is counts ended quiet risen_by stopped is = by_count (unread == 0) refl
         where
           by_count : (b : Bool) → (unread == 0) ≡ b → Shown merged None (Ok done) (if b then end_of merged else Fault, string_bytes text)
-          by_count true none = whole_shown text done merged w stopped (quiet refl ∙ h.replayed.quiet) (sym is ∙ eqb-true unread 0 none)
+          by_count true none = whole_shown text done merged text_is stopped (quiet refl ∙ none_risen unread risen_by (eqb-true unread 0 none) ∙ h.replayed.quiet) (sym is ∙ eqb-true unread 0 none)
           by_count false some =
-              record { so = of_readers (some_missed unread is some) (transcript_is merged None (Ok done) (string_bytes text) w); rose = λ e. inr (some_missed unread is some); quiet = λ other. absurd (other refl) }
-      shown_by (Ok text) None (Err last) merged unread w counts ended quiet stopped is =
-          record { so = of_store (steps.in_lines last refl (transcript_is merged None (Err last) (string_bytes text) w)); rose = λ e. inl (rose_all ended.rose); quiet = λ other. absurd (other refl) }
-      shown_by (Ok text) (Some fault) (Ok done) merged unread w counts ended quiet stopped is =
-          record { so = of_store (steps.in_lines fault refl (transcript_is merged (Some fault) (Ok done) (string_bytes text) w)); rose = λ e. inl (rose_all counts.rose); quiet = λ other. absurd (other refl) }
-      shown_by (Ok text) (Some fault) (Err last) merged unread w counts ended quiet stopped is =
-          record { so = of_store (steps.in_lines last refl (transcript_is merged (Some fault) (Err last) (string_bytes text) w)); rose = λ e. inl (rose_all counts.rose); quiet = λ other. absurd (other refl) }
-      shown_by (Err e) fault (Err last) merged unread w counts ended quiet stopped is = record { so = of_store (steps.no_text last refl (fault_shown last ended) refl); rose = λ e. inl (rose_all ended.rose); quiet = λ other. absurd (other refl) }
-      shown_by (Err e) (Some fault) (Ok done) merged unread w counts ended quiet stopped is = record { so = of_store (steps.no_text fault refl (fault_shown fault counts) refl); rose = λ e. inl (rose_all counts.rose); quiet = λ other. absurd (other refl) }
-      shown_by (Err e) None (Ok done) merged unread w counts ended quiet stopped is = by_count (unread == 0) refl
+              record { so = of_readers (some_missed unread is some) (transcript_is merged None (Ok done) (string_bytes text) text_is); rose = λ e. rose_all (subst (λ n. Rose mid.faults n) (sym (quiet refl)) (risen_by.some (let m = some_missed unread is some in omega (arith, m, is)))); quiet = λ other. absurd (other refl) }
+      shown_by (Ok text) None (Err last) merged unread text_is counts ended quiet risen_by stopped is =
+          record { so = of_store (steps.in_lines last refl (transcript_is merged None (Err last) (string_bytes text) text_is)); rose = λ e. rose_all ended.rose; quiet = λ other. absurd (other refl) }
+      shown_by (Ok text) (Some fault) (Ok done) merged unread text_is counts ended quiet risen_by stopped is =
+          record { so = of_store (steps.in_lines fault refl (transcript_is merged (Some fault) (Ok done) (string_bytes text) text_is)); rose = λ e. rose_all counts.rose; quiet = λ other. absurd (other refl) }
+      shown_by (Ok text) (Some fault) (Err last) merged unread text_is counts ended quiet risen_by stopped is =
+          record { so = of_store (steps.in_lines last refl (transcript_is merged (Some fault) (Err last) (string_bytes text) text_is)); rose = λ e. rose_all counts.rose; quiet = λ other. absurd (other refl) }
+      shown_by (Err e) fault (Err last) merged unread text_is counts ended quiet risen_by stopped is = record { so = of_store (steps.no_text last refl (fault_shown last ended) refl); rose = λ e. rose_all ended.rose; quiet = λ other. absurd (other refl) }
+      shown_by (Err e) (Some fault) (Ok done) merged unread text_is counts ended quiet risen_by stopped is = record { so = of_store (steps.no_text fault refl (fault_shown fault counts) refl); rose = λ e. rose_all counts.rose; quiet = λ other. absurd (other refl) }
+      shown_by (Err e) None (Ok done) merged unread text_is counts ended quiet risen_by stopped is = by_count (unread == 0) refl
         where
           by_count : (b : Bool) → (unread == 0) ≡ b → Shown merged None (Ok done) (if b then (NoMemory, codes "no memory\n") else (Fault, fault_line (codes "reader") unread))
-          by_count true none = record { so = refl; rose = λ e. cc; quiet = λ other. (quiet refl ∙ h.replayed.quiet, refl, sym is ∙ eqb-true unread 0 none) }
+          by_count true none = record { so = refl; rose = λ e. cc; quiet = λ other. (quiet refl ∙ none_risen unread risen_by (eqb-true unread 0 none) ∙ h.replayed.quiet, refl, sym is ∙ eqb-true unread 0 none) }
           by_count false some =
-              record { so = of_readers_alone (some_missed unread is some) refl (ap (fault_line (codes "reader")) is); rose = λ e. inr (some_missed unread is some); quiet = λ other. absurd (other refl) }
+              record { so = of_readers_alone (some_missed unread is some) refl (ap (fault_line (codes "reader")) is); rose = λ e. rose_all (subst (λ n. Rose mid.faults n) (sym (quiet refl)) (risen_by.some (let m = some_missed unread is some in omega (arith, m, is)))); quiet = λ other. absurd (other refl) }
 
       -- where no fault was meant the session ended
       closed_well : {Z : Type 0} (end : Status) (unread : ℕ) (t : Result (String Z) NoRoom) (fault : Option StoreFault) (closed : Result (Unit {0}) StoreFault) {P : Type 0} → Sent before.written now.written before.sink_faults now.sink_faults (served_of end unread t fault closed).0 (served_of end unread t fault closed).1 status
@@ -437,7 +475,7 @@ module _ (leaf : List ℕ) (merge : Option (List ℕ)) (before now : World) (sta
 
       module _ (sent : Sent before.written now.written before.sink_faults now.sink_faults (served_said run).0 (served_said run).1 status) where
         shown : Shown run.merged run.run.fault run.run.closed (served_said run)
-        shown = shown_by run.run.transcript run.run.fault run.run.closed run.merged run.unread o.transcript o.counted o.ended o.quiet (stopped_so run.merged o.stopped) o.unread_is
+        shown = shown_by run.run.transcript run.run.fault run.run.closed run.merged run.unread o.transcript (some_from run.run.fault o.counted) (err_from run.run.closed o.ended) o.quiet w.readers (stopped_so run.merged o.stopped) o.unread_is
 
         said_all : HasSaid service
         said_all = record {
@@ -445,7 +483,7 @@ module _ (leaf : List ℕ) (merge : Option (List ℕ)) (before now : World) (sta
           text = (served_said run).1;
           said = shown.so;
           sent = sent;
-          rests = λ rested g is. ended_well run.run.closed (o.served g is).rests rested.sound.0;
+          rests = λ rested g is. ended_well run.run.closed (rests_from g run.run.closed (o.served g is).rests) rested.sound.0;
           no_log = λ rested some g is. ended_well run.run.closed (o.served g is).no_log rested.sound.0;
           left = λ rested some g is. ended_well run.run.closed (o.served g is).left rested.sound.0;
           unchanged = λ e begun. let never : true ≡ false = begun in cc;
@@ -453,23 +491,19 @@ module _ (leaf : List ℕ) (merge : Option (List ℕ)) (before now : World) (sta
           quiet = shown.quiet;
         }
 
-        serves_over : (over : ServesOver leaf merge before now status) × (over.service ≡ service)
-        serves_over =
-            over_by service (λ e. let never : true ≡ false = e in cc) said_all (λ g is. (o.served g is).told_so) (λ g is. (o.served g is).stands) (λ g is. ((o.served g is).full, (o.served g is).stopped, (λ some. (o.served g is).faults), (o.served g is).unread))
-
         run_runs : RunsServe leaf merge before now status
-        run_runs = serves.served serves_over.0
+        run_runs =
+            serves.served (over_by service (λ e. let never : true ≡ false = e in cc) said_all (λ g is. (o.served g is).told_so) (λ g is. stands_from g (o.served g is).stands) (λ g is. ((o.served g is).full, (o.served g is).stopped, (λ some. (o.served g is).faults), (o.served g is).unread)))
 
-        run_ends : Ends (HasMerge merge) (HasUnread leaf merge before now status) before now status
+        run_ends : Ends (HasMerge merge) before now status
         run_ends =
-            ends_with (HasMerge merge) (HasUnread leaf merge before now status) before now (served_said run).0 status (served_said run).1 sent
-            (λ fault. elim (shown.rose fault) [ inl rose ↦ inl (inl rose) | inr some ↦ inr (serves_over.0, subst (λ s. 0 < unread_by s) (sym serves_over.1) some) ]) (λ other. ((shown.quiet other).0, unread)) (home_all (λ g is. (o.served g is).stands.home))
+            ends_by (HasMerge merge) before now (served_said run).0 status (served_said run).1 sent (λ fault. inl (shown.rose fault)) (λ other. ((shown.quiet other).0, unread)) (home_all (λ g is. (o.served g is).stands.home))
             (λ none memory. idle_all (λ g is. (closed_well (end_of run.merged) run.unread run.run.transcript run.run.fault run.run.closed sent (o.served g is).rests none).idle g is))
 
   -- ---- whatever the answer
 
   both : (result : Result MergeRun StepsRefusal) → LeafIsServed leaf merge lines before.host now.host before.drawn now.drawn result → ReportsServed result before.written now.written before.sink_faults now.sink_faults status
-      → RunsServe leaf merge before now status × Ends (HasMerge merge) (HasUnread leaf merge before now status) before now status
+      → RunsServe leaf merge before now status × Ends (HasMerge merge) before now status
   both result (code_guests.no_room is same undrawn) reports =
       let sent : Sent before.written now.written before.sink_faults now.sink_faults NoMemory (codes "no memory\n") status = subst (λ x. ReportsServed x before.written now.written before.sink_faults now.sink_faults status) is reports in (
         serves.unopened (not_opened kinds.Serve leaf (HasMerge merge) before now status same undrawn NoMemory (codes "no memory\n") sent refl (λ bytes told. ((lines, is_script bytes told), taken bytes told))),
@@ -484,7 +518,7 @@ module _ (leaf : List ℕ) (merge : Option (List ℕ)) (before now : World) (sta
   pub leaf_serves : (result : Result MergeRun StepsRefusal) → LeafIsServed leaf merge lines before.host now.host before.drawn now.drawn result → ReportsServed result before.written now.written before.sink_faults now.sink_faults status → RunsServe leaf merge before now status
   leaf_serves result h reports = (both result h reports).0
 
-  pub leaf_serves_ends : (result : Result MergeRun StepsRefusal) → LeafIsServed leaf merge lines before.host now.host before.drawn now.drawn result → ReportsServed result before.written now.written before.sink_faults now.sink_faults status → Ends (HasMerge merge) (HasUnread leaf merge before now status) before now status
+  pub leaf_serves_ends : (result : Result MergeRun StepsRefusal) → LeafIsServed leaf merge lines before.host now.host before.drawn now.drawn result → ReportsServed result before.written now.written before.sink_faults now.sink_faults status → Ends (HasMerge merge) before now status
   leaf_serves_ends result h reports = (both result h reports).1
 
 -- a run over the leaf's name, by what its arguments are

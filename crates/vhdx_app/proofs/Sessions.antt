@@ -94,7 +94,7 @@ module _ (leaf : List ℕ) (merge : Option (List ℕ)) (ro : Bool) (before now :
   -- ---- a report
 
   reports_end : (meaning : Meaning Refusal) → CountsIn before.host now.host meaning → Reports meaning before.written now.written before.sink_faults now.sink_faults status → StaysHome before.host.folder now.host.folder
-      → (status ≢ Fault → (status ≡ NoMemory → ¬ HasMerge merge) → WhereTold before.host.folder (λ f. WhereTold now.host.folder AllIdle)) → Ends (HasMerge merge) ⊥ before now status
+      → (status ≢ Fault → (status ≡ NoMemory → ¬ HasMerge merge) → WhereTold before.host.folder (λ f. WhereTold now.host.folder AllIdle)) → Ends (HasMerge merge) before now status
   reports_end (refuses r) counts (inl sent) home idles = ends_by (HasMerge merge) before now Refused status _ sent (λ e. cc) (λ e. (counts, unread)) home idles
   reports_end (refuses r) counts (inr sent) home idles = ends_by (HasMerge merge) before now NoMemory status _ sent (λ e. cc) (λ e. (counts, unread)) home idles
   reports_end (host_failed fault) counts sent home idles = ends_by (HasMerge merge) before now Fault status _ sent (λ e. inl counts.0) (λ e. absurd (e refl)) home idles
@@ -127,7 +127,7 @@ module _ (leaf : List ℕ) (merge : Option (List ℕ)) (ro : Bool) (before now :
       undrawn = undrawn;
     })
 
-    unlinked_ends : Ends (HasMerge merge) ⊥ before now status
+    unlinked_ends : Ends (HasMerge merge) before now status
     unlinked_ends = reports_end (of_chain (meaning_of r)) (counted leaf before.host now.host (of_chain (meaning_of r)) left_by) reports (home_followed leaf before.host.folder now.host.folder idle unlinked_follows)
         (λ fault none. idle_left leaf before.host now.host (of_chain (meaning_of r)) before.written now.written before.sink_faults now.sink_faults status left_by reports fault)
 
@@ -288,7 +288,7 @@ module _ (leaf : List ℕ) (merge : Option (List ℕ)) (ro : Bool) (before now :
         not_rests : status ≢ Fault → (status ≡ NoMemory → merge ≡ None) → WhereTold mid.folder (λ g. Rests linked [] g mid now.host)
         not_rests fault memory = not_rests_by (meaning_of_steps r) reports n.rests fault memory
 
-        not_run_ends : Ends (HasMerge merge) ⊥ before now status
+        not_run_ends : Ends (HasMerge merge) before now status
         not_run_ends =
             reports_end (meaning_of_steps r) (counts_all (meaning_of_steps r) n.counts) reports (home_all (λ g is. (n.stands g is).home)) (λ fault none. idle_all (λ g is. (not_rests fault (λ e. none_of merge (none e)) g is).idle g is))
 
@@ -484,13 +484,13 @@ module _ (leaf : List ℕ) (merge : Option (List ℕ)) (ro : Bool) (before now :
         run_runs : RunsSteps leaf merge ro before now status
         run_runs = over_all before.host.folder refl
 
-        run_ends : Ends (HasMerge merge) ⊥ before now status
+        run_ends : Ends (HasMerge merge) before now status
         run_ends =
             ends_all run.transcript run.fault run.closed o.counted o.ended o.quiet sent (home_all (λ g is. (o.ran g is).stands.home)) (λ none memory. idle_all (λ g is. (rests_all g is none).idle g is))
           where
             ends_all : {Z : Type 0} (t : Result (String Z) NoRoom) (fault : Option StoreFault) (closed : Result (Unit {0}) StoreFault) → IfSome fault (IsCounted mid now.host) → IfErr closed (IsCounted mid now.host) → (fault ≡ None → OnOk closed (now.host.faults ≡ mid.faults))
                 → Sent before.written now.written before.sink_faults now.sink_faults (said_of Done t fault closed).0 (said_of Done t fault closed).1 status → StaysHome before.host.folder now.host.folder
-                → (status ≢ Fault → (status ≡ NoMemory → ¬ HasMerge merge) → WhereTold before.host.folder (λ f. WhereTold now.host.folder AllIdle)) → Ends (HasMerge merge) ⊥ before now status
+                → (status ≢ Fault → (status ≡ NoMemory → ¬ HasMerge merge) → WhereTold before.host.folder (λ f. WhereTold now.host.folder AllIdle)) → Ends (HasMerge merge) before now status
             ends_all (Ok text) None (Ok done) counts ended quiet sent home idles = ends_by (HasMerge merge) before now Done status _ sent (λ e. cc) (λ e. (quiet refl ∙ h.replayed.quiet, unread)) home idles
             ends_all (Ok text) None (Err last) counts ended quiet sent home idles = ends_by (HasMerge merge) before now Fault status _ sent (λ e. inl (rose_all ended.rose)) (λ e. absurd (e refl)) home idles
             ends_all (Ok text) (Some fault) closed counts ended quiet sent home idles = ends_by (HasMerge merge) before now Fault status _ sent (λ e. inl (rose_all counts.rose)) (λ e. absurd (e refl)) home idles
@@ -501,7 +501,7 @@ module _ (leaf : List ℕ) (merge : Option (List ℕ)) (ro : Bool) (before now :
   -- ---- whatever the answer
 
   both : (result : Result ScriptRun StepsRefusal) → LeafIsRun leaf (mode_of ro) merge lines before.host now.host before.drawn now.drawn result → ReportsRun result before.written now.written before.sink_faults now.sink_faults status
-      → RunsSteps leaf merge ro before now status × Ends (HasMerge merge) ⊥ before now status
+      → RunsSteps leaf merge ro before now status × Ends (HasMerge merge) before now status
   both result (code.no_room is same undrawn) reports =
       let sent : Sent before.written now.written before.sink_faults now.sink_faults NoMemory (codes "no memory\n") status = subst (λ x. ReportsRun x before.written now.written before.sink_faults now.sink_faults status) is reports in (
         steps.unopened (not_opened kinds.Steps leaf (HasMerge merge) before now status same undrawn NoMemory (codes "no memory\n") sent refl (λ bytes told. ((lines, is_script bytes told), taken bytes told))),
@@ -518,5 +518,5 @@ module _ (leaf : List ℕ) (merge : Option (List ℕ)) (ro : Bool) (before now :
   leaf_runs result h reports = (both result h reports).0
 
   pub leaf_ends : (result : Result ScriptRun StepsRefusal) → LeafIsRun leaf (mode_of ro) merge lines before.host now.host before.drawn now.drawn result → ReportsRun result before.written now.written before.sink_faults now.sink_faults status
-      → Ends (HasMerge merge) ⊥ before now status
+      → Ends (HasMerge merge) before now status
   leaf_ends result h reports = (both result h reports).1

@@ -32,28 +32,22 @@ use Rattle.vhdx_app.proofs.Left.{follows_none}
 
 -- ---- how a run ends, by the text that was meant
 
-pub ends_with : (merges unread : Type 0) (before now : World) (meant status : Status) (text : List ℕ) → Sent before.written now.written before.sink_faults now.sink_faults meant text status
-    → (meant ≡ Fault → (Rose before.host.faults now.host.faults ⊎ Rose before.source_faults now.source_faults) ⊎ unread)
+pub ends_by : (merges : Type 0) (before now : World) (meant status : Status) (text : List ℕ) → Sent before.written now.written before.sink_faults now.sink_faults meant text status
+    → (meant ≡ Fault → Rose before.host.faults now.host.faults ⊎ Rose before.source_faults now.source_faults)
     → (meant ≢ Fault → (now.host.faults ≡ before.host.faults) × (now.source_faults ≡ before.source_faults))
-    → StaysHome before.host.folder now.host.folder → (status ≢ Fault → (status ≡ NoMemory → ¬ merges) → WhereTold before.host.folder (λ f. WhereTold now.host.folder AllIdle)) → Ends merges unread before now status
-ends_with merges unread before now meant status text (whole is sent same) rose quiet home idle = record {
-  rose = λ fault. elim (rose (sym is ∙ fault)) [ inl r ↦ inl (elim r [ inl h ↦ inl h | inr s ↦ inr (inl s) ]) | inr u ↦ inr u ];
+    → StaysHome before.host.folder now.host.folder → (status ≢ Fault → (status ≡ NoMemory → ¬ merges) → WhereTold before.host.folder (λ f. WhereTold now.host.folder AllIdle)) → Ends merges before now status
+ends_by merges before now meant status text (whole is sent same) rose quiet home idle = record {
+  rose = λ fault. elim (rose (sym is ∙ fault)) [ inl h ↦ inl h | inr s ↦ inr (inl s) ];
   quiet = λ fault. let q = quiet (λ e. fault (is ∙ e)) in (q.0, q.1, same);
   home = home;
   idle = idle;
 }
-ends_with merges unread before now meant status text (cut is n sent rise) rose quiet home idle = record {
-  rose = λ fault. inl (inr (inr rise));
+ends_by merges before now meant status text (cut is n sent rise) rose quiet home idle = record {
+  rose = λ fault. inr (inr rise);
   quiet = λ fault. absurd (fault is);
   home = home;
   idle = idle;
 }
-
-pub ends_by : (merges : Type 0) (before now : World) (meant status : Status) (text : List ℕ) → Sent before.written now.written before.sink_faults now.sink_faults meant text status
-    → (meant ≡ Fault → Rose before.host.faults now.host.faults ⊎ Rose before.source_faults now.source_faults)
-    → (meant ≢ Fault → (now.host.faults ≡ before.host.faults) × (now.source_faults ≡ before.source_faults))
-    → StaysHome before.host.folder now.host.folder → (status ≢ Fault → (status ≡ NoMemory → ¬ merges) → WhereTold before.host.folder (λ f. WhereTold now.host.folder AllIdle)) → {unread : Type 0} → Ends merges unread before now status
-ends_by merges before now meant status text sent rose quiet home idle {unread = unread} = ends_with merges unread before now meant status text sent (λ fault. inl (rose fault)) quiet home idle
 
 -- ---- what was taken of the source
 
@@ -95,7 +89,7 @@ module _ (kind : ScriptKind) (leaf : List ℕ) (merges : Type 0) (before now : W
   unread_runs meant text sent said taken = record { printed = record { meant = meant; text = text; said = said; sent = sent }; taken = taken; untouched = same; undrawn = undrawn }
 
   pub unread_ends : WhereTold before.host.folder AllIdle → (meant : Status) (text : List ℕ) → Sent before.written now.written before.sink_faults now.sink_faults meant text status → (meant ≡ Fault → Rose before.source_faults now.source_faults)
-      → (meant ≢ Fault → now.source_faults ≡ before.source_faults) → {unread : Type 0} → Ends merges unread before now status
+      → (meant ≢ Fault → now.source_faults ≡ before.source_faults) → Ends merges before now status
   unread_ends idle meant text sent rose quiet = ends_by merges before now meant status text sent (λ fault. inr (rose fault)) (λ fault. (faults, quiet fault)) (home idle) (λ fault none. idles idle fault)
 
   -- by what refuses the script
@@ -109,7 +103,7 @@ module _ (kind : ScriptKind) (leaf : List ℕ) (merges : Type 0) (before now : W
   refused_runs source.NoRoom reads left counts sent = unread_runs NoMemory (codes "no memory\n") sent refl (where_some _ before.left left)
 
   pub refused_ends : WhereTold before.host.folder AllIdle → (r : SourceRefusal) → (let result : Result (List Line) SourceRefusal = Err r in CountsFault before.source_faults now.source_faults result)
-      → Sent before.written now.written before.sink_faults now.sink_faults (source_said r).0 (source_said r).1 status → {unread : Type 0} → Ends merges unread before now status
+      → Sent before.written now.written before.sink_faults now.sink_faults (source_said r).0 (source_said r).1 status → Ends merges before now status
   refused_ends idle (source.Line number) counts sent = unread_ends idle Usage (steps.broken_line number) sent (λ e. cc) (λ e. counts)
   refused_ends idle (source.Source fault) counts sent = unread_ends idle Fault (fault_line (codes "source") fault.count) sent (λ e. counts.0) (λ e. absurd (e refl))
   refused_ends idle source.NoRoom counts sent = unread_ends idle NoMemory (codes "no memory\n") sent (λ e. cc) (λ e. counts)

@@ -2,7 +2,7 @@
 use Rattle.std.specs.Prelude.{◌≡◌, ◌≢◌, ◌<◌, ◌==◌, if◌then◌else◌, codes, ℕ, Bool, true, false, is_some, List, length, String, string_bytes, Option, None, Some, Result, Ok, Err, IfErr, IfOk, IfSome, OnOk, option_map}
 use Rattle.std.specs.List.{AllByRecursion}
 use Rattle.store_model.specs.Disk.{Disk, WhereTold}
-use Rattle.store_model.specs.Folder.{Held, Hosted}
+use Rattle.store_model.specs.Folder.{Held, Hosted, RoseWhere}
 use Rattle.store_model.specs.declared.fault.StoreFault.{StoreFault}
 use Rattle.guest_model.specs.History.{History}
 use Rattle.guest_model.specs.declared.refusal.ChainRefusal.{ChainRefusal}
@@ -91,12 +91,18 @@ pub record ServedOver (merge : Option (List ℕ)) (linked : Linked) (lines : Lis
   pub stopped : IfErr run.merged (λ refusal. (merge ≢ None) × StopsMerge run.run refusal)
   pub served : WhereTold old.folder (λ folder. ServedIn merge linked lines guests history broken run.merged run.run.closed folder old new)
 
+-- So they were, once their readers had come back, by which the host's count rose exactly where a read had failed by one.
+pub record ServedWith (merge : Option (List ℕ)) (linked : Linked) (lines : List Line) (run : MergeRun) (old new : Hosted) (before now : Option (List (List ℕ))) : Type 0 where
+  pub faults : ℕ
+  pub readers : RoseWhere (0 < run.unread) old.faults faults
+  pub over : ServedOver merge linked lines run (record old { faults = faults }) new before now
+
 -- They were served over the chain to which a leaf's name leads, or they weren't.
 pub data LeafIsServed (leaf : List ℕ) (merge : Option (List ℕ)) (lines : List Line) (old new : Hosted) (before now : Option (List (List ℕ))) (result : Result MergeRun StepsRefusal) : Type 0 where
   no_room : result ≡ Err (steps.Chain chain.NoRoom) → new ≡ old → now ≡ before → LeafIsServed leaf merge lines old new before now result
   unlinked : (refusal : LinkRefusal) → result ≡ Err (steps.Chain (chain.Unlinked refusal)) → IsNotFollowed leaf refusal old new → now ≡ before
       → LeafIsServed leaf merge lines old new before now result
-  over : (mid : Hosted) (linked : Linked) → IsFollowedTo leaf linked old mid → IfOk result (λ run. ServedOver merge linked lines run mid new before now)
+  over : (mid : Hosted) (linked : Linked) → IsFollowedTo leaf linked old mid → IfOk result (λ run. ServedWith merge linked lines run mid new before now)
       → IfErr result (NotRunOver Guests merge linked mid new before now) → LeafIsServed leaf merge lines old new before now result
 
 -- ---- what is printed

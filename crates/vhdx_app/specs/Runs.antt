@@ -13,7 +13,7 @@ use Rattle.printing.specs.Sent.{Sent}
 use Rattle.vhdx_app.specs.Printed.{IsDumpText, IsInfoText, IsMakeText, IsOwnText, Prints}
 use Rattle.vhdx_app.specs.Checks.{RunsCheck}
 use Rattle.vhdx_app.specs.Repairs.{RunsRepair}
-use Rattle.vhdx_app.specs.Serves.{HasUnread, RunsServe}
+use Rattle.vhdx_app.specs.Serves.{RunsServe}
 use Rattle.vhdx_app.specs.Steps.{RunsSteps}
 use Rattle.vhdx_app.specs.Worlds.{World}
 use Rattle.vhdx_app.specs.declared.program.ServeWish.{ServeWish}
@@ -85,15 +85,11 @@ IsMerging other = ⊥
 abbrev pub AskMerge : List (List ℕ) → Type 0
 AskMerge words = (wish : Wish) × Asks words wish × IsMerging wish
 
--- guests were to be served, and were, of whose reads some failed by a reader
-abbrev pub AskUnread : List (List ℕ) → World → World → Status → Type 0
-AskUnread words before now status = (leaf : List ℕ) × (workers : ℕ) × (merge : Option (List ℕ)) × Asks words (serve leaf workers merge) × HasUnread leaf merge before now status
-
--- However it ends: a fault is answered only where a count rose, the host's, the source's or the sink's, or a guest's read failed by a reader, and
--- none is passed over. No file is away, and nothing of any is unsynced but after a fault, and where memory ran out and a merge was to start.
-pub record Ends (merges unread : Type 0) (before now : World) (status : Status) : Type 0 where
+-- However it ends: a fault is answered only where a count rose, the host's, the source's or the sink's, and none is passed over. No file is
+-- away, and nothing of any is unsynced but after a fault, and where memory ran out and a merge was to start.
+pub record Ends (merges : Type 0) (before now : World) (status : Status) : Type 0 where
   pub rose : status ≡ Fault
-      → (Rose before.host.faults now.host.faults ⊎ (Rose before.source_faults now.source_faults ⊎ Rose before.sink_faults now.sink_faults)) ⊎ unread
+      → Rose before.host.faults now.host.faults ⊎ (Rose before.source_faults now.source_faults ⊎ Rose before.sink_faults now.sink_faults)
   pub quiet : status ≢ Fault
       → (now.host.faults ≡ before.host.faults) × (now.source_faults ≡ before.source_faults) × (now.sink_faults ≡ before.sink_faults)
   pub home : WhereTold before.host.folder (λ folder. WhereTold now.host.folder AllHome)
@@ -111,7 +107,7 @@ pub record IsRun (words : List (List ℕ)) (before now : World) (status : Status
   pub nothing : AsksNothing words → RunsNothing before now status
   -- However it ends: a fault is answered where one was met, and only there; no file is away, and nothing of any is unsynced, but after a
   -- fault, and where memory ran out and a merge was to start.
-  pub ends : Ends (AskMerge words) (AskUnread words before now status) before now status
+  pub ends : Ends (AskMerge words) before now status
 
 -- ---- without threads
 

@@ -131,8 +131,8 @@ pub record KeepsServed (leaf : List ℕ) (linked : Linked) (disk : Disk) (merge 
   pub no_log : HasServedOut merge service meant → service.has_begun ≡ true → WhereTold now.folder (NoneNamesLog (changed_names false merge linked.files))
   pub merged : HasServedOut merge service meant → service.has_begun ≡ true → IfSome merge (IsMergeLeft service.stopped leaf linked now)
 
--- The chain is opened, as by a dump, and its guests are served, or no session begins. A fault is met where the host's count rose, or a guest's
--- read failed by a reader, and only there.
+-- The chain is opened, as by a dump, and its guests are served, or no session begins. A fault is met where the host's count rose, by its own
+-- calls or by what came back to it, a store or a reader that had failed, and only there.
 pub record ServesOver (leaf : List ℕ) (merge : Option (List ℕ)) (before now : World) (status : Status) : Type 0 where
   pub begun : Opened script.Serve leaf before
   pub taken : WhereTold before.left (λ bytes. IsTaken bytes now.left)
@@ -147,7 +147,7 @@ pub record ServesOver (leaf : List ℕ) (merge : Option (List ℕ)) (before now 
   pub sent : Sent before.written now.written before.sink_faults now.sink_faults meant text status
   pub kept : WhereTold before.host.folder (λ folder. KeepsServed leaf begun.linked begun.disk merge begun.lines service meant opened now.host)
   pub unchanged : meant ≡ Refused → service.has_begun ≡ false → WhereTold opened.folder (λ folder. WhereTold now.host.folder (λ after. (name : List ℕ) → contents after name ≡ contents folder name))
-  pub rose : meant ≡ Fault → Rose before.host.faults now.host.faults ⊎ (0 < unread_by service)
+  pub rose : meant ≡ Fault → Rose before.host.faults now.host.faults
   pub quiet : meant ≢ Fault → (now.host.faults ≡ before.host.faults) × (met service ≡ None) × (unread_by service ≡ 0)
 
 -- The script isn't read to its end, or breaks the grammar; or it is read, and the leaf's name leads to no chain, or following it fails; or
@@ -156,7 +156,3 @@ pub data RunsServe (leaf : List ℕ) (merge : Option (List ℕ)) (before now : W
   unread : RunsUnread script.Serve before now status → RunsServe leaf merge before now status
   unopened : RunsUnopened script.Serve leaf before now status → RunsServe leaf merge before now status
   served : ServesOver leaf merge before now status → RunsServe leaf merge before now status
-
--- guests were served so, of whose reads some failed by a reader
-abbrev pub HasUnread : List ℕ → Option (List ℕ) → World → World → Status → Type 0
-HasUnread leaf merge before now status = (s : ServesOver leaf merge before now status) × (0 < unread_by s.service)

@@ -1,21 +1,23 @@
 //! The command that runs a script of several guests over the disk of a leaf, with a merge beside them or without.
 
-ghost use Rattle.std.specs.Prelude.{◌≡◌, ◌≤◌, ◌^◌, All, IfErr, IfOk, IfSome, false, true, length, option_map};
+ghost use Rattle.std.specs.Prelude.{◌≡◌, ◌≤◌, ◌^◌, All, IfErr, IfOk, IfSome, OnErr, false, true, length, nat_lt, option_map};
 ghost use Rattle.chain_core.specs.declared.starting.Mode.TheVariants as modes;
 ghost use Rattle.link_rules.specs.Chains.{names_of as file_names};
 ghost use Rattle.link_rules.specs.Folders.{AllIdle};
+ghost use Rattle.serve_session.specs.Back.{any_failed};
 ghost use Rattle.serve_session.specs.MergeServed.{HasRunServeLeafMerge, HasRunServeMerge};
 ghost use Rattle.serve_session.specs.Served.{guest_count};
 ghost use Rattle.store_model.specs.Disk.{WhereTold};
-ghost use Rattle.vhdx_app.specs.Guests.{HasServedAlone, HasServedBy, HasServedMergeOf, LeafIsServed, ServedOver, source_of};
+ghost use Rattle.vhdx_app.specs.Guests.{HasServedAlone, HasServedBy, HasServedMergeOf, LeafIsServed, ServedWith, source_of};
 ghost use Rattle.vhdx_app.specs.Runs.{Ends, HasMerge};
-ghost use Rattle.vhdx_app.specs.Serves.{HasUnread, RunsServe};
+ghost use Rattle.vhdx_app.specs.Serves.{RunsServe};
 ghost use Rattle.vhdx_app.specs.Sessions.{HasNotMerged, HasNotRun, HasNotRunWith, IsLentChain, IsLinkedChain, NotRunOver};
 ghost use Rattle.vhdx_app.specs.Starts.{is_leaf};
 ghost use Rattle.vhdx_app.specs.Worlds.{world};
 ghost use Rattle.vx_base.specs.Names.{IsName};
 
 use crate::chain::{attach, check_lengths, names_of};
+use crate::giving::give_back_sets;
 use crate::merging::merge_refused;
 use crate::refusal::StepsRefusal;
 use crate::refusing::refuse_script;
@@ -24,6 +26,7 @@ use crate::transcript::show_served;
 use link_rules::{Linked, LinkedFile, order};
 use merge_core::Piece;
 use printing::{Status, out_of_memory};
+use read_plan::ReaderSet;
 use script::{Line, ScriptKind, script_from};
 use serve_session::{
     MergeRun, pieces_for, rooms_for, run_serve, run_serve_leaf_merge, run_serve_merge,
@@ -77,7 +80,7 @@ fn serve_alone<S: Store + Send, R: Threads + Wait + Sync, I: Ids, G: Gate + Sync
     lines: &[Line],
     rooms: Vec<Vec<u8>>,
     gate: &G,
-) -> (S, Result<MergeRun, StepsRefusal>)
+) -> (S, Result<MergeRun, StepsRefusal>, Vec<ReaderSet<S::R>>)
 where
     S::R: Send + Drop,
     requires chain { IsLentChain files.now (S.disk store) }
@@ -85,12 +88,14 @@ where
     requires count { length rooms.items ≡ guest_count lines.now }
     requires each { All (λ room. length room.items ≡ 1048576) rooms.items }
     ensures ran { IfOk result.1 (λ run. HasServedAlone files.now names.now lines.now run (S.disk store) (S.disk result.0) (I.drawn ids.old) (I.drawn ids.new)) }
+    ensures back { IfOk result.1 (λ run. any_failed result.2.items ≡ nat_lt 0 run.unread) }
+    ensures none { OnErr result.1 (any_failed result.2.items ≡ false) }
     ensures err { IfErr result.1 (HasNotRun modes.Guests files.now (S.disk store) (S.disk result.0) (I.drawn ids.old) (I.drawn ids.new)) }
 {
     if let Err(refusal) = check_lengths(&mut store, files.len() as u32) {
-        return (store, Err(StepsRefusal::Chain(refusal)));
+        return (store, Err(StepsRefusal::Chain(refusal)), Vec::new(alloc));
     }
-    let (store, run) = run_serve(rt, alloc, store, files, names, ids, lines, rooms, gate);
+    let (store, run, back) = run_serve(rt, alloc, store, files, names, ids, lines, rooms, gate);
     match run {
         Ok(run) => (
             store,
@@ -99,8 +104,9 @@ where
                 unread: run.unread,
                 merged: Ok(()),
             }),
+            back,
         ),
-        Err(refusal) => (store, Err(StepsRefusal::from(refusal))),
+        Err(refusal) => (store, Err(StepsRefusal::from(refusal)), back),
     }
 }
 
@@ -118,7 +124,7 @@ fn serve_leaf_merge<S: Store + Send, R: Threads + Wait + Sync, I: Ids, G: Gate +
     pieces: Vec<Piece>,
     last: &mut Piece,
     gate: &G,
-) -> (S, Result<MergeRun, StepsRefusal>)
+) -> (S, Result<MergeRun, StepsRefusal>, Vec<ReaderSet<S::R>>)
 where
     S::R: Send + Drop,
     requires leaf { is_leaf files.now source.now ≡ true }
@@ -129,17 +135,22 @@ where
     requires each { All (λ room. length room.items ≡ 1048576) rooms.items }
     requires workers { length pieces.items ≤ 64 }
     ensures ran { IfOk result.1 (λ run. HasRunServeLeafMerge files.now names.now lines.now run (S.disk store) (S.disk result.0) (I.drawn ids.old) (I.drawn ids.new)) }
+    ensures back { IfOk result.1 (λ run. any_failed result.2.items ≡ nat_lt 0 run.unread) }
+    ensures none { OnErr result.1 (any_failed result.2.items ≡ false) }
     ensures err { IfErr result.1 (HasNotMerged files.now source.now (S.disk store) (S.disk result.0) (I.drawn ids.old) (I.drawn ids.new)) }
 {
     if let Err(refusal) = check_lengths(&mut store, files.len() as u32) {
-        return (store, Err(StepsRefusal::Chain(refusal)));
+        return (store, Err(StepsRefusal::Chain(refusal)), Vec::new(alloc));
     }
-    let (store, run) = run_serve_leaf_merge(
+    let (store, run, back) = run_serve_leaf_merge(
         rt, alloc, store, files, names, ids, lines, rooms, pieces, last, gate,
     );
     match run {
-        Ok(run) => (store, Ok(run)),
-        Err(refusal) => (store, Err(merge_refused(alloc, names, source, refusal))),
+        Ok(run) => (store, Ok(run), back),
+        Err(refusal) => {
+            let refusal = merge_refused(alloc, names, source, refusal);
+            (store, Err(refusal), back)
+        }
     }
 }
 
@@ -157,7 +168,7 @@ fn serve_other_merge<S: Store + Send, R: Threads + Wait + Sync, I: Ids, G: Gate 
     pieces: Vec<Piece>,
     last: &mut Piece,
     gate: &G,
-) -> (S, Result<MergeRun, StepsRefusal>)
+) -> (S, Result<MergeRun, StepsRefusal>, Vec<ReaderSet<S::R>>)
 where
     S::R: Send + Drop,
     requires below { is_leaf files.now source.now ≡ false }
@@ -168,17 +179,22 @@ where
     requires each { All (λ room. length room.items ≡ 1048576) rooms.items }
     requires workers { length pieces.items ≤ 64 }
     ensures ran { IfOk result.1 (λ run. HasRunServeMerge files.now source.now names.now lines.now run (S.disk store) (S.disk result.0) (I.drawn ids.old) (I.drawn ids.new)) }
+    ensures back { IfOk result.1 (λ run. any_failed result.2.items ≡ nat_lt 0 run.unread) }
+    ensures none { OnErr result.1 (any_failed result.2.items ≡ false) }
     ensures err { IfErr result.1 (HasNotMerged files.now source.now (S.disk store) (S.disk result.0) (I.drawn ids.old) (I.drawn ids.new)) }
 {
     if let Err(refusal) = check_lengths(&mut store, files.len() as u32) {
-        return (store, Err(StepsRefusal::Chain(refusal)));
+        return (store, Err(StepsRefusal::Chain(refusal)), Vec::new(alloc));
     }
-    let (store, run) = run_serve_merge(
+    let (store, run, back) = run_serve_merge(
         rt, alloc, store, files, names, source, ids, lines, rooms, pieces, last, gate,
     );
     match run {
-        Ok(run) => (store, Ok(run)),
-        Err(refusal) => (store, Err(merge_refused(alloc, names, source, refusal))),
+        Ok(run) => (store, Ok(run), back),
+        Err(refusal) => {
+            let refusal = merge_refused(alloc, names, source, refusal);
+            (store, Err(refusal), back)
+        }
     }
 }
 
@@ -194,7 +210,7 @@ fn serve_merging<S: Store + Send, R: Threads + Wait + Sync, I: Ids, G: Gate + Sy
     lines: &[Line],
     rooms: Vec<Vec<u8>>,
     gate: &G,
-) -> (S, Result<MergeRun, StepsRefusal>)
+) -> (S, Result<MergeRun, StepsRefusal>, Vec<ReaderSet<S::R>>)
 where
     S::R: Send + Drop,
     requires chain { IsLentChain files.now (S.disk store) }
@@ -205,6 +221,8 @@ where
     requires workers { length merging.pieces.items ≤ 64 }
     ensures ran { IfOk result.1 (λ run. HasServedMergeOf (is_leaf files.now merging.entry.source.now) files.now merging.entry.source.now names.now lines.now run (S.disk store) (S.disk result.0)
         (I.drawn ids.old) (I.drawn ids.new)) }
+    ensures back { IfOk result.1 (λ run. any_failed result.2.items ≡ nat_lt 0 run.unread) }
+    ensures none { OnErr result.1 (any_failed result.2.items ≡ false) }
     ensures err { IfErr result.1 (HasNotMerged files.now merging.entry.source.now (S.disk store) (S.disk result.0) (I.drawn ids.old) (I.drawn ids.new)) }
 {
     let Merging {
@@ -236,7 +254,7 @@ fn serve_lent<S: Store + Send, R: Threads + Wait + Sync, I: Ids, G: Gate + Sync>
     lines: &[Line],
     rooms: Vec<Vec<u8>>,
     gate: &G,
-) -> (S, Result<MergeRun, StepsRefusal>)
+) -> (S, Result<MergeRun, StepsRefusal>, Vec<ReaderSet<S::R>>)
 where
     S::R: Send + Drop,
     requires chain { IsLentChain files.now (S.disk store) }
@@ -246,6 +264,8 @@ where
     requires each { All (λ room. length room.items ≡ 1048576) rooms.items }
     requires workers { IfSome merging (λ m. length m.pieces.items ≤ 64) }
     ensures ran { IfOk result.1 (λ run. HasServedBy (source_of merging.entry) files.now names.now lines.now run (S.disk store) (S.disk result.0) (I.drawn ids.old) (I.drawn ids.new)) }
+    ensures back { IfOk result.1 (λ run. any_failed result.2.items ≡ nat_lt 0 run.unread) }
+    ensures none { OnErr result.1 (any_failed result.2.items ≡ false) }
     ensures err { IfErr result.1 (HasNotRunWith modes.Guests (source_of merging.entry) files.now (S.disk store) (S.disk result.0) (I.drawn ids.old) (I.drawn ids.new)) }
 {
     match merging {
@@ -276,13 +296,13 @@ where
     requires count { length rooms.items ≡ guest_count lines.now }
     requires each { All (λ room. length room.items ≡ 1048576) rooms.items }
     requires workers { IfSome merging (λ m. length m.pieces.items ≤ 64) }
-    ensures ran { IfOk result (λ run. ServedOver (source_of merging.entry) linked.now lines.now run (H.hosted host.old) (H.hosted host.new) (I.drawn ids.old) (I.drawn ids.new)) }
+    ensures ran { IfOk result (λ run. ServedWith (source_of merging.entry) linked.now lines.now run (H.hosted host.old) (H.hosted host.new) (I.drawn ids.old) (I.drawn ids.new)) }
     ensures err { IfErr result (NotRunOver modes.Guests (source_of merging.entry) linked.now (H.hosted host.old) (H.hosted host.new) (I.drawn ids.old) (I.drawn ids.new)) }
 {
     let files = linked.files.as_slice();
     let names = names_of(alloc, files)?;
     let store = attach(alloc, host, files)?;
-    let (store, run) = serve_lent(
+    let (store, run, back) = serve_lent(
         rt,
         alloc,
         store,
@@ -294,6 +314,7 @@ where
         rooms,
         gate,
     );
+    give_back_sets(host, back);
     host.give_back(store);
     run
 }
@@ -351,7 +372,7 @@ where
         RunsServe leaf.now (option_map (λ s. s.now) merge.entry) before now result }
     ensures ends { let before = world (H.hosted host.old) (I.drawn ids.old) (S.left input.old) (S.faults input.old) (K.written out.old) (K.faults out.old) in
         let now = world (H.hosted host.new) (I.drawn ids.new) (S.left input.new) (S.faults input.new) (K.written out.new) (K.faults out.new) in
-        Ends (HasMerge (option_map (λ s. s.now) merge.entry)) (HasUnread leaf.now (option_map (λ s. s.now) merge.entry) before now result) before now result }
+        Ends (HasMerge (option_map (λ s. s.now) merge.entry)) before now result }
 {
     let (leaf, source) = match names_in(alloc, leaf, merge) {
         Ok(names) => names,

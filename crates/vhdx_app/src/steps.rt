@@ -319,7 +319,7 @@ pub fn steps<H: Host, I: Ids, S: Source, K: Sink>(
         RunsSteps leaf.now (option_map (λ s. s.now) merge.entry) read_only before now result }
     ensures ends { let before = world (H.hosted host.old) (I.drawn ids.old) (S.left input.old) (S.faults input.old) (K.written out.old) (K.faults out.old) in
         let now = world (H.hosted host.new) (I.drawn ids.new) (S.left input.new) (S.faults input.new) (K.written out.new) (K.faults out.new) in
-        Ends (HasMerge (option_map (λ s. s.now) merge.entry)) ⊥ before now result }
+        Ends (HasMerge (option_map (λ s. s.now) merge.entry)) before now result }
 {
     let (leaf, source) = match names_in(alloc, leaf, merge) {
         Ok(names) => names,

@@ -7,7 +7,7 @@ pub returns-in-Ok-clause-ran : goal.returns-in-Ok-clause-ran
 returns-in-Ok-clause-ran g c =
     let disk = g.S.Store.disk in
     let first = c.in-Ok.chain in
-    merge_ran disk first (map g.N.AsStr.text c.args.names.now) c.args.lines.now c.serve_fresh-store.result.1 (disk c.serve_fresh-store.result.0) c.serve_fresh-store.ensures c.in-Ok.ensures.sound.sector
+    merge_ran disk first (map g.N.AsStr.text c.args.names.now) c.args.lines.now c.serve_fresh-store.result.1 (disk c.serve_fresh-store.result.0) c.serve_fresh-store.ensures.served c.in-Ok.ensures.sound.sector
     c.args.files.now c.args.source.now (disk c.args.store) (g.I.Ids.drawn c.args.ids.now) (g.I.Ids.drawn c.start_merge.new.ids) c.requires.files c.in-Ok.ensures.started
 
 pub serve_fresh-store-requires-clause-under_way : goal.serve_fresh-store-requires-clause-under_way

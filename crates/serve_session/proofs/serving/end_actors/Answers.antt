@@ -1,10 +1,12 @@
 use Rattle.std.proofs.Common.{◌≡◌, ◌+◌, ◌++◌, ◌∷◌, [], false, ap, length, length-append, map, sym, subst, ◌∙◌, arith}
-use Rattle.std.specs.Prelude.{◌||◌}
+use Rattle.std.specs.Prelude.{◌||◌, nat_lt}
 use Rattle.turn_lock.specs.Histories.{StartsWith}
 use Rattle.turn_lock.specs.Seats.{together_of}
 use Rattle.shared_chain.specs.Bases.{Contains, together}
 use Rattle.serve_session.specs.Actors.{AreJoined, HasRun}
+use Rattle.serve_session.specs.Back.{any_failed, has_failed}
 use Rattle.serve_session.specs.Lists.{AreActors}
+use Rattle.serve_session.proofs.Back.{any_more}
 use Rattle.serve_session.proofs.Guests.{all_unread_count, forms_few}
 use Rattle.serve_session.proofs.Joining.{few_unread, join_more, last_actor, one_joined}
 use Rattle.serve_session.proofs.serving.end_actors.Goals as goal
@@ -48,7 +50,8 @@ loop-actor-preserved g c =
     let more : length (i.guests ++ outcomes ∷ []) ≡ length i.guests + 1 = length-append i.guests (outcomes ∷ []) in
     let met = subst (λ s. (c.join.new.first ≡ together_of together c.loop-actor.first s) × (StartsWith c.join.new.first.seen c.loop-actor.first.seen × StartsWith c.join.new.first.seen s.seen) × (Contains c.join.new.first.basis c.loop-actor.first.basis × Contains c.join.new.first.basis s.basis))
     c.end-seat.ensures.0 (c.join.ensures.both, c.join.ensures.seen, c.join.ensures.basis) in
-    let told = c.push_reserved.ensures.items ∙ ap (λ t. c.loop-actor.told.items ++ t ∷ []) (c.from_vec.ensures ∙ ap (λ v. v.items) c.end-seat.ensures.1) in
+    let pushed : length c.push_reserved.new.self.items ≡ length c.loop-actor.back.items + 1 = ap length c.push_reserved.ensures.items ∙ length-append c.loop-actor.back.items (c.end-seat.result.1 ∷ []) in
+    let told = c.push_reserved-in-Some.ensures.items ∙ ap (λ t. c.loop-actor.told.items ++ t ∷ []) (c.from_vec.ensures ∙ ap (λ v. v.items) c.end-seat.ensures.1) in
     let short : c.if-is_short.is_short ≡ (c.loop-actor.is_short || a.is_short) = elim c.if-is_short.branch [
       | then-is_short w ↦ w.is_short-is ∙ w.if-is_short.true ∙ sym (ap (λ b. b || a.is_short) w.if-is_short.true)
       | else-is_short w ↦ w.is_short-is ∙ c.end-seat.ensures.3 ∙ sym (ap (λ b. b || a.is_short) w.if-is_short.false)
@@ -68,5 +71,9 @@ loop-actor-preserved g c =
       family = join_more c.args.first.now.family c.loop-actor.first.family c.join.new.first.family (length i.guests) (length (i.guests ++ outcomes ∷ [])) i.family (ap (λ s. s.family) c.join.ensures.both) more;
       first_ticket = ap (λ s. s.first_ticket) c.join.ensures.both ∙ i.first_ticket;
       drawn = omega (arith, drawn, last.2.hears.drawn, forms_few a.number c.args.lines.now, c.requires.few, more, i.drawn);
-      reserved = c.push_reserved.ensures.capacity ∙ i.reserved;
+      reserved = c.push_reserved-in-Some.ensures.capacity ∙ i.reserved;
+      back = ap any_failed c.push_reserved.ensures.items
+          ∙ any_more c.loop-actor.back.items c.end-seat.result.1 c.loop-actor.unread c.end-seat.result.2.unread i.back (ap has_failed c.end-seat.ensures.4 ∙ last.2.readers.failed ∙ ap (nat_lt 0) (sym (c.end-seat.ensures.2 ∙ last.2.unread)));
+      sets = omega (arith, pushed, more, i.sets);
+      reserved_back = c.push_reserved.ensures.capacity ∙ i.reserved_back;
     }

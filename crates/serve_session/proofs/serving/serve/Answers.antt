@@ -21,8 +21,8 @@ transcript_of-transcript-requires-clause-few g c =
     let left = c.share-left.result in
     subst (λ told. length told ≤ 64) (sym c.as_slice.ensures.value) (few_told disk _ c.args.chain left.chain names c.args.lines.now left.told.items left.is_short left.unread c.share-left.ensures.beside)
 
-pub returns : goal.returns
-returns g c =
+pub returns-clause-served : goal.returns-clause-served
+returns-clause-served g c =
     let disk = g.S.Store.disk in
     let names = map g.N.AsStr.text c.args.names.now in
     let left = c.share-left.result in

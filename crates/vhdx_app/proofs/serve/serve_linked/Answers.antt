@@ -2,6 +2,8 @@ use Rattle.std.proofs.Common.{List, refl, subst, sym, ◌∙◌}
 use Rattle.vhdx_app.proofs.Followed.{last_once}
 use Rattle.chain_core.specs.declared.starting.Mode.TheVariants.{Guests}
 use Rattle.chain_model.specs.Members.{NoneTwice}
+use Rattle.store_model.specs.Disk.{WhereTold}
+use Rattle.store_model.specs.Folder.{AreAway}
 use Rattle.link_rules.specs.Chains.{names_of}
 use Rattle.link_rules.specs.Folders.{contents}
 use Rattle.link_rules.specs.declared.linked.LinkedFile.{LinkedFile}
@@ -13,7 +15,8 @@ use Rattle.vhdx_app.specs.declared.refusal.StepsRefusal.TheVariants as steps
 use Rattle.vhdx_app.proofs.Lending.{lent_chain}
 use Rattle.vhdx_app.proofs.Over.{not_lent}
 use Rattle.vhdx_app.proofs.Said.{err_as}
-use Rattle.vhdx_app.proofs.ServedOver.{served_back, served_not_run, served_ran}
+use Rattle.vhdx_app.proofs.Handing.{back_not_run, back_ran}
+use Rattle.vhdx_app.proofs.ServedOver.{served_back}
 use Rattle.vhdx_app.proofs.serve.serve_linked.Goals as goal
 
 pub returns-in_err-names-clause-err : goal.returns-in_err-names-clause-err
@@ -36,18 +39,19 @@ serve_lent-store-requires-clause-chain g c κs within = lent_chain c.args.linked
 
 pub give_back-requires : goal.give_back-requires
 give_back-requires g c =
-    served_back (source_of c.args.merging) c.args.linked.now c.as_slice-files.result.now c.as_slice.result.now c.args.lines.now (g.H.Host.hosted c.args.host.now) (g.H.Host.hosted c.attach.new.host) (g.H.S.Store.disk c.in_ok-store.store) (g.H.S.Store.disk c.serve_lent-store.result.0)
+    subst (λ o. WhereTold o (λ folder. WhereTold (g.H.S.Store.disk c.serve_lent-store.result.0).told (λ trace. AreAway trace folder))) (sym c.give_back_sets.ensures.folder)
+    (served_back (source_of c.args.merging) c.args.linked.now c.as_slice-files.result.now c.as_slice.result.now c.args.lines.now (g.H.Host.hosted c.args.host.now) (g.H.Host.hosted c.attach.new.host) (g.H.S.Store.disk c.in_ok-store.store) (g.H.S.Store.disk c.serve_lent-store.result.0)
     (g.I.Ids.drawn c.args.ids.now) (g.I.Ids.drawn c.serve_lent-store.new.ids) c.as_slice-files.ensures (c.as_slice.ensures ∙ c.in_ok-names.ensures) c.requires.chain c.in_ok-store.ensures.ok
-    c.serve_lent-store.result.1 c.serve_lent-store.ensures.ran c.serve_lent-store.ensures.err
+    c.serve_lent-store.result.1 c.serve_lent-store.ensures.ran c.serve_lent-store.ensures.err)
 
 pub returns-clause-ran : goal.returns-clause-ran
 returns-clause-ran g c =
-    served_ran (source_of c.args.merging) c.args.linked.now c.as_slice-files.result.now c.as_slice.result.now c.args.lines.now (g.H.Host.hosted c.args.host.now) (g.H.Host.hosted c.attach.new.host) (g.H.S.Store.disk c.in_ok-store.store) (g.H.S.Store.disk c.serve_lent-store.result.0)
-    (g.I.Ids.drawn c.args.ids.now) (g.I.Ids.drawn c.serve_lent-store.new.ids) c.as_slice-files.ensures (c.as_slice.ensures ∙ c.in_ok-names.ensures) c.requires.chain c.in_ok-store.ensures.ok
-    (g.H.Host.hosted c.give_back.new.self) c.give_back.ensures.folder c.give_back.ensures.past c.give_back.ensures.count c.serve_lent-store.result.1 c.serve_lent-store.ensures.ran
+    back_ran (source_of c.args.merging) c.args.linked.now c.as_slice-files.result.now c.as_slice.result.now c.args.lines.now (g.H.Host.hosted c.args.host.now) (g.H.Host.hosted c.attach.new.host) (g.H.Host.hosted c.give_back_sets.new.host) (g.H.Host.hosted c.give_back.new.self)
+    (g.H.S.Store.disk c.in_ok-store.store) (g.H.S.Store.disk c.serve_lent-store.result.0) (g.I.Ids.drawn c.args.ids.now) (g.I.Ids.drawn c.serve_lent-store.new.ids) c.as_slice-files.ensures (c.as_slice.ensures ∙ c.in_ok-names.ensures) c.requires.chain c.in_ok-store.ensures.ok
+    c.serve_lent-store.result.2.items c.give_back_sets.ensures.folder c.give_back_sets.ensures.past c.give_back_sets.ensures.count c.give_back.ensures.folder c.give_back.ensures.past c.give_back.ensures.count c.serve_lent-store.result.1 c.serve_lent-store.ensures.back c.serve_lent-store.ensures.ran
 
 pub returns-clause-err : goal.returns-clause-err
 returns-clause-err g c =
-    served_not_run (source_of c.args.merging) c.args.linked.now c.as_slice-files.result.now c.as_slice.result.now c.args.lines.now (g.H.Host.hosted c.args.host.now) (g.H.Host.hosted c.attach.new.host) (g.H.S.Store.disk c.in_ok-store.store) (g.H.S.Store.disk c.serve_lent-store.result.0)
-    (g.I.Ids.drawn c.args.ids.now) (g.I.Ids.drawn c.serve_lent-store.new.ids) c.as_slice-files.ensures (c.as_slice.ensures ∙ c.in_ok-names.ensures) c.requires.chain c.in_ok-store.ensures.ok
-    (g.H.Host.hosted c.give_back.new.self) c.give_back.ensures.folder c.give_back.ensures.past c.give_back.ensures.count c.serve_lent-store.result.1 c.serve_lent-store.ensures.err
+    back_not_run (source_of c.args.merging) c.args.linked.now c.as_slice-files.result.now c.as_slice.result.now c.args.lines.now (g.H.Host.hosted c.args.host.now) (g.H.Host.hosted c.attach.new.host) (g.H.Host.hosted c.give_back_sets.new.host) (g.H.Host.hosted c.give_back.new.self)
+    (g.H.S.Store.disk c.in_ok-store.store) (g.H.S.Store.disk c.serve_lent-store.result.0) (g.I.Ids.drawn c.args.ids.now) (g.I.Ids.drawn c.serve_lent-store.new.ids) c.as_slice-files.ensures (c.as_slice.ensures ∙ c.in_ok-names.ensures) c.requires.chain c.in_ok-store.ensures.ok
+    c.serve_lent-store.result.2.items c.give_back_sets.ensures.folder c.give_back_sets.ensures.past c.give_back_sets.ensures.count c.give_back.ensures.folder c.give_back.ensures.past c.give_back.ensures.count c.serve_lent-store.result.1 c.serve_lent-store.ensures.none c.serve_lent-store.ensures.err
