@@ -1,1 +1,2 @@
 pub mod CallRuns
+mod Whole

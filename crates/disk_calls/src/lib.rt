@@ -2,5 +2,7 @@
 #![tactic(auto)]
 
 mod disk;
+mod laws;
 
 pub use disk::DiskCalls;
+pub use laws::one_history;

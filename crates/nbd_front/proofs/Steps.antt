@@ -21,7 +21,7 @@ use Rattle.nbd_front.specs.Wire.{counted, data_len, greeting}
 use Rattle.nbd_front.specs.Messages.{Phase, greeted, haggling, client_flags, flags_spelled, over, transmitting, cut_short, Message, begun, named, aborted, other_option, Spells, nothing, message, IsOption, IsRequest, write_begun, name_spelled, abort_spelled, other_spelled}
 use Rattle.nbd_front.specs.Calls.{AreMade, calls_begun}
 use Rattle.nbd_front.specs.Replies.{answer_to, is_answered_by}
-use Rattle.nbd_front.specs.Sessions.{World, IsServed, MakesCalls, all_answers, all_calls, was_answered_by, IsSent, IsSpent, CountsFaults, EndsAs, of_write, other_name}
+use Rattle.nbd_front.specs.Sessions.{Exchange, World, IsServed, MakesCalls, all_answers, all_calls, earlier, least_sent, was_answered_by, IsSent, IsSpent, CountsFaults, EndsAs, of_write, other_name}
 use Rattle.nbd_front.specs.Parts.{Stand, Session, Leads, IsEnded, IsSourceEnd, CountsSource, TakesFlags, TakesOption, phase_behind, stand, ahead, unread}
 use Rattle.nbd_front.proofs.Taken.{counted_more}
 use Rattle.nbd_front.proofs.Sent.{take_both}
@@ -35,23 +35,28 @@ or_false true = refl
 or_false false = refl
 
 -- a text in front of what was sent
-cut_behind : (a b c : Option (List ℕ)) (first next : List ℕ) → Appends a b first → (n : ℕ) × Appends b c (take n next) → (n : ℕ) × Appends a c (take n (first ++ next))
-cut_behind a b c first next whole part =
-    (length first + part.0, subst (Appends a c) (sym (take_both first next part.0)) (Appends-trans a b c first (take part.0 next) whole part.1))
+cut_behind : (a b c : Option (List ℕ)) (first next : List ℕ) (least more : ℕ) → Appends a b first → (n : ℕ) × (least ≤ n) × Appends b c (take n next) → more ≤ length first + least
+    → (n : ℕ) × (more ≤ n) × Appends a c (take n (first ++ next))
+cut_behind a b c first next least more whole part few = (
+  length first + part.0,
+  let enough = part.1 in omega arith,
+  subst (Appends a c) (sym (take_both first next part.0)) (Appends-trans a b c first (take part.0 next) whole part.2),
+)
 
-pub sent_behind : (r : Result (Unit {0}) NbdRefusal) (a b c : Option (List ℕ)) (first next : List ℕ) → Appends a b first → IsSent r b c next → IsSent r a c (first ++ next)
-sent_behind (Ok done) a b c first next whole part = Appends-trans a b c first next whole part
-sent_behind (Err (refusals.Cut place)) a b c first next whole part = Appends-trans a b c first next whole part
-sent_behind (Err (refusals.Magic place)) a b c first next whole part = Appends-trans a b c first next whole part
-sent_behind (Err refusals.OtherName) a b c first next whole part = Appends-trans a b c first next whole part
-sent_behind (Err (refusals.TooLong place)) a b c first next whole part = Appends-trans a b c first next whole part
-sent_behind (Err refusals.OtherFlags) a b c first next whole part = Appends-trans a b c first next whole part
-sent_behind (Err (refusals.Source fault)) a b c first next whole part = Appends-trans a b c first next whole part
-sent_behind (Err (refusals.Sink fault)) a b c first next whole part = cut_behind a b c first next whole part
-sent_behind (Err refusals.Spent) a b c first next whole part = Appends-trans a b c first next whole part
+pub sent_behind : (r : Result (Unit {0}) NbdRefusal) (a b c : Option (List ℕ)) (first next : List ℕ) (least more : ℕ) → Appends a b first → IsSent r b c next least → more ≤ length first + least
+    → IsSent r a c (first ++ next) more
+sent_behind (Ok done) a b c first next least more whole part few = Appends-trans a b c first next whole part
+sent_behind (Err (refusals.Cut place)) a b c first next least more whole part few = Appends-trans a b c first next whole part
+sent_behind (Err (refusals.Magic place)) a b c first next least more whole part few = Appends-trans a b c first next whole part
+sent_behind (Err refusals.OtherName) a b c first next least more whole part few = Appends-trans a b c first next whole part
+sent_behind (Err (refusals.TooLong place)) a b c first next least more whole part few = Appends-trans a b c first next whole part
+sent_behind (Err refusals.OtherFlags) a b c first next least more whole part few = Appends-trans a b c first next whole part
+sent_behind (Err (refusals.Source fault)) a b c first next least more whole part few = Appends-trans a b c first next whole part
+sent_behind (Err (refusals.Sink fault)) a b c first next least more whole part few = cut_behind a b c first next least more whole part few
+sent_behind (Err refusals.Spent) a b c first next least more whole part few = Appends-trans a b c first next whole part
 
 -- nothing was sent
-pub nothing_sent : (r : Result (Unit {0}) NbdRefusal) (a b : Option (List ℕ)) → b ≡ a → IsSent r a b []
+pub nothing_sent : (r : Result (Unit {0}) NbdRefusal) (a b : Option (List ℕ)) → b ≡ a → IsSent r a b [] 0
 nothing_sent (Ok done) a b e = subst (λ k. Appends a k []) (sym e) (Appends-nil a)
 nothing_sent (Err (refusals.Cut place)) a b e = subst (λ k. Appends a k []) (sym e) (Appends-nil a)
 nothing_sent (Err (refusals.Magic place)) a b e = subst (λ k. Appends a k []) (sym e) (Appends-nil a)
@@ -59,8 +64,18 @@ nothing_sent (Err refusals.OtherName) a b e = subst (λ k. Appends a k []) (sym 
 nothing_sent (Err (refusals.TooLong place)) a b e = subst (λ k. Appends a k []) (sym e) (Appends-nil a)
 nothing_sent (Err refusals.OtherFlags) a b e = subst (λ k. Appends a k []) (sym e) (Appends-nil a)
 nothing_sent (Err (refusals.Source fault)) a b e = subst (λ k. Appends a k []) (sym e) (Appends-nil a)
-nothing_sent (Err (refusals.Sink fault)) a b e = (0, subst (λ k. Appends a k []) (sym e) (Appends-nil a))
+nothing_sent (Err (refusals.Sink fault)) a b e = (0, omega arith, subst (λ k. Appends a k []) (sym e) (Appends-nil a))
 nothing_sent (Err refusals.Spent) a b e = subst (λ k. Appends a k []) (sym e) (Appends-nil a)
+
+-- all answers but the last, with one in front
+more_before : (e : Export) (x : Exchange) (xs : List Exchange) → length (all_answers e (earlier (x ∷ xs))) ≤ length (answer_to e x.message x.calls) + length (all_answers e (earlier xs))
+more_before e x [] = omega arith
+more_before e x (y ∷ xs) = omega (arith, length-append (answer_to e x.message x.calls) (all_answers e (earlier (y ∷ xs))))
+
+-- and with the greeting in front
+pub least_behind : (e : Export) (xs : List Exchange) → least_sent e xs ≤ length greeting + length (all_answers e (earlier xs))
+least_behind e [] = omega arith
+least_behind e (x ∷ xs) = omega arith
 
 -- faults are counted from before
 counts_from : {D : Type 0} (r : Result (Unit {0}) NbdRefusal) (a b c : World D) → b.source_faults ≡ a.source_faults → b.sink_faults ≡ a.sink_faults → CountsFaults r b c → CountsFaults r a c
@@ -132,7 +147,8 @@ module _ {D : Type 0} {tells : Telling D} (e : Export) (p q : Phase) (a b : Stan
     taken = subst (Consumes a.world.left c.world.left) (sym (append_assoc bytes s.bytes s.tail)) (Consumes-trans a.world.left b.world.left c.world.left bytes (s.bytes ++ s.tail) taken s.taken);
     makes = (makes, s.makes);
     runs = runs_then tells calls (all_calls s.exchanges) a.world.disk b.world.disk c.world.disk runs s.runs;
-    sent = sent_behind result a.world.written b.world.written c.world.written (answer_to e m calls) (all_answers e s.exchanges) sent s.sent;
+    sent = sent_behind result a.world.written b.world.written c.world.written (answer_to e m calls) (all_answers e s.exchanges) (length (all_answers e (earlier s.exchanges))) _ sent s.sent
+        (more_before e (record { message = m; calls = calls }) s.exchanges);
     fault = s.fault ∙ ap (λ t. t || was_answered_by 5 e s.exchanges) fault ∙ or_assoc a.fault (is_answered_by 5 e m calls) (was_answered_by 5 e s.exchanges);
     no_room = s.no_room ∙ ap (λ t. t || was_answered_by 12 e s.exchanges) no_room ∙ or_assoc a.no_room (is_answered_by 12 e m calls) (was_answered_by 12 e s.exchanges);
     counts = counts_from result a.world b.world c.world source sink s.counts;
@@ -153,7 +169,7 @@ module _ {D : Type 0} {tells : Telling D} (e : Export) (p q : Phase) (a b : Stan
     taken = subst (Consumes a.world.left b.world.left) (sym (append-nil (bytes ++ []) ∙ append-nil bytes)) taken;
     makes = (makes, tt);
     runs = subst (λ l. Runs tells a.world.disk l b.world.disk) (sym (append-nil calls)) runs;
-    sent = (sent.0, subst (λ t. Appends a.world.written b.world.written (take sent.0 t)) (sym (append-nil (answer_to e m calls))) sent.1);
+    sent = (sent.0, omega arith, subst (λ t. Appends a.world.written b.world.written (take sent.0 t)) (sym (append-nil (answer_to e m calls))) sent.1);
     fault = fault ∙ ap (λ t. a.fault || t) (sym (or_false (is_answered_by 5 e m calls)));
     no_room = no_room ∙ ap (λ t. a.no_room || t) (sym (or_false (is_answered_by 12 e m calls)));
     counts = (source, rose, told);
@@ -342,7 +358,7 @@ greeting_cut tells known e a b f left disk source sent rose told = record {
   makes = tt;
   runs = disk;
   history = ap known disk;
-  sent = (sent.0, subst (λ t. Appends a.written b.written (take sent.0 t)) (sym (append-nil greeting)) sent.1);
+  sent = (sent.0, omega arith, subst (λ t. Appends a.written b.written (take sent.0 t)) (sym (append-nil greeting)) sent.1);
   fault = refl;
   no_room = refl;
   counts = (source, rose, told);
@@ -378,7 +394,7 @@ served_whole tells size known lawful e d d' a b out sunk result sized room empty
   makes = s.makes;
   runs = s.runs;
   history = subst (λ (g : Geometry). Runs (Answers g.sector) (known a.disk) (all_calls s.exchanges) (known b.disk)) sized (runs_truly tells size known lawful (all_calls s.exchanges) a.disk b.disk s.runs);
-  sent = sent_behind result a.written out b.written greeting (all_answers e s.exchanges) greeted_first s.sent;
+  sent = sent_behind result a.written out b.written greeting (all_answers e s.exchanges) (length (all_answers e (earlier s.exchanges))) _ greeted_first s.sent (least_behind e s.exchanges);
   fault = s.fault ∙ ap (λ (t : Tally). t.fault || was_answered_by 5 e s.exchanges) tally;
   no_room = s.no_room ∙ ap (λ (t : Tally). t.no_room || was_answered_by 12 e s.exchanges) tally;
   counts = counts_from result a (record { left = unread d.intake a.left; source_faults = a.source_faults; written = out; sink_faults = sunk; disk = a.disk }) b refl quiet

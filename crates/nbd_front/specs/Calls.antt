@@ -1,4 +1,4 @@
--- The calls of a request: what of it is refused before any call, and else its calls by pieces.
+-- The calls of a request: what of it is refused before any call (the protocol's document), and else its calls by pieces (profile).
 use Rattle.std.specs.Prelude.{◌≡◌, ℕ, zero, suc, ◌+◌, ◌-◌, ◌*◌, ◌/◌, ◌%◌, ◌&&◌, ◌||◌, ◌==◌, ⊤, min, not, Bool, true, false, nat_lt, if◌then◌else◌, List, [], ◌∷◌, ◌++◌, length, map, take, drop, Option, Some, None, MatchResult, Ok, Err}
 use Rattle.guest_model.specs.declared.call.Call.TheVariants as calls
 use Rattle.guest_model.specs.declared.refusal.ChainRefusal.{ChainRefusal}
@@ -7,7 +7,7 @@ use Rattle.vx_base.specs.declared.parts.Geometry.{Geometry}
 use Rattle.nbd_front.specs.declared.request.Request.{Request}
 use Rattle.nbd_front.specs.Wire.{most_bytes, read_kind, write_kind, flush_kind, trim_kind}
 
--- the errors that a request is refused by itself: it is invalid, or a write passes the end
+-- the errors that a request is refused by itself: it is invalid, or a write passes the end (EINVAL, ENOSPC)
 abbrev pub invalid : ℕ
 invalid = 22
 

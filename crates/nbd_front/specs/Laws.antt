@@ -1,4 +1,4 @@
--- Laws of the protocol's definitions: a source's bytes are read in one way, and pieces cover what they are of.
+-- Laws of the definitions: a source's bytes are read in one way, and pieces cover what they are of.
 use Rattle.std.specs.Prelude.{◌≡◌, ◌<◌, ◌≤◌, ◌+◌, ⊤, List, [], ◌∷◌, ◌++◌, length, map, ℕ, Some, Result, Ok, Err}
 use Rattle.nbd_front.specs.declared.export.Export.{Export}
 use Rattle.nbd_front.specs.declared.refusal.NbdRefusal.{NbdRefusal}

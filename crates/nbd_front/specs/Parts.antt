@@ -16,7 +16,7 @@ use Rattle.nbd_front.specs.Wire.{counted, data_len, number_at, read_kind, reply_
 use Rattle.nbd_front.specs.Messages.{Phase, haggling, transmitting, over, IsOption, IsRequest, Reads}
 use Rattle.nbd_front.specs.Calls.{AreMade, calls_begun, calls_of, first_refusal, write_call}
 use Rattle.nbd_front.specs.Replies.{bytes_given, error_in, error_of}
-use Rattle.nbd_front.specs.Sessions.{World, Exchange, MakesCalls, all_answers, all_calls, was_answered_by, IsSent, IsSpent, CountsFaults, EndsAs}
+use Rattle.nbd_front.specs.Sessions.{World, Exchange, MakesCalls, all_answers, all_calls, earlier, was_answered_by, IsSent, IsSpent, CountsFaults, EndsAs}
 use Rattle.nbd_front.specs.declared.desk.Desk.{Desk}
 use Rattle.nbd_front.specs.declared.next.Next.{Next}
 use Rattle.nbd_front.specs.declared.next.Next.TheVariants.{Options, Requests, End}
@@ -169,7 +169,7 @@ pub record Session {D : Type 0} (tells : Telling D) (e : Export) (p : Phase) (a 
   pub taken : Consumes a.world.left b.world.left (bytes ++ tail)
   pub makes : AllByRecursion (λ x. MakesCalls e x.message x.calls) exchanges
   pub runs : Runs tells a.world.disk (all_calls exchanges) b.world.disk
-  pub sent : IsSent result a.world.written b.world.written (all_answers e exchanges)
+  pub sent : IsSent result a.world.written b.world.written (all_answers e exchanges) (length (all_answers e (earlier exchanges)))
   pub fault : b.fault ≡ (a.fault || was_answered_by 5 e exchanges)
   pub no_room : b.no_room ≡ (a.no_room || was_answered_by 12 e exchanges)
   pub counts : CountsFaults result a.world b.world

@@ -1,4 +1,5 @@
--- What a message is answered, by what was told of its calls.
+-- What a message is answered, by what was told of its calls (the protocol's document: simple replies; which refusal has which error:
+-- profile).
 use Rattle.std.specs.Prelude.{ℕ, ◌==◌, ◌&&◌, Bool, false, if◌then◌else◌, List, [], ◌++◌, Option, Some, None, Ok, Err}
 use Rattle.std.specs.List.{flat_map}
 use Rattle.guest_model.specs.declared.refusal.ChainRefusal.{ChainRefusal}
@@ -13,8 +14,8 @@ use Rattle.nbd_front.specs.Wire.{export_reply, option_reply, unsupported, acknow
 use Rattle.nbd_front.specs.Calls.{first_refusal, judged, invalid}
 use Rattle.nbd_front.specs.Messages.{Message, client_flags, other_option, named, aborted, asked, begun, disconnected}
 
--- The error of a refused call: not permitted, no memory, no space, shut down, and else an input or output error. The ranges
--- of calls are valid, and no merge is asked for, so that the others don't come.
+-- The error of a refused call: not permitted (EPERM), no memory (ENOMEM), no space (ENOSPC), shut down (ESHUTDOWN), and an input or
+-- output error (EIO) for a fault. The ranges of calls are valid, and no merge is asked for, so that the others don't come.
 abbrev pub error_of : ChainRefusal → ℕ
 error_of refusals.EmptyRange = invalid
 error_of (refusals.OutOfRange first count sectors) = invalid

@@ -1,5 +1,5 @@
--- A session: what a client sent, the calls that were made, what was answered, and how it ended.
-use Rattle.std.specs.Prelude.{◌≡◌, ◌≢◌, ◌<◌, ◌≤◌, ℕ, ◌||◌, ◌-◌, ◌^◌, ⊤, Bool, false, List, [], ◌∷◌, ◌++◌, length, map, take, Option, Result, Ok, Err}
+-- A session (profile): what a client sent, the calls that were made, what was answered, and how it ended.
+use Rattle.std.specs.Prelude.{◌≡◌, ◌≢◌, ◌<◌, ◌≤◌, ℕ, ◌||◌, ◌+◌, ◌-◌, ◌^◌, ⊤, Bool, false, List, [], ◌∷◌, ◌++◌, length, map, take, Option, Result, Ok, Err}
 use Rattle.std.specs.List.{flat_map, AllByRecursion}
 use Rattle.std.specs.Io.KnownBytes.{Consumes, Appends, IsAtEnd, prepend_known}
 use Rattle.store_model.specs.Cause.{Rose}
@@ -39,6 +39,12 @@ all_calls exchanges = flat_map (λ x. x.calls) exchanges
 
 abbrev pub all_answers : Export → List Exchange → List ℕ
 all_answers e exchanges = flat_map (λ x. answer_to e x.message x.calls) exchanges
+
+-- all but the last
+abbrev pub earlier : List Exchange → List Exchange
+earlier [] = []
+earlier (x ∷ []) = []
+earlier (x ∷ y ∷ xs) = x ∷ earlier (y ∷ xs)
 
 -- What a session is about: the bytes that are left to be read, and those that were sent, where they are told, with the faults of
 -- the source and the sink; and the disk.
@@ -113,17 +119,17 @@ IsSpent (Err (refusals.Source fault)) messages = ⊤
 IsSpent (Err (refusals.Sink fault)) messages = ⊤
 IsSpent (Err refusals.Spent) messages = 2 ^ 64 - 1 ≤ messages
 
--- the text was sent; after a fault of the sink a part from its beginning
-abbrev pub IsSent : Result (Unit {0}) NbdRefusal → Option (List ℕ) → Option (List ℕ) → List ℕ → Type 0
-IsSent (Ok done) old new text = Appends old new text
-IsSent (Err (refusals.Cut place)) old new text = Appends old new text
-IsSent (Err (refusals.Magic place)) old new text = Appends old new text
-IsSent (Err refusals.OtherName) old new text = Appends old new text
-IsSent (Err (refusals.TooLong place)) old new text = Appends old new text
-IsSent (Err refusals.OtherFlags) old new text = Appends old new text
-IsSent (Err (refusals.Source fault)) old new text = Appends old new text
-IsSent (Err (refusals.Sink fault)) old new text = (n : ℕ) × Appends old new (take n text)
-IsSent (Err refusals.Spent) old new text = Appends old new text
+-- the text was sent; after a fault of the sink a part from its beginning, of so many bytes at least
+abbrev pub IsSent : Result (Unit {0}) NbdRefusal → Option (List ℕ) → Option (List ℕ) → List ℕ → ℕ → Type 0
+IsSent (Ok done) old new text least = Appends old new text
+IsSent (Err (refusals.Cut place)) old new text least = Appends old new text
+IsSent (Err (refusals.Magic place)) old new text least = Appends old new text
+IsSent (Err refusals.OtherName) old new text least = Appends old new text
+IsSent (Err (refusals.TooLong place)) old new text least = Appends old new text
+IsSent (Err refusals.OtherFlags) old new text least = Appends old new text
+IsSent (Err (refusals.Source fault)) old new text least = Appends old new text
+IsSent (Err (refusals.Sink fault)) old new text least = (n : ℕ) × (least ≤ n) × Appends old new (take n text)
+IsSent (Err refusals.Spent) old new text least = Appends old new text
 
 -- the faults are as many as before, but for the one that is answered
 abbrev pub CountsFaults : {D : Type 0} → Result (Unit {0}) NbdRefusal → World D → World D → Type 0
@@ -136,6 +142,11 @@ CountsFaults (Err refusals.OtherFlags) a b = (b.source_faults ≡ a.source_fault
 CountsFaults (Err (refusals.Source fault)) a b = Rose a.source_faults b.source_faults × (fault.count ≡ b.source_faults) × (b.sink_faults ≡ a.sink_faults)
 CountsFaults (Err (refusals.Sink fault)) a b = (b.source_faults ≡ a.source_faults) × Rose a.sink_faults b.sink_faults × (fault.count ≡ b.sink_faults)
 CountsFaults (Err refusals.Spent) a b = (b.source_faults ≡ a.source_faults) × (b.sink_faults ≡ a.sink_faults)
+
+-- what was sent in any case: what came before the answer that a fault of the sink cut, which may be the greeting
+abbrev pub least_sent : Export → List Exchange → ℕ
+least_sent e [] = 0
+least_sent e (x ∷ xs) = length greeting + length (all_answers e (earlier (x ∷ xs)))
 
 -- A session, over a disk that tells its calls so: the bytes that were taken of the source are the client's messages and less than one
 -- more; the calls made for each message are its own, and the disk was taken by all of them, in order, from how it was to how it is; what
@@ -153,7 +164,7 @@ pub record IsServed {D : Type 0} (tells : Telling D) (known : D → Option Known
   pub makes : AllByRecursion (λ x. MakesCalls e x.message x.calls) exchanges
   pub runs : Runs tells a.disk (all_calls exchanges) b.disk
   pub history : Runs (Answers e.geometry.sector) (known a.disk) (all_calls exchanges) (known b.disk)
-  pub sent : IsSent served.end a.written b.written (greeting ++ all_answers e exchanges)
+  pub sent : IsSent served.end a.written b.written (greeting ++ all_answers e exchanges) (least_sent e exchanges)
   pub fault : served.fault ≡ was_answered_by 5 e exchanges
   pub no_room : served.no_room ≡ was_answered_by 12 e exchanges
   pub counts : CountsFaults served.end a b

@@ -32,7 +32,7 @@ fn new_page(alloc: Global) -> Result<Vec<u8>, AllocError>
 }
 
 impl Room {
-    /// Takes the memory.
+    /// Takes the memory: 33,619,984 bytes, of which a connection touches 1,114,128 at first.
     pub fn new(alloc: Global) -> Result<Room, NoRoom> {
         Ok(Room {
             ahead: zeroed(alloc, AHEAD)?,

@@ -2,8 +2,8 @@
 
 use store_model::{SinkFault, SourceFault};
 
-/// What ends a session. Places are counted in bytes of the source, and stand still at 2^64 - 1.
-#[derive(Clone, Copy, Debug)]
+/// What ends a session before the client does. Places are counted in bytes of the source, from 0, and stand still at 2^64 - 1.
+#[derive(Clone, Copy)]
 pub enum NbdRefusal {
     /// 53: the source ended after `at` bytes, before the client ended the session.
     Cut { at: u64 },
@@ -19,7 +19,7 @@ pub enum NbdRefusal {
     Source(SourceFault),
     /// The sink failed.
     Sink(SinkFault),
-    /// More options or requests came than are counted, 2^64 - 2.
+    /// More options or requests came than are counted: 2^64 - 1.
     Spent,
 }
 

@@ -6,7 +6,7 @@ use disk_calls::DiskCalls;
 use guest_model::ChainRefusal;
 
 /// A call that was made, with its first sector and its count.
-#[derive(Clone, Copy, Debug, PartialEq, Eq)]
+#[derive(Clone, Copy, PartialEq, Eq)]
 pub enum Made {
     Read(u64, u64),
     Write(u64, u64),

@@ -9,6 +9,8 @@ mod disk;
 mod sessions;
 mod told;
 #[cfg(test)]
+mod waiting;
+#[cfg(test)]
 mod wire;
 
 pub use told::ToldDisk;

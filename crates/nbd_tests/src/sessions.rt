@@ -3,13 +3,16 @@
 use crate::asking::{are_bytes, ask, done};
 use crate::disk::{FakeDisk, Made};
 use crate::told::ToldDisk;
+use crate::waiting::{Client, Counted, Turn};
 use crate::wire::{put, put_many, put_option, put_request, put_start};
 use disk_calls::DiskCalls;
 use guest_model::{ChainRefusal, Recorder};
 use mem_store::{Calls, MemSink, MemSource};
 use nbd_front::{NbdRefusal, Room, Served, serve};
 use std::alloc::Global;
+use std::cell::Cell;
 use std::process::Abort;
+use store_model::{Sink, Source};
 use vx_base::Name;
 
 // A disk of 1 GiB, of which the first so many bytes are kept; the call of this number, from 0 on, is refused.
@@ -51,12 +54,12 @@ fn new_sink(alloc: Global) -> MemSink {
 }
 
 // Serves a disk by its name.
-fn serve_named<R: Abort, D: DiskCalls>(
+fn serve_named<R: Abort, D: DiskCalls, S: Source, K: Sink>(
     rt: &R,
     alloc: Global,
     disk: &mut D,
-    source: &mut MemSource,
-    sink: &mut MemSink,
+    source: &mut S,
+    sink: &mut K,
 ) -> Served {
     let room = done(rt, Room::new(alloc));
     let name = done(rt, Name::new(alloc, "d.vhdx"));
@@ -519,4 +522,110 @@ fn no_call_stands_in_the_history(rt: HostRuntime) {
     ask(&rt, 0, served.end.is_ok());
     ask(&rt, 1, error_sent(&sink.bytes) == Some(22));
     ask(&rt, 2, disk.history.len() == 0);
+}
+
+// What a client asks that waits for each answer: it names the export, flushes, reads a sector and disconnects.
+static TURNS: [Turn; 5] = [
+    Turn {
+        bytes: b"\0\0\0\x03",
+        sent: 18,
+    },
+    Turn {
+        bytes: b"IHAVEOPT\0\0\0\x01\0\0\0\0",
+        sent: 18,
+    },
+    Turn {
+        bytes: b"\x25\x60\x95\x13\0\0\0\x03cookie!!\0\0\0\0\0\0\0\0\0\0\0\0",
+        sent: 28,
+    },
+    Turn {
+        bytes: b"\x25\x60\x95\x13\0\0\0\0cookie!!\0\0\0\0\0\0\0\0\0\0\x02\0",
+        sent: 44,
+    },
+    Turn {
+        bytes: b"\x25\x60\x95\x13\0\0\0\x02cookie!!\0\0\0\0\0\0\0\0\0\0\0\0",
+        sent: 572,
+    },
+];
+
+// No clause says when an answer is sent. A front that asked for more before it answered would end by 53 here.
+#[test]
+fn a_client_may_wait_for_each_answer(rt: HostRuntime) {
+    let sent = Cell::new(0);
+    let mut disk = new_disk(&rt, rt.alloc(), 0, usize::MAX, ChainRefusal::NoRoom);
+    let mut source = Client {
+        turns: &TURNS,
+        next: 0,
+        sent: &sent,
+    };
+    let mut sink = Counted { sent: &sent };
+    let served = serve_named(&rt, rt.alloc(), &mut disk, &mut source, &mut sink);
+    ask(&rt, 0, end_of(&served) == (0, 0));
+    ask(
+        &rt,
+        1,
+        disk.made.as_slice() == [Made::Flush, Made::Read(0, 1)].as_slice(),
+    );
+}
+
+// The longest read that is allowed makes 32 calls, and all its bytes follow the head of its reply.
+#[test]
+fn the_longest_read_is_answered(rt: HostRuntime) {
+    let mut client = Vec::new(rt.alloc());
+    put_start(&rt, &mut client);
+    put_request(&rt, &mut client, 0, 0, 512, 32 * MIB);
+    put_request(&rt, &mut client, 0, 2, 0, 0);
+    let mut disk = new_disk(&rt, rt.alloc(), 0, usize::MAX, ChainRefusal::NoRoom);
+    let mut sink = new_sink(rt.alloc());
+    let served = serve_bytes(&rt, rt.alloc(), &mut disk, client, 0, &mut sink);
+    ask(&rt, 0, end_of(&served) == (0, 0));
+    ask(&rt, 1, sink.bytes.len() == 28 + 16 + 33_554_432);
+    ask(&rt, 2, disk.made.len() == 32);
+    ask(&rt, 3, disk.made.last() == Some(&Made::Read(63_489, 2048)));
+}
+
+// A disk of sectors of 4,096 bytes: what isn't whole sectors is refused, and calls count in these.
+#[test]
+fn large_sectors_are_counted(rt: HostRuntime) {
+    let mut client = Vec::new(rt.alloc());
+    put_start(&rt, &mut client);
+    put_request(&rt, &mut client, 0, 0, 512, 512);
+    put_request(&rt, &mut client, 1, 1, 8192, 4096);
+    put_many(&rt, &mut client, 7, 4096);
+    put_request(&rt, &mut client, 0, 4, 4096, 8192);
+    put_request(&rt, &mut client, 0, 2, 0, 0);
+    let mut disk = new_disk(&rt, rt.alloc(), 0, usize::MAX, ChainRefusal::NoRoom);
+    disk.is_large = true;
+    let mut sink = new_sink(rt.alloc());
+    let served = serve_bytes(&rt, rt.alloc(), &mut disk, client, 0, &mut sink);
+    ask(&rt, 0, end_of(&served) == (0, 0));
+    ask(&rt, 1, sink.bytes.get(28 + 7) == Some(&22));
+    ask(
+        &rt,
+        2,
+        disk.made.as_slice() == [Made::Through(2, 1), Made::Trim(1, 2)].as_slice(),
+    );
+}
+
+// An export that is only read says so in its flags, and a refused write is not permitted.
+#[test]
+fn an_export_is_only_read(rt: HostRuntime) {
+    let mut client = Vec::new(rt.alloc());
+    put_start(&rt, &mut client);
+    put_request(&rt, &mut client, 0, 1, 0, 512);
+    put_many(&rt, &mut client, 7, 512);
+    put_request(&rt, &mut client, 0, 2, 0, 0);
+    let mut disk = new_disk(&rt, rt.alloc(), 0, 0, ChainRefusal::ReadOnly);
+    let mut source = new_source(rt.alloc(), client, 0);
+    let mut sink = new_sink(rt.alloc());
+    let room = done(&rt, Room::new(rt.alloc()));
+    let name = done(&rt, Name::new(rt.alloc(), "d.vhdx"));
+    let served = serve(room, name, true, &mut disk, &mut source, &mut sink);
+    ask(&rt, 0, served.end.is_ok());
+    ask(
+        &rt,
+        1,
+        sink.bytes.get(26) == Some(&0) && sink.bytes.get(27) == Some(&3),
+    );
+    ask(&rt, 2, error_sent(&sink.bytes) == Some(1));
 }
