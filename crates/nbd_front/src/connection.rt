@@ -33,8 +33,8 @@ fn export_of<D: DiskCalls>(name: Name, is_read_only: bool, disk: &D) -> Export
 
 /// Serves one connection of the NBD protocol (its document: fixed newstyle handshake, simple replies). The client's bytes come from
 /// the source, however they are cut, and what it is sent goes to the sink. The disk is the one export, by this name; `is_read_only`
-/// is what the client is told of it, and the disk itself refuses writes. No memory is taken but the room. It ends with the client's
-/// last message, or by what `Served::end` tells.
+/// is what the client is told of it, and the disk itself refuses writes. No memory is taken but the room, unless the disk takes some.
+/// It ends with the client's last message, or by what `Served::end` tells.
 pub fn serve<S: Source, K: Sink, D: DiskCalls>(
     room: Room,
     name: Name,
