@@ -1,0 +1,16 @@
+use Rattle.load_calls.proofs.FourGuests.{loads_run_alone}
+use Rattle.load_calls.proofs.Loads.{lines_are_counted, loads_are_counted, loads_are_placed, loads_end_alike, loads_keep, loads_print_alike}
+use Rattle.load_calls.proofs.OwnCalls.{writes_are_placed}
+use Rattle.load_calls.proofs.laws.loads_end_alike.Goals as goal
+
+pub returns : goal.returns
+returns c = record {
+  alone = loads_run_alone;
+  placed = loads_are_placed;
+  written = writes_are_placed;
+  own = loads_keep;
+  ends = loads_end_alike;
+  prints = loads_print_alike;
+  count = loads_are_counted;
+  lines = lines_are_counted;
+}

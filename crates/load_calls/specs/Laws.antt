@@ -1,0 +1,87 @@
+-- The laws of loads, as facts that a contract can name.
+use Rattle.std.specs.Prelude.{◌≡◌, ℕ, List, [], ◌∷◌, ◌++◌, ◌+◌, ◌/◌, ◌≤◌, Bool, false, count_by, length}
+use Rattle.std.specs.List.{AllByRecursion}
+use Rattle.guest_model.specs.declared.call.Call.{Call}
+use Rattle.guest_model.specs.declared.call.Entry.{Entry}
+use Rattle.guest_model.specs.Calls.{Disk, bytes_of, first_sector, reply, sector_count}
+use Rattle.guest_model.specs.History.{History, IsSized, is_flush, replay, sector_at}
+use Rattle.script.specs.declared.form.Line.{Line}
+use Rattle.load_calls.specs.Histories.{EndAlike, Has, HaveSameCalls, IsRising, KeepsToOwn, StandAt, entries_of}
+use Rattle.load_calls.specs.Load.{IsHistoryOf, call_of, entries_from, forms_of, load_lines, one_thread, prepared_disk, sector_size, writes_to}
+use Rattle.load_calls.specs.Printed.{history_text, lines_that, load_text, page_sum, sectors_sum}
+
+-- ---- of guests who keep to sectors of their own
+
+-- what a history leaves in a sector is what the calls of its owner alone leave there
+abbrev pub OwnersDecide : Type 0
+OwnersDecide =
+    (z : ℕ) (owner : ℕ → ℕ) (disk : Disk) (h : History) → AllByRecursion (KeepsToOwn z owner) h →
+    (i : ℕ) → sector_at (replay z disk h) i ≡ sector_at (replay z disk (entries_of (owner i) h)) i
+
+-- a call is told what its guest's own calls before it alone would have it told
+abbrev pub OwnersAreTold : Type 0
+OwnersAreTold =
+    (z : ℕ) (owner : ℕ → ℕ) (disk : Disk) (h : History) (e : Entry) → AllByRecursion (KeepsToOwn z owner) (h ++ e ∷ []) →
+    reply (replay z disk h) e.call ≡ reply (replay z disk (entries_of e.guest h)) e.call
+
+-- however their calls stand between each other, they end alike
+abbrev pub OrdersEndAlike : Type 0
+OrdersEndAlike =
+    (z : ℕ) (owner : ℕ → ℕ) (disk : Disk) (h k : History) → AllByRecursion (KeepsToOwn z owner) k → HaveSameCalls h k → EndAlike z disk h k
+
+-- Where the calls of each guest's lines stand at places that rise, and each place is one of a guest's, it is a history of the lines.
+abbrev pub PlacesDecide : Type 0
+PlacesDecide =
+    (lines : List Line) (h : History) (places : ℕ → List ℕ) → ((g : ℕ) → StandAt h (places g) (entries_from g 1 (forms_of g lines))) →
+    ((g : ℕ) → IsRising (places g)) → ((p : ℕ) → 1 ≤ p → p ≤ length h → (g : ℕ) × Has p (places g)) → IsHistoryOf lines h
+
+-- ---- of a load
+
+-- guest g has the 32,768 sectors from (g - 1) * 32,768 on
+abbrev pub owner_of : ℕ → ℕ
+owner_of i = i / 32768 + 1
+
+-- its calls on one thread are a history of its lines
+abbrev pub LoadsRunAlone : Type 0
+LoadsRunAlone = (seed : ℕ) → IsHistoryOf (load_lines seed) (one_thread seed)
+
+-- the guests of a load keep to their own sectors
+abbrev pub LoadsKeepToOwn : Type 0
+LoadsKeepToOwn = (seed : ℕ) → AllByRecursion (KeepsToOwn sector_size owner_of) (one_thread seed)
+
+-- each call that isn't a flush is of 1 to 16 sectors, all of them on the disk
+abbrev pub IsPlaced : Call → Type 0
+IsPlaced call =
+    is_flush call ≡ false → (1 ≤ sector_count sector_size call) × (sector_count sector_size call ≤ 16) × (first_sector call + sector_count sector_size call ≤ 131072)
+
+abbrev pub LoadsArePlaced : Type 0
+LoadsArePlaced = (seed : ℕ) → AllByRecursion (λ e. IsPlaced e.call) (one_thread seed)
+
+abbrev pub WritesArePlaced : Type 0
+WritesArePlaced = (seed file : ℕ) → AllByRecursion (λ form. IsPlaced (call_of form)) (writes_to seed file)
+
+-- every history of its lines ends as on one thread
+abbrev pub LoadsEndAlike : Type 0
+LoadsEndAlike = (seed : ℕ) (disk : Disk) (h : History) → IsHistoryOf (load_lines seed) h → EndAlike sector_size disk h (one_thread seed)
+
+-- and the same is printed of it
+abbrev pub LoadsPrintAlike : Type 0
+LoadsPrintAlike = (seed : ℕ) (h : History) → IsHistoryOf (load_lines seed) h → history_text (prepared_disk seed) h ≡ load_text seed
+
+-- it has 1,024 calls
+abbrev pub LoadsAreCounted : Type 0
+LoadsAreCounted = (seed : ℕ) (h : History) → IsHistoryOf (load_lines seed) h → length h ≡ 1024
+
+-- its lines are counted as its calls are
+abbrev pub LinesAreCounted : Type 0
+LinesAreCounted = (seed : ℕ) (is : Call → Bool) → lines_that is (load_lines seed) ≡ count_by (λ e. is e.call) (one_thread seed)
+
+-- ---- of what is printed
+
+-- sectors may be summed by their bytes
+abbrev pub PagesAreSectors : Type 0
+PagesAreSectors = (first : ℕ) (sectors : Disk) → IsSized sector_size sectors → page_sum first (bytes_of sectors) ≡ sectors_sum first sectors
+
+-- and in parts
+abbrev pub PagesAddUp : Type 0
+PagesAddUp = (first : ℕ) (a b : Disk) → sectors_sum first (a ++ b) ≡ sectors_sum first a + sectors_sum (first + length a) b

@@ -1,0 +1,33 @@
+//! The laws of loads, each the contract of a function that does nothing.
+
+ghost use Rattle.load_calls.specs.Laws.{LinesAreCounted, LoadsAreCounted, LoadsArePlaced, LoadsEndAlike, LoadsKeepToOwn, LoadsPrintAlike, LoadsRunAlone, OrdersEndAlike, OwnersAreTold, OwnersDecide, PagesAddUp, PagesAreSectors, PlacesDecide, WritesArePlaced};
+
+/// What is so of guests who keep to sectors of their own, however their calls stand between each other.
+pub fn owners_decide()
+    ensures sectors { OwnersDecide }
+    ensures replies { OwnersAreTold }
+    ensures orders { OrdersEndAlike }
+{}
+
+/// Calls that stand at rising places make a history of their lines.
+pub fn places_decide()
+    ensures { PlacesDecide }
+{}
+
+/// What is so of a load, however its guests' calls stand between each other.
+pub fn loads_end_alike()
+    ensures alone { LoadsRunAlone }
+    ensures placed { LoadsArePlaced }
+    ensures written { WritesArePlaced }
+    ensures own { LoadsKeepToOwn }
+    ensures ends { LoadsEndAlike }
+    ensures prints { LoadsPrintAlike }
+    ensures count { LoadsAreCounted }
+    ensures lines { LinesAreCounted }
+{}
+
+/// A disk may be summed page by page.
+pub fn pages_add_up()
+    ensures sectors { PagesAreSectors }
+    ensures pages { PagesAddUp }
+{}
