@@ -101,7 +101,8 @@ fn push_calls(lines: &mut Vec<Line>, seed: u32, guest: u32) -> Result<(), AllocE
     Ok(())
 }
 
-/// The lines that are run over a file of a load, counted from 0, before the next one is made.
+/// The lines that are run over a file of a load before the next one is made: 32 writes and a flush, of guest 1. Files are counted from 0. The
+/// `Err` is want of memory.
 pub fn preparing_lines(alloc: Global, seed: u32, file: u32) -> Result<Script, AllocError>
     requires { file < 4 }
     ensures { IfOk result (λ lines. lines ≡ preparing_lines seed file) }
@@ -115,7 +116,7 @@ pub fn preparing_lines(alloc: Global, seed: u32, file: u32) -> Result<Script, Al
     Ok(List::from_vec(lines))
 }
 
-/// The lines of a load's guests, 256 of each of four.
+/// The lines of a load's guests, 256 of each of four, guest after guest. The `Err` is want of memory.
 pub fn load_lines(alloc: Global, seed: u32) -> Result<Script, AllocError>
     ensures { IfOk result (λ lines. lines ≡ load_lines seed) }
 {

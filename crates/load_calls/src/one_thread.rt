@@ -150,7 +150,7 @@ fn text_behind(alloc: Global, seed: u32, firsts: &mut [u8]) -> Result<String, Al
     lines_text(alloc, counts_of(lines.as_slice()), disk, seen)
 }
 
-/// What a load of this seed prints, by its calls guest after guest.
+/// What a load of this seed prints, by its calls guest after guest. The `Err` is want of memory.
 pub fn one_thread_text(alloc: Global, seed: u32) -> Result<String, AllocError>
     ensures { IfOk result (λ text. string_bytes text ≡ load_text seed) }
 {

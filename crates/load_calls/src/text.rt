@@ -100,7 +100,7 @@ fn push_counts(out: &mut String, counts: Counts) -> Result<(), AllocError>
     write!(out, " trims {trims} reads {reads} flushes {flushes}\n")
 }
 
-/// The three lines of a load with these counts, this sum over its disk and this sum of what was read.
+/// The three lines of a load with these counts, this sum over its disk and this sum of what was read. The `Err` is want of memory.
 pub fn lines_text(alloc: Global, counts: Counts, disk: u64, seen: u64) -> Result<String, AllocError>
     ensures { IfOk result (λ text. string_bytes text ≡ lines_text counts.calls counts.writes counts.trims counts.reads counts.flushes disk seen) }
 {
