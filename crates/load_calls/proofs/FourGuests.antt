@@ -5,6 +5,7 @@ use Rattle.std.proofs.lemmas.Bool.{and_from, and_left, and_parts, and_right, cas
 use Rattle.std.proofs.lemmas.List.{append-nil}
 use Rattle.std.proofs.lemmas.List.Elements.{filter-append}
 use Rattle.guest_model.specs.declared.call.Entry.{Entry}
+use Rattle.guest_model.specs.History.{History}
 use Rattle.script.specs.Grammar.{is_call}
 use Rattle.script.specs.declared.form.Form.{Form}
 use Rattle.script.specs.declared.form.Line.{Line}
@@ -15,15 +16,15 @@ use Rattle.load_calls.proofs.OwnSectors.{own_no, own_yes}
 
 -- ---- four lists, of which a test picks one
 
-is_guest : ℕ → Bool
+pub is_guest : ℕ → Bool
 is_guest g = leb 1 g && leb g 4
 
 -- what a test picks of four lists, one behind the other
-record Picks {X : Type 0} (p : ℕ → X → Bool) (a : ℕ → List X) : Type 0 where
-  same : (g : ℕ) → is_guest g ≡ true → filter (p g) (a g) ≡ a g
-  none : (g k : ℕ) → is_guest k ≡ true → nat_eq k g ≡ false → filter (p g) (a k) ≡ []
+pub record Picks {X : Type 0} (p : ℕ → X → Bool) (a : ℕ → List X) : Type 0 where
+  pub same : (g : ℕ) → is_guest g ≡ true → filter (p g) (a g) ≡ a g
+  pub none : (g k : ℕ) → is_guest k ≡ true → nat_eq k g ≡ false → filter (p g) (a k) ≡ []
 
-abbrev four : {X : Type 0} → (ℕ → List X) → List X
+abbrev pub four : {X : Type 0} → (ℕ → List X) → List X
 four a = a 1 ++ a 2 ++ a 3 ++ a 4
 
 joined : {X : Type 0} (f : X → Bool) (a b c d p q r s : List X) → filter f a ≡ p → filter f b ≡ q → filter f c ≡ r → filter f d ≡ s → filter f (a ++ b ++ c ++ d) ≡ p ++ q ++ r ++ s
@@ -48,10 +49,10 @@ no_guest g a b c d = elim (cases_lt g 1) [
   ] in more))
 ]
 
-abbrev IsPicked : {X : Type 0} → (ℕ → X → Bool) → (ℕ → List X) → ℕ → Type 0
+abbrev pub IsPicked : {X : Type 0} → (ℕ → X → Bool) → (ℕ → List X) → ℕ → Type 0
 IsPicked p a g = filter (p g) (four a) ≡ cond (is_guest g) (a g) []
 
-picked : {X : Type 0} (p : ℕ → X → Bool) (a : ℕ → List X) → Picks p a → (g : ℕ) → IsPicked p a g
+pub picked : {X : Type 0} (p : ℕ → X → Bool) (a : ℕ → List X) → Picks p a → (g : ℕ) → IsPicked p a g
 unfolding is_guest
 picked {X} p a h g = elim (cases_eq g 1) [
   | inl one ↦ subst (IsPicked p a) (sym one) (joined (p 1) (a 1) (a 2) (a 3) (a 4) (a 1) [] [] [] (h.same 1 refl) (h.none 1 2 refl refl) (h.none 1 3 refl refl) (h.none 1 4 refl refl)
@@ -135,3 +136,7 @@ entries_if false g forms = refl
 
 pub loads_run_alone : (seed : ℕ) → IsHistoryOf (load_lines seed) (one_thread seed)
 loads_run_alone seed g = entries_picked seed g ∙ sym (ap (entries_from g 1) (forms_picked seed g) ∙ entries_if (is_guest g) g (calls_of seed g))
+
+-- who is none of the four has no call
+pub no_entries : (seed g : ℕ) (h : History) → IsHistoryOf (load_lines seed) h → is_guest g ≡ false → entries_of g h ≡ []
+no_entries seed g h is none = is g ∙ ap (entries_from g 1) (forms_picked seed g ∙ cond-false (is_guest g) (calls_of seed g) [] none)

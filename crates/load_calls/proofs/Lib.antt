@@ -4,7 +4,8 @@ mod Keyed
 mod Loads
 mod OwnCalls
 mod OwnSectors
+mod Pages
 mod Placed
 mod Prepared
-pub mod Rows
-pub mod Pages
+mod Rows
+mod Seen

@@ -105,7 +105,7 @@ count_lines is g number (form ∷ forms) =
     ∙ ap (λ n. cond (is (call_of form)) 1 0 + n) (count_lines is g (number + 1) forms)
     ∙ sym (sum_by-cons (λ (e : Entry). cond (is e.call) 1 0) e (entries_from g (number + 1) forms))
 
-four_lists : {X : Type 0} (f : X → ℕ) (a b c d : List X) → sum_by f (a ++ b ++ c ++ d) ≡ sum_by f a + sum_by f b + sum_by f c + sum_by f d
+pub four_lists : {X : Type 0} (f : X → ℕ) (a b c d : List X) → sum_by f (a ++ b ++ c ++ d) ≡ sum_by f a + sum_by f b + sum_by f c + sum_by f d
 four_lists f a b c d = sum_by-append f (a ++ b ++ c) d ∙ ap (λ n. n + sum_by f d) (sum_by-append f (a ++ b) c ∙ ap (λ n. n + sum_by f c) (sum_by-append f a b))
 
 pub lines_are_counted : (seed : ℕ) (is : Call → Bool) → lines_that is (load_lines seed) ≡ count_by (λ e. is e.call) (one_thread seed)

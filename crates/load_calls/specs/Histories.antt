@@ -1,5 +1,5 @@
 -- Histories of the same calls of several guests, who keep to sectors of their own (profile).
-use Rattle.std.specs.Prelude.{◌≡◌, ◌⊎◌, ⊤, ℕ, List, [], ◌∷◌, ◌++◌, ◌+◌, ◌<◌, ◌==◌, ◌&&◌, Bool, true, nat_le, nat_lt, filter, length, IsPermutation}
+use Rattle.std.specs.Prelude.{◌≡◌, ◌⊎◌, ⊤, ℕ, List, [], ◌∷◌, ◌++◌, ◌+◌, ◌<◌, ◌≤◌, ◌==◌, ◌&&◌, Bool, true, nat_le, nat_lt, filter, length, IsPermutation}
 use Rattle.std.specs.List.{AllByRecursion}
 use Rattle.guest_model.specs.declared.call.Call.{Call}
 use Rattle.guest_model.specs.declared.call.Entry.{Entry}
@@ -45,18 +45,24 @@ pub record EndAlike (z : ℕ) (disk : Disk) (h k : History) : Type 0 where
 
 -- ---- by places, which are counted from 1
 
-pub record StandsAt (h : History) (p : ℕ) (e : Entry) : Type 0 where
-  pub before : History
-  pub behind : History
-  pub is : h ≡ before ++ e ∷ behind
+-- x stands at place p of a list
+pub record StandsAt {X : Type 0} (xs : List X) (p : ℕ) (x : X) : Type 0 where
+  pub before : List X
+  pub behind : List X
+  pub is : xs ≡ before ++ x ∷ behind
   pub place : p ≡ length before + 1
 
--- these entries stand at these places, one at each
-abbrev pub StandAt : History → List ℕ → History → Type 0
-StandAt h [] [] = ⊤
-StandAt h [] (e ∷ entries) = ⊥
-StandAt h (p ∷ places) [] = ⊥
-StandAt h (p ∷ places) (e ∷ entries) = StandsAt h p e × StandAt h places entries
+-- an entry stands at place p of a history, and is told its reply there
+pub record IsToldAt (z : ℕ) (disk : Disk) (h : History) (p : ℕ) (t : Told) : Type 0 where
+  pub stands : StandsAt h p t.entry
+  pub told : t.told ≡ reply (replay z disk stands.before) t.entry.call
+
+-- these stand at these places, one at each
+abbrev pub EachAt : {X : Type 0} → (ℕ → X → Type 0) → List ℕ → List X → Type 0
+EachAt P [] [] = ⊤
+EachAt P [] (x ∷ xs) = ⊥
+EachAt P (p ∷ places) [] = ⊥
+EachAt P (p ∷ places) (x ∷ xs) = P p x × EachAt P places xs
 
 -- each is above all before it
 abbrev pub IsRising : List ℕ → Type 0
@@ -66,3 +72,8 @@ IsRising (p ∷ places) = AllByRecursion (λ q. p < q) places × IsRising places
 abbrev pub Has : ℕ → List ℕ → Type 0
 Has p [] = ⊥
 Has p (q ∷ places) = (p ≡ q) ⊎ Has p places
+
+-- of each guest the places rise, and each place of a history of this length is one of a guest's
+pub record AreShared (count : ℕ) (places : ℕ → List ℕ) : Type 0 where
+  pub rising : (g : ℕ) → IsRising (places g)
+  pub each : (p : ℕ) → 1 ≤ p → p ≤ count → (g : ℕ) × Has p (places g)

@@ -1,14 +1,14 @@
 -- The laws of loads, as facts that a contract can name.
-use Rattle.std.specs.Prelude.{◌≡◌, ℕ, List, [], ◌∷◌, ◌++◌, ◌+◌, ◌/◌, ◌≤◌, Bool, false, count_by, length}
+use Rattle.std.specs.Prelude.{◌≡◌, ℕ, List, [], ◌∷◌, ◌++◌, ◌+◌, ◌/◌, ◌≤◌, Bool, false, count_by, length, sum_by}
 use Rattle.std.specs.List.{AllByRecursion}
 use Rattle.guest_model.specs.declared.call.Call.{Call}
 use Rattle.guest_model.specs.declared.call.Entry.{Entry}
 use Rattle.guest_model.specs.Calls.{Disk, bytes_of, first_sector, reply, sector_count}
 use Rattle.guest_model.specs.History.{History, IsSized, is_flush, replay, sector_at}
 use Rattle.script.specs.declared.form.Line.{Line}
-use Rattle.load_calls.specs.Histories.{EndAlike, Has, HaveSameCalls, IsRising, KeepsToOwn, StandAt, entries_of}
+use Rattle.load_calls.specs.Histories.{AreShared, EachAt, EndAlike, HaveSameCalls, IsToldAt, KeepsToOwn, StandsAt, Told, entries_of, told_in, told_to}
 use Rattle.load_calls.specs.Load.{IsHistoryOf, call_of, entries_from, forms_of, load_lines, one_thread, prepared_disk, sector_size, writes_to}
-use Rattle.load_calls.specs.Printed.{history_text, lines_that, load_text, page_sum, sectors_sum}
+use Rattle.load_calls.specs.Printed.{history_text, lines_that, load_text, page_sum, sectors_sum, seen_in, seen_sum}
 
 -- ---- of guests who keep to sectors of their own
 
@@ -29,11 +29,18 @@ abbrev pub OrdersEndAlike : Type 0
 OrdersEndAlike =
     (z : ℕ) (owner : ℕ → ℕ) (disk : Disk) (h k : History) → AllByRecursion (KeepsToOwn z owner) k → HaveSameCalls h k → EndAlike z disk h k
 
--- Where the calls of each guest's lines stand at places that rise, and each place is one of a guest's, it is a history of the lines.
+-- Where the calls of each guest's lines stand at the guest's places, and the places are shared out, it is a history of the lines.
 abbrev pub PlacesDecide : Type 0
 PlacesDecide =
-    (lines : List Line) (h : History) (places : ℕ → List ℕ) → ((g : ℕ) → StandAt h (places g) (entries_from g 1 (forms_of g lines))) →
-    ((g : ℕ) → IsRising (places g)) → ((p : ℕ) → 1 ≤ p → p ≤ length h → (g : ℕ) × Has p (places g)) → IsHistoryOf lines h
+    (lines : List Line) (h : History) (places : ℕ → List ℕ) → AreShared (length h) places →
+    ((g : ℕ) → EachAt (StandsAt h) (places g) (entries_from g 1 (forms_of g lines))) → IsHistoryOf lines h
+
+-- And what each guest was told at its places is what the history tells it.
+abbrev pub PlacesTell : Type 0
+PlacesTell =
+    (z : ℕ) (disk : Disk) (h : History) (places : ℕ → List ℕ) (told : ℕ → List Told) → AreShared (length h) places →
+    ((g : ℕ) → AllByRecursion (λ t. t.entry.guest ≡ g) (told g)) → ((g : ℕ) → EachAt (IsToldAt z disk h) (places g) (told g)) →
+    (g : ℕ) → told_to g (told_in z disk h) ≡ told g
 
 -- ---- of a load
 
@@ -67,6 +74,13 @@ LoadsEndAlike = (seed : ℕ) (disk : Disk) (h : History) → IsHistoryOf (load_l
 -- and the same is printed of it
 abbrev pub LoadsPrintAlike : Type 0
 LoadsPrintAlike = (seed : ℕ) (h : History) → IsHistoryOf (load_lines seed) h → history_text (prepared_disk seed) h ≡ load_text seed
+
+-- what its reads saw is what each guest's saw
+abbrev pub GuestsSee : Type 0
+GuestsSee =
+    (seed : ℕ) (disk : Disk) (h : History) → IsHistoryOf (load_lines seed) h →
+    let seen_by : ℕ → ℕ = λ g. sum_by (λ t. seen_in t.told) (told_to g (told_in sector_size disk h)) in
+    seen_sum disk h ≡ seen_by 1 + seen_by 2 + seen_by 3 + seen_by 4
 
 -- it has 1,024 calls
 abbrev pub LoadsAreCounted : Type 0

@@ -1,6 +1,6 @@
 //! The laws of loads, each the contract of a function that does nothing.
 
-ghost use Rattle.load_calls.specs.Laws.{LinesAreCounted, LoadsAreCounted, LoadsArePlaced, LoadsEndAlike, LoadsKeepToOwn, LoadsPrintAlike, LoadsRunAlone, OrdersEndAlike, OwnersAreTold, OwnersDecide, PagesAddUp, PagesAreSectors, PlacesDecide, WritesArePlaced};
+ghost use Rattle.load_calls.specs.Laws.{GuestsSee, LinesAreCounted, LoadsAreCounted, LoadsArePlaced, LoadsEndAlike, LoadsKeepToOwn, LoadsPrintAlike, LoadsRunAlone, OrdersEndAlike, OwnersAreTold, OwnersDecide, PagesAddUp, PagesAreSectors, PlacesDecide, PlacesTell, WritesArePlaced};
 
 /// What is so of guests who keep to sectors of their own, however their calls stand between each other.
 pub fn owners_decide()
@@ -9,9 +9,10 @@ pub fn owners_decide()
     ensures orders { OrdersEndAlike }
 {}
 
-/// Calls that stand at rising places make a history of their lines.
+/// Calls that stand at their guests' places make a history of their lines, and what they are told there is what it tells them.
 pub fn places_decide()
-    ensures { PlacesDecide }
+    ensures history { PlacesDecide }
+    ensures told { PlacesTell }
 {}
 
 /// What is so of a load, however its guests' calls stand between each other.
@@ -22,6 +23,7 @@ pub fn loads_end_alike()
     ensures own { LoadsKeepToOwn }
     ensures ends { LoadsEndAlike }
     ensures prints { LoadsPrintAlike }
+    ensures seen { GuestsSee }
     ensures count { LoadsAreCounted }
     ensures lines { LinesAreCounted }
 {}

@@ -1,5 +1,5 @@
-use Rattle.load_calls.proofs.Placed.{places_decide}
+use Rattle.load_calls.proofs.Placed.{places_decide, places_tell}
 use Rattle.load_calls.proofs.laws.places_decide.Goals as goal
 
 pub returns : goal.returns
-returns c = places_decide
+returns c = record { history = places_decide; told = places_tell }
