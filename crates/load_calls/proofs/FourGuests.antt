@@ -16,7 +16,7 @@ use Rattle.load_calls.proofs.OwnSectors.{own_no, own_yes}
 
 -- ---- four lists, of which a test picks one
 
-pub is_guest : ℕ → Bool
+abbrev pub is_guest : ℕ → Bool
 is_guest g = leb 1 g && leb g 4
 
 -- what a test picks of four lists, one behind the other
@@ -37,7 +37,6 @@ joined f a b c d p q r s h i j k =
     ∙ ap (λ l. p ++ q ++ r ++ l) k
 
 no_guest : (g : ℕ) → (g ≡ 1 → ⊥) → (g ≡ 2 → ⊥) → (g ≡ 3 → ⊥) → (g ≡ 4 → ⊥) → is_guest g ≡ false
-unfolding is_guest
 no_guest g a b c d = elim (cases_lt g 1) [
   | inl none ↦ and_left (leb 1 g) (leb g 4) (lt-leb 1 g none)
   | inr some ↦ and_right (leb 1 g) (leb g 4) (lt-leb g 4 (let more : 4 < g = elim (cases_lt 4 g) [
@@ -53,7 +52,6 @@ abbrev pub IsPicked : {X : Type 0} → (ℕ → X → Bool) → (ℕ → List X)
 IsPicked p a g = filter (p g) (four a) ≡ cond (is_guest g) (a g) []
 
 pub picked : {X : Type 0} (p : ℕ → X → Bool) (a : ℕ → List X) → Picks p a → (g : ℕ) → IsPicked p a g
-unfolding is_guest
 picked {X} p a h g = elim (cases_eq g 1) [
   | inl one ↦ subst (IsPicked p a) (sym one) (joined (p 1) (a 1) (a 2) (a 3) (a 4) (a 1) [] [] [] (h.same 1 refl) (h.none 1 2 refl refl) (h.none 1 3 refl refl) (h.none 1 4 refl refl)
       ∙ append-nil (a 1 ++ [] ++ []) ∙ append-nil (a 1 ++ []) ∙ append-nil (a 1))
@@ -119,10 +117,9 @@ forms_if true g forms = forms_same g forms
 forms_if false g forms = refl
 
 guest_bounds : (g : ℕ) → is_guest g ≡ true → (1 ≤ g) × (g ≤ 4)
-unfolding is_guest
 guest_bounds g is = let parts = and_parts (leb 1 g) (leb g 4) is in (leb-true 1 g parts.0, leb-true g 4 parts.1)
 
-forms_picked : (seed g : ℕ) → forms_of g (load_lines seed) ≡ cond (is_guest g) (calls_of seed g) []
+pub forms_picked : (seed g : ℕ) → forms_of g (load_lines seed) ≡ cond (is_guest g) (calls_of seed g) []
 forms_picked seed g =
     ap (map (λ (l : Line). l.form)) (picked is_line_of (λ g. lines_of g (calls_of seed g)) (record {
       same = λ g is. let bounds = guest_bounds g is in line_same g (calls_of seed g) (guest_forms seed g bounds.0 bounds.1);

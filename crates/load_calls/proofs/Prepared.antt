@@ -1,5 +1,6 @@
 -- The disk that a load's guests find, and what is printed behind their calls.
-use Rattle.std.proofs.Common.{◌≡◌, ℕ, zero, suc, ◌+◌, ◌*◌, ◌^◌, ◌<◌, ◌≤◌, List, [], ◌∷◌, ◌++◌, length, map, get_or, replicate, refl, sym, ap, ◌∙◌, subst, arith}
+use Rattle.std.proofs.Common.{◌≡◌, ℕ, zero, suc, ◌+◌, ◌-◌, ◌*◌, ◌^◌, ◌<◌, ◌≤◌, List, [], ◌∷◌, ◌++◌, length, map, get_or, replicate, refl, sym, ap, ◌∙◌, subst, arith}
+use Rattle.std.specs.List.{AllByRecursion}
 use Rattle.std.proofs.lemmas.List.{get_or-replicate, length-append, length-map, length-replicate, map-append}
 use Rattle.std.proofs.lemmas.List.Elements.{All-from_get_or}
 use Rattle.std.proofs.lemmas.List.FromFn.{length-map-range_with_len}
@@ -12,9 +13,11 @@ use Rattle.script.specs.declared.form.Form.{Form}
 use Rattle.script.specs.declared.form.Line.{Line}
 use Rattle.load_calls.specs.declared.text.Counts.{Counts}
 use Rattle.load_calls.specs.Histories.{Told, told_in}
-use Rattle.load_calls.specs.Load.{call_of, calls_of, drawn_at, entries_from, forms_from, guest_history, lines_of, load_lines, new_disk, one_thread, prepared_disk, preparing_lines, with_writes, write_by, writes_to, zero_sectors}
+use Rattle.load_calls.specs.Laws.{HasLines}
+use Rattle.load_calls.specs.Load.{call_by, call_of, calls_of, drawn_at, entries_from, forms_from, guest_history, lines_of, load_lines, new_disk, one_thread, prepared_disk, preparing_lines, with_writes, write_by, writes_to, zero_sectors}
 use Rattle.load_calls.specs.OneThread.{AreFirsts, Leaves, disk_behind, firsts_of, seen_behind}
 use Rattle.load_calls.specs.Printed.{AreCounted, disk_sum, is_read, is_trim, is_write, lines_text, load_text, seen_in, seen_sum}
+use Rattle.load_calls.proofs.FourGuests.{forms_picked}
 use Rattle.load_calls.proofs.Loads.{length_load, lines_are_counted, same_lines}
 
 -- ---- a new disk
@@ -85,11 +88,14 @@ same_load seed =
 
 -- ---- before the guests
 
-pub few_preparing : (seed file : ℕ) → length (preparing_lines seed file) ≤ 2 ^ 20
+length_preparing : (seed file : ℕ) → length (preparing_lines seed file) ≡ 33
 unfolding forms_from
-few_preparing seed file =
+length_preparing seed file =
     let count : length (writes_to seed file) ≡ 32 = length-map-range_with_len (λ k. drawn_at write_by seed k) (32 * file) 32 in
     simp (length-map, length-append) (omega (arith, count))
+
+pub few_preparing : (seed file : ℕ) → length (preparing_lines seed file) ≤ 2 ^ 20
+few_preparing seed file = omega (arith, length_preparing seed file)
 
 pub with_writes_left : (seed file : ℕ) (lines : List Line) (firsts : List ℕ) (seen : ℕ) (disk : Disk) → lines ≡ preparing_lines seed file → Leaves lines firsts seen disk → AreFirsts firsts (with_writes seed file disk)
 with_writes_left seed file lines firsts seen disk is left =
@@ -124,3 +130,29 @@ text_is seed counts run counted before behind disk seen ran count prepared are l
     (subst (λ l. AreCounted l counts) count are)
     (subst (λ l. Leaves l behind seen (prepared_disk seed)) ran (left (prepared_disk seed) prepared))
     sum
+
+-- ---- how many lines there are, and whose
+
+length_calls : (seed g : ℕ) → length (calls_of seed g) ≡ 256
+unfolding forms_from
+length_calls seed g = length-map-range_with_len (λ k. drawn_at (call_by g) seed k) (128 + 256 * (g - 1)) 256
+
+all_lines : (P : Line → Type 0) (a b : List Line) → AllByRecursion P a → AllByRecursion P b → AllByRecursion P (a ++ b)
+all_lines P [] b p q = q
+all_lines P (l ∷ a) b p q = (p.0, all_lines P a b p.1 q)
+
+guests_of : (g : ℕ) (forms : List Form) → 1 ≤ g → g ≤ 4 → AllByRecursion (λ (l : Line). (1 ≤ l.guest) × (l.guest ≤ 4)) (lines_of g forms)
+guests_of g [] some few = tt
+guests_of g (form ∷ forms) some few = ((some, few), guests_of g forms some few)
+
+pub loads_have_lines : (seed : ℕ) → HasLines seed
+loads_have_lines seed = record {
+  forms = forms_picked seed;
+  each = length_calls seed;
+  guests =
+      let P : Line → Type 0 = λ l. (1 ≤ l.guest) × (l.guest ≤ 4) in
+      all_lines P _ _ (all_lines P _ _ (all_lines P _ _ (guests_of 1 (calls_of seed 1) (omega arith) (omega arith)) (guests_of 2 (calls_of seed 2) (omega arith) (omega arith)))
+      (guests_of 3 (calls_of seed 3) (omega arith) (omega arith))) (guests_of 4 (calls_of seed 4) (omega arith) (omega arith));
+  all = length_lines seed ∙ length_load seed;
+  preparing = length_preparing seed;
+}

@@ -1,5 +1,5 @@
 -- The laws of loads, as facts that a contract can name.
-use Rattle.std.specs.Prelude.{◌≡◌, ℕ, List, [], ◌∷◌, ◌++◌, ◌+◌, ◌/◌, ◌≤◌, Bool, false, count_by, length, sum_by}
+use Rattle.std.specs.Prelude.{◌≡◌, ℕ, List, [], ◌∷◌, ◌++◌, ◌+◌, ◌/◌, ◌≤◌, ◌&&◌, Bool, false, count_by, if◌then◌else◌, length, nat_le, sum_by}
 use Rattle.std.specs.List.{AllByRecursion}
 use Rattle.guest_model.specs.declared.call.Call.{Call}
 use Rattle.guest_model.specs.declared.call.Entry.{Entry}
@@ -7,7 +7,7 @@ use Rattle.guest_model.specs.Calls.{Disk, bytes_of, first_sector, reply, sector_
 use Rattle.guest_model.specs.History.{History, IsSized, is_flush, replay, sector_at}
 use Rattle.script.specs.declared.form.Line.{Line}
 use Rattle.load_calls.specs.Histories.{AreShared, EachAt, EndAlike, HaveSameCalls, IsToldAt, KeepsToOwn, StandsAt, Told, entries_of, told_in, told_to}
-use Rattle.load_calls.specs.Load.{IsHistoryOf, call_of, entries_from, forms_of, load_lines, one_thread, prepared_disk, sector_size, writes_to}
+use Rattle.load_calls.specs.Load.{IsHistoryOf, call_of, calls_of, entries_from, forms_of, load_lines, one_thread, prepared_disk, preparing_lines, sector_size, writes_to}
 use Rattle.load_calls.specs.Printed.{history_text, lines_that, load_text, page_sum, sectors_sum, seen_in, seen_sum}
 
 -- ---- of guests who keep to sectors of their own
@@ -47,6 +47,17 @@ PlacesTell =
 -- guest g has the 32,768 sectors from (g - 1) * 32,768 on
 abbrev pub owner_of : ℕ → ℕ
 owner_of i = i / 32768 + 1
+
+-- the lines of a load: 256 of each of four guests, and 33 for each file before them
+pub record HasLines (seed : ℕ) : Type 0 where
+  pub forms : (guest : ℕ) → forms_of guest (load_lines seed) ≡ (if nat_le 1 guest && nat_le guest 4 then calls_of seed guest else [])
+  pub each : (guest : ℕ) → length (calls_of seed guest) ≡ 256
+  pub guests : AllByRecursion (λ l. (1 ≤ l.guest) × (l.guest ≤ 4)) (load_lines seed)
+  pub all : length (load_lines seed) ≡ 1024
+  pub preparing : (file : ℕ) → length (preparing_lines seed file) ≡ 33
+
+abbrev pub LoadsHaveLines : Type 0
+LoadsHaveLines = (seed : ℕ) → HasLines seed
 
 -- its calls on one thread are a history of its lines
 abbrev pub LoadsRunAlone : Type 0

@@ -1,6 +1,6 @@
 //! The laws of loads, each the contract of a function that does nothing.
 
-ghost use Rattle.load_calls.specs.Laws.{GuestsSee, LinesAreCounted, LoadsAreCounted, LoadsArePlaced, LoadsEndAlike, LoadsKeepToOwn, LoadsPrintAlike, LoadsRunAlone, OrdersEndAlike, OwnersAreTold, OwnersDecide, PagesAddUp, PagesAreSectors, PlacesDecide, PlacesTell, WritesArePlaced};
+ghost use Rattle.load_calls.specs.Laws.{GuestsSee, LinesAreCounted, LoadsAreCounted, LoadsArePlaced, LoadsEndAlike, LoadsHaveLines, LoadsKeepToOwn, LoadsPrintAlike, LoadsRunAlone, OrdersEndAlike, OwnersAreTold, OwnersDecide, PagesAddUp, PagesAreSectors, PlacesDecide, PlacesTell, WritesArePlaced};
 
 /// What is so of guests who keep to sectors of their own, however their calls stand between each other.
 pub fn owners_decide()
@@ -17,6 +17,7 @@ pub fn places_decide()
 
 /// What is so of a load, however its guests' calls stand between each other.
 pub fn loads_end_alike()
+    ensures made { LoadsHaveLines }
     ensures alone { LoadsRunAlone }
     ensures placed { LoadsArePlaced }
     ensures written { WritesArePlaced }
