@@ -61,3 +61,4 @@ pub mod SealedServing
 pub mod SealedReady
 pub mod SealedSteps
 pub mod SealedReaders
+pub mod OfSource

@@ -140,13 +140,17 @@ number_in : (a : List FileLayer) (x : FileLayer) (b : List FileLayer) → number
 number_in [] x b = refl
 number_in (l ∷ a) x b = number_in a x b
 
+-- the source's file has the number of the one at its place
+pub number_of_source : (layers : Layers) (u : Underway) (x : FileLayer) → layers.merge ≡ Some u → IsAt layers.below.items u.source x → number_of x ≡ source_number layers
+number_of_source layers u x merge_is at =
+    number_in at.before x at.behind ∙ ap (λ n. get_or (file_numbers (at.before ++ x ∷ at.behind)) n 0) at.long ∙ ap (λ (c : List FileLayer). get_or (file_numbers c) u.source 0) (sym at.parts)
+    ∙ ap (number_at_source layers) (sym merge_is)
+
 -- a read that fails is one of its file
 whose : (layers : Layers) (u : Underway) (x : FileLayer) (before after : Disk) (answer : Result (Unit {0}) StoreFault) → layers.merge ≡ Some u → IsAt layers.below.items u.source x → IfErr answer (ReadFailed (number_of x) before after)
     → IfErr answer (λ fault. fault.file ≡ source_number layers)
 whose layers u x before after (Ok done) merge_is at failed = tt
-whose layers u x before after (Err fault) merge_is at failed =
-    failed.of_file ∙ number_in at.before x at.behind ∙ ap (λ n. get_or (file_numbers (at.before ++ x ∷ at.behind)) n 0) at.long ∙ ap (λ (c : List FileLayer). get_or (file_numbers c) u.source 0) (sym at.parts)
-    ∙ ap (number_at_source layers) (sym merge_is)
+whose layers u x before after (Err fault) merge_is at failed = failed.of_file ∙ number_of_source layers u x merge_is at
 
 -- ---- what is taken of the source
 
@@ -183,7 +187,7 @@ pub some_leaf : (o : Option Layer) → is_some o ≡ true → (leaf : Layer) × 
 some_leaf None some = absurd (false_true some)
 some_leaf (Some leaf) some = (leaf, refl)
 
-takes : (layers : Layers) (u : Underway) (x : FileLayer) (disk : Disk) (answer : Result (Unit {0}) StoreFault) (piece : Piece) → layers.merge ≡ Some u → IsAt layers.below.items u.source x → AreReady layers disk → piece.stamp ≡ 0
+pub takes : (layers : Layers) (u : Underway) (x : FileLayer) (disk : Disk) (answer : Result (Unit {0}) StoreFault) (piece : Piece) → layers.merge ≡ Some u → IsAt layers.below.items u.source x → AreReady layers disk → piece.stamp ≡ 0
     → OnOk answer ((file : Placed) → WhereTold disk.told (λ trace. HasFile x trace file → IsTaken layers.geometry.sector file.member.layer piece)) → OnOk answer (Takes layers disk piece)
 takes layers u x disk (Err fault) piece merge_is at ready stamp taken = tt
 takes layers u x disk (Ok done) piece merge_is at ready stamp taken = λ trace told v serving.
@@ -216,6 +220,17 @@ below_takes old new u x next before after answer piece stripe is ready at g l m 
 read_at : (a : List FileLayer) (l : ReadLayer) (b : List FileLayer) → is_session_at (a ++ Read l ∷ b) (length a) ≡ false
 read_at [] l b = refl
 read_at (x ∷ a) l b = read_at a l b
+
+session_at : (a : List FileLayer) (l : Layer) (b : List FileLayer) → is_session_at (a ++ Session l ∷ b) (length a) ≡ true
+session_at [] l b = refl
+session_at (x ∷ a) l b = session_at a l b
+
+pub at_read : (layers : List FileLayer) (place : ℕ) (l : ReadLayer) → IsAt layers place (Read l) → is_session_at layers place ≡ false
+at_read layers place l at = ap (λ (c : List FileLayer). is_session_at c place) at.parts ∙ ap (λ (n : ℕ). is_session_at (at.before ++ Read l ∷ at.behind) n) (sym at.long) ∙ read_at at.before l at.behind
+
+pub at_session : (layers : List FileLayer) (place : ℕ) (x : FileLayer) → IsAt layers place x → ((l : ReadLayer) → x ≡ Read l → ⊥) → is_session_at layers place ≡ true
+at_session layers place (Read l) at not = absurd (not l refl)
+at_session layers place (Session l) at not = ap (λ (c : List FileLayer). is_session_at c place) at.parts ∙ ap (λ (n : ℕ). is_session_at (at.before ++ Session l ∷ at.behind) n) (sym at.long) ∙ session_at at.before l at.behind
 
 pub never_read : (layers : List FileLayer) (place : ℕ) (l : ReadLayer) → IsAt layers place (Read l) → is_session_at layers place ≡ true → ⊥
 never_read layers place l at session =

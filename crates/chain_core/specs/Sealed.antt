@@ -1,21 +1,31 @@
 -- Sealing the files that a session only reads.
-use Rattle.std.specs.Prelude.{◌≡◌, ◌≢◌, ◌<◌, ℕ, true, is_some, All, List, [], ◌∷◌, ◌++◌, length, map, Some}
+use Rattle.std.specs.Prelude.{◌≡◌, ◌≢◌, ◌<◌, ℕ, Bool, true, false, not, is_some, All, List, [], ◌∷◌, ◌++◌, length, map, Option, None, Some}
 use Rattle.std.specs.List.{AllByRecursion}
 use Rattle.store_model.specs.Disk.{Disk, ReadFailed, Sealed, WhereTold, changed, reader_of}
 use Rattle.store_model.specs.File.{File, Seal, is_synced, seen, with_op}
 use Rattle.store_model.specs.Trace.{Trace, file_of}
 use Rattle.store_model.specs.declared.fault.SealFault.{SealFault}
 use Rattle.store_model.specs.declared.fault.SealFault.TheVariants.{NoRoom, Store}
+use Rattle.layer_session.specs.FileLayers.{table_parts}
 use Rattle.layer_session.specs.declared.file_layer.FileLayer.{FileLayer}
 use Rattle.layer_session.specs.declared.file_layer.FileLayer.TheVariants.{Read, Session}
 use Rattle.read_plan.specs.Reading.{is_among}
 use Rattle.sealed_layer.specs.Planned.{files_in}
+use Rattle.sealed_layer.specs.Sealed.{CanReadSealed, HoldsSealed}
 use Rattle.chain_model.specs.Images.{Placed}
+use Rattle.chain_model.specs.Layers.{Layer as SectorLayer}
+use Rattle.chain_model.specs.Merges.{Piece}
+use Rattle.chain_model.specs.Stripes.{stripe_count}
+use Rattle.merge_core.specs.Pieces.{IsTaken}
+use Rattle.chain_core.specs.Copying.{Takes, source_number}
 use Rattle.chain_core.specs.Finished.{IsSucceeded, succeeded_by}
 use Rattle.chain_core.specs.Laws.{AllLeftBehind}
 use Rattle.chain_core.specs.Planned.{AreReadersOf}
+use Rattle.chain_core.specs.Sessions.{is_session_at}
 use Rattle.chain_core.specs.States.{AreWritten, IsServing, State}
 use Rattle.chain_core.specs.declared.layers.Layers.{Layers}
+use Rattle.chain_core.specs.declared.layers.Underway.{Underway}
+use Rattle.chain_core.specs.declared.sealing.SealedSource.{SealedSource}
 
 -- ---- which files
 
@@ -91,6 +101,28 @@ SessionsWriteTheirs = (layers : Layers) (v : State) (trace : Trace) → IsServin
 -- and nothing of the others is unsynced.
 abbrev pub ReadFilesAreSynced : Type 0
 ReadFilesAreSynced = (layers : Layers) (v : State) (trace : Trace) → IsServing layers v trace → AreWritten v.writes layers.below.items → AreSynced (read_numbers layers.below.items) trace
+
+-- ---- the source of a merge
+
+-- a merge is under way whose source isn't the leaf, and is only read
+abbrev pub reads_in : List FileLayer → Option Underway → Bool
+reads_in below None = false
+reads_in below (Some u) = not (is_session_at below u.source)
+
+abbrev pub reads_source : Layers → Bool
+reads_source layers = reads_in layers.below.items layers.merge
+
+-- What readers read the source of a merge by, which isn't the leaf: its file, and a layer of the chain's disk. A reader that tells what the file has
+-- can be read by it; and what is taken of what it finds there is a true piece, in each state that the session serves.
+pub record IsSealedSource (layers : Layers) (disk : Disk) (s : SealedSource) : Type 0 where
+  pub file : s.file ≡ source_number layers
+  pub geometry : s.geometry ≡ layers.geometry
+  pub stripes : s.stripes ≡ stripe_count layers.geometry.sector layers.geometry.sectors
+  pub alone : layers.retiring ≡ None
+  pub sector : (table_parts s.layer).sector ≡ layers.geometry.sector
+  pub sectors : (table_parts s.layer).sectors ≡ layers.geometry.sectors
+  pub can : (reader : Sealed) → reader.content ≡ (reader_of s.file disk).content → CanReadSealed s.layer reader
+  pub finds : (piece : Piece) → piece.stamp ≡ 0 → WhereTold disk.told (λ trace. (layer : SectorLayer) → HoldsSealed s.layer (files_in trace s.file) layer → IsTaken layers.geometry.sector layer piece) → Takes layers disk piece
 
 -- ---- readers
 

@@ -19,18 +19,20 @@ ghost use Rattle.merge_plan.specs.Attached.{CanStart};
 ghost use Rattle.chain_core.specs.LeafStarting.{HasStartedLeafMerge, RefusesLeafMerge};
 ghost use Rattle.chain_core.specs.MergeStarting.{HasStartedMerge, RefusesMerge};
 ghost use Rattle.chain_core.specs.Starting.{EachOpensAlike, HasStarted, IsOfDisk, LeavesOthersFrom, RefusesStart};
-ghost use Rattle.chain_core.specs.Sealed.{AreSynced, GoesOnSealed, ReadForSession, StopsSealing, read_numbers, readers_of, sealed_in};
+ghost use Rattle.chain_core.specs.Sealed.{AreSynced, GoesOnSealed, IsSealedSource, ReadForSession, StopsSealing, read_numbers, readers_of, reads_source, sealed_in};
 ghost use Rattle.chain_core.specs.Sessions.{AreReady, IsCounted, IsLow, IsSound, KeepsMerge, kept_marks, leaf_number, seen};
 
 use crate::answer::Answer;
 use crate::layers::{Layers, changed};
 use crate::merge_start::MergeStartRefusal;
+use crate::sealing::SealedSource;
 use crate::starting::{Mode, StartRefusal};
 use guest_model::{Call, CallRef, Caller, ChainRefusal, Recorder, Reply, check_range};
-use layer_session::LayerFault;
+use layer_session::{FileLayer, LayerFault};
 use link_rules::LinkedFile;
 use merge_core::Piece;
 use read_plan::{Plan, ReaderSet, Readers};
+use sealed_layer::sealed_layer;
 use std::alloc::Global;
 use store_model::{Ids, SealFault, Store, StoreFault};
 use vx_base::{Bytes, Geometry, Name, NoRoom};
@@ -670,6 +672,34 @@ impl<S: Store, R: Recorder> Chain<S, R> {
         ensures err { IfErr result (StopsSealing (read_numbers self.old.layers.below.items) (S.disk self.old.store) (S.disk self.new.store)) }
     {
         self.layers.seal(alloc, &mut self.store, sets)
+    }
+
+    /// What readers read the source of its merge by, outside the chain, with room of its own for so many pages of the file's tables in memory: none
+    /// where no merge is under way, or it is of the leaf, or its source is in a session.
+    pub fn sealed_source(
+        &self,
+        alloc: Global,
+        pages: u32,
+    ) -> Result<Option<SealedSource>, NoRoom>
+        requires pages { 0 < pages }
+        requires sound { IsSound (seen S.disk R.noted R.told self.now) }
+        requires whole { self.now.broken ≡ None }
+        ensures there { IfOk result (λ s. is_some s ≡ reads_source self.now.layers) }
+        ensures source { IfOk result (λ s. IfSome s (IsSealedSource self.now.layers (S.disk self.now.store))) }
+    {
+        let Some(merge) = &self.layers.merge else {
+            return Ok(None);
+        };
+        let FileLayer::Read(source) = &self.layers.below[merge.source] else {
+            return Ok(None);
+        };
+        let layer = sealed_layer(alloc, source, pages)?;
+        Ok(Some(SealedSource {
+            file: source.parts().file,
+            geometry: self.layers.geometry,
+            stripes: merge.marks.stripes(),
+            layer,
+        }))
     }
 
     /// How many entries its history has.

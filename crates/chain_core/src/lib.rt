@@ -20,4 +20,5 @@ pub use laws::{
 };
 pub use layers::Layers;
 pub use merge_start::MergeStartRefusal;
+pub use sealing::SealedSource;
 pub use starting::{Mode, StartRefusal};

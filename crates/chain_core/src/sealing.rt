@@ -12,7 +12,19 @@ use layer_session::FileLayer;
 use read_plan::Readers;
 use std::alloc::Global;
 use store_model::{SealFault, Store};
-use vx_base::NoRoom;
+use vx_base::{Geometry, NoRoom};
+
+/// The source of a merge that isn't the leaf, as its readers read it.
+#[derive(Drop)]
+pub struct SealedSource {
+    /// The number of its file in the store.
+    pub file: u32,
+    /// Of the chain's disk, which has so many stripes.
+    pub geometry: Geometry,
+    pub stripes: u32,
+    /// Its layer, to which the file is the one file of a store.
+    pub layer: FileLayer,
+}
 
 // Seals a file, and gives each of so many sets a reader of it.
 fn seal_file<S: Store>(

@@ -6,9 +6,13 @@ use Rattle.std.proofs.lemmas.Bool.{eqb-false}
 use Rattle.std.proofs.lemmas.List.{append_assoc, append-nil}
 use Rattle.seats.specs.Counting.{HasNoRepeats, once_at, times}
 use Rattle.seats.proofs.Counting.{times-append}
-use Rattle.shared_chain.specs.Bases.{HasStripe}
+use Rattle.shared_chain.specs.declared.basis.Basis.{Basis}
+use Rattle.shared_chain.specs.declared.basis.Step.{Step}
+use Rattle.shared_chain.specs.Bases.{Contains, HasStripe}
 use Rattle.shared_chain.specs.Laws.{contains_itself}
-use Rattle.shared_chain.specs.Seats.{AreSwept, HasWorked, IsSwept}
+use Rattle.shared_chain.specs.Seats.{HasWorked, KeepsSeat}
+use Rattle.turn_lock.specs.Seats.{Known}
+use Rattle.copy_workers.specs.Sweeps.{AreLeft, IsLeft}
 use Rattle.copy_workers.specs.declared.worker.Worker.{Worker}
 use Rattle.copy_workers.proofs.Turns.{none_worked, swept_later, worked_twice}
 
@@ -86,37 +90,50 @@ stripe_parts stripe (x ∷ xs) ys (inr h) = go (stripe_parts stripe xs ys h)
     go (inr b) = inr b
 
 module _ {S T : Type 0} where
-  -- a turn was taken for each number that was claimed
+  -- so it is of a stripe whatever comes behind it
+  left_later : (stripe : ℕ) (a b c d : Known Step (Basis S T)) (n m : ℕ) → Contains b.basis a.basis → IsLeft stripe b c n → KeepsSeat c d → (0 < n → 0 < m) → IsLeft stripe a d m
+  left_later stripe a b c d n m knows (inl swept) keeps more = inl (swept_later stripe a b c d knows swept keeps)
+  left_later stripe a b c d n m knows (inr some) keeps more = inr (more some)
+
+  -- a turn was taken at most for each number that was claimed
   pub record Swept (limit : ℕ) (old new : Worker S T) : Type 0 where
     pub gained : List ℕ
     pub is : new.claim.numbers ≡ old.claim.numbers ++ gained
     pub low : AllByRecursion (λ k. k < limit) gained
     pub worked : HasWorked (length gained) old.seat new.seat
-    pub swept : AreSwept old.claim.numbers new.claim.numbers old.seat new.seat
+    pub left : AreLeft old.claim.numbers new.claim.numbers old.seat new.seat new.unfetched
 
   pub none_swept : (limit : ℕ) (w : Worker S T) → w.seat.turn ≡ None → Swept limit w w
-  none_swept limit w free = record { gained = []; is = sym (append-nil w.claim.numbers); low = tt; worked = none_worked w.seat 0 free; swept = record { each = λ stripe h. inl h } }
+  none_swept limit w free = record { gained = []; is = sym (append-nil w.claim.numbers); low = tt; worked = none_worked w.seat 0 free; left = record { each = λ stripe h. inl h } }
 
-  pub swept_same : (limit : ℕ) (old mid new : Worker S T) → Swept limit old mid → new.claim.numbers ≡ mid.claim.numbers → new.seat ≡ mid.seat → Swept limit old new
-  swept_same limit old mid new s numbers seat = record { gained = s.gained; is = numbers ∙ s.is; low = s.low; worked = subst (HasWorked (length s.gained) old.seat) (sym seat) s.worked; swept = subst (λ ns. AreSwept old.claim.numbers ns old.seat new.seat) (sym numbers) (subst (AreSwept old.claim.numbers mid.claim.numbers old.seat) (sym seat) s.swept) }
+  pub swept_same : (limit : ℕ) (old mid new : Worker S T) → Swept limit old mid → new.claim.numbers ≡ mid.claim.numbers → new.seat ≡ mid.seat → new.unfetched ≡ mid.unfetched → Swept limit old new
+  swept_same limit old mid new s numbers seat count = record {
+    gained = s.gained;
+    is = numbers ∙ s.is;
+    low = s.low;
+    worked = subst (HasWorked (length s.gained) old.seat) (sym seat) s.worked;
+    left = subst (λ ns. AreLeft old.claim.numbers ns old.seat new.seat new.unfetched) (sym numbers)
+        (subst (λ n. AreLeft old.claim.numbers mid.claim.numbers old.seat new.seat n) (sym count) (subst (λ t. AreLeft old.claim.numbers mid.claim.numbers old.seat t mid.unfetched) (sym seat) s.left));
+  }
 
   -- one more number
-  pub swept_on : (limit k : ℕ) (old mid new : Worker S T) → Swept limit old mid → k < limit → new.claim.numbers ≡ mid.claim.numbers ++ k ∷ [] → HasWorked 1 mid.seat new.seat → IsSwept k mid.seat new.seat → Swept limit old new
-  swept_on limit k old mid new s less is w now = record {
+  pub swept_on : (limit k : ℕ) (old mid new : Worker S T) → Swept limit old mid → k < limit → new.claim.numbers ≡ mid.claim.numbers ++ k ∷ [] → HasWorked 1 mid.seat new.seat → IsLeft k mid.seat new.seat new.unfetched → (0 < mid.unfetched → 0 < new.unfetched) → Swept limit old new
+  swept_on limit k old mid new s less is w now more = record {
     gained = s.gained ++ k ∷ [];
     is = is ∙ ap (λ xs. xs ++ k ∷ []) s.is ∙ append_assoc old.claim.numbers s.gained (k ∷ []);
     low = below_push limit k s.gained s.low less;
     worked = subst (λ n. HasWorked n old.seat new.seat) (sym (length-append s.gained (k ∷ []))) (worked_twice (length s.gained) 1 old.seat mid.seat new.seat s.worked w);
-    swept = record { each = λ stripe h. by_number stripe (stripe_parts stripe mid.claim.numbers (k ∷ []) (subst (HasStripe stripe) is h)) };
+    left = record { each = λ stripe h. by_number stripe (stripe_parts stripe mid.claim.numbers (k ∷ []) (subst (HasStripe stripe) is h)) };
   }
     where
-      by_number : (stripe : ℕ) → HasStripe stripe mid.claim.numbers ⊎ HasStripe stripe (k ∷ []) → HasStripe stripe old.claim.numbers ⊎ IsSwept stripe old.seat new.seat
-      by_number stripe (inl before) = earlier (s.swept.each stripe before)
+      by_number : (stripe : ℕ) → HasStripe stripe mid.claim.numbers ⊎ HasStripe stripe (k ∷ []) → HasStripe stripe old.claim.numbers ⊎ IsLeft stripe old.seat new.seat new.unfetched
+      by_number stripe (inl before) = earlier (s.left.each stripe before)
         where
-          earlier : HasStripe stripe old.claim.numbers ⊎ IsSwept stripe old.seat mid.seat → HasStripe stripe old.claim.numbers ⊎ IsSwept stripe old.seat new.seat
+          earlier : HasStripe stripe old.claim.numbers ⊎ IsLeft stripe old.seat mid.seat mid.unfetched → HasStripe stripe old.claim.numbers ⊎ IsLeft stripe old.seat new.seat new.unfetched
           earlier (inl own) = inl own
-          earlier (inr done) = inr (swept_later stripe old.seat old.seat mid.seat new.seat (contains_itself old.seat.basis) done w.keeps)
-      by_number stripe (inr (inl e)) = inr (swept_later stripe old.seat mid.seat new.seat new.seat s.worked.keeps.basis (subst (λ n. IsSwept n mid.seat new.seat) (sym e) now) (none_worked new.seat 0 w.keeps.free).keeps)
+          earlier (inr done) = inr (left_later stripe old.seat old.seat mid.seat new.seat mid.unfetched new.unfetched (contains_itself old.seat.basis) done w.keeps more)
+      by_number stripe (inr (inl e)) =
+          inr (left_later stripe old.seat mid.seat new.seat new.seat new.unfetched new.unfetched s.worked.keeps.basis (subst (λ n. IsLeft n mid.seat new.seat new.unfetched) (sym e) now) (none_worked new.seat 0 w.keeps.free).keeps (λ some. some))
       by_number stripe (inr (inr never)) = absurd never
 
   -- and the turn that finishes
@@ -126,9 +143,9 @@ module _ {S T : Type 0} where
       let few = few_numbers limit old.claim.numbers s.gained s.low (subst HasNoRepeats s.is once) in
       record { keeps = all.keeps; drawn = omega (arith, all.drawn, few); own = all.own }
 
-  pub swept_then : (limit : ℕ) (old mid new : Worker S T) → Swept limit old mid → HasWorked 1 mid.seat new.seat → new.claim.numbers ≡ mid.claim.numbers → AreSwept old.claim.numbers new.claim.numbers old.seat new.seat
-  swept_then limit old mid new s w same = record { each = λ stripe h. go stripe (s.swept.each stripe (subst (HasStripe stripe) same h)) }
+  pub swept_then : (limit : ℕ) (old mid new : Worker S T) → Swept limit old mid → HasWorked 1 mid.seat new.seat → new.claim.numbers ≡ mid.claim.numbers → new.unfetched ≡ mid.unfetched → AreLeft old.claim.numbers new.claim.numbers old.seat new.seat new.unfetched
+  swept_then limit old mid new s w same count = record { each = λ stripe h. go stripe (s.left.each stripe (subst (HasStripe stripe) same h)) }
     where
-      go : (stripe : ℕ) → HasStripe stripe old.claim.numbers ⊎ IsSwept stripe old.seat mid.seat → HasStripe stripe old.claim.numbers ⊎ IsSwept stripe old.seat new.seat
+      go : (stripe : ℕ) → HasStripe stripe old.claim.numbers ⊎ IsLeft stripe old.seat mid.seat mid.unfetched → HasStripe stripe old.claim.numbers ⊎ IsLeft stripe old.seat new.seat new.unfetched
       go stripe (inl own) = inl own
-      go stripe (inr done) = inr (swept_later stripe old.seat old.seat mid.seat new.seat (contains_itself old.seat.basis) done w.keeps)
+      go stripe (inr done) = inr (left_later stripe old.seat old.seat mid.seat new.seat mid.unfetched new.unfetched (contains_itself old.seat.basis) done w.keeps (λ some. omega (arith, some, count)))

@@ -1,2 +1,4 @@
 pub mod Turns
 pub mod Claimed
+mod Sealed
+mod Fetching

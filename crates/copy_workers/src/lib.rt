@@ -1,6 +1,7 @@
 //! Workers of a merge: threads that copy stripes between the guests' turns.
 #![tactic(auto)]
 
+mod source;
 mod worker;
 
 pub use worker::Worker;

@@ -1,32 +1,77 @@
 //! A worker of a merge.
 
-ghost use Rattle.std.specs.Prelude.{◌≡◌, ◌+◌, true, None};
-ghost use Rattle.shared_chain.specs.Seats.{AreSwept, HasWorked, IsFree, IsSwept};
+ghost use Rattle.std.specs.Prelude.{◌≡◌, ◌+◌, ◌<◌, All, IfErr, IfSome, OnOk, Some, true};
+ghost use Rattle.chain_core.specs.declared.chain.Chain.{Chain};
+ghost use Rattle.chain_core.specs.Sealed.{IsSealedSource};
+ghost use Rattle.copy_workers.specs.Sources.{HasFetched, HasSource, HaveFailed};
+ghost use Rattle.copy_workers.specs.Sweeps.{AreLeft, IsLeft};
+ghost use Rattle.guest_model.specs.declared.recorder.KeepAll.{KeepAll};
+ghost use Rattle.read_plan.specs.Reading.{ReaderFailed};
+ghost use Rattle.shared_chain.specs.Fetched.{IsFetched};
+ghost use Rattle.shared_chain.specs.Merging.{IsStepped, StopsCopy, copies};
+ghost use Rattle.shared_chain.specs.Planned.{IsReaderFor};
+ghost use Rattle.shared_chain.specs.Seats.{HasWorked, IsFree, IsSwept};
 
+use crate::source::SourceReaders;
+use chain_core::SealedSource;
 use claims::{ClaimSeat, Claims};
 use guest_model::ChainRefusal;
 use merge_core::Piece;
+use read_plan::ReaderSet;
 use shared_chain::SharedChain;
 use std::sync::{Wait, WaitMethods};
-use store_model::{Gate, Store};
+use store_model::{Gate, ReadFault, Store};
 use turn_lock::{Seat, TurnLock};
 
-/// A worker: its seat of the lock, what it claims stripes with, and room for a stripe.
+/// A worker: its seat of the lock, what it claims stripes with, and room for a stripe; and what it reads sealed files by, of which one may be the
+/// source of the merge.
 pub struct Worker<S: Store> {
     seat: Seat<SharedChain<S>>,
     claim: ClaimSeat,
     piece: Piece,
+    reads: SourceReaders<S::R>,
+    // how many stripes it couldn't fetch, as a reader failed
+    unfetched: u64,
 }
 
 impl<S: Store> Worker<S> {
-    /// A worker that has claimed nothing.
-    pub fn new(seat: Seat<SharedChain<S>>, claim: ClaimSeat, piece: Piece) -> Worker<S>
-        ensures { (result.seat ≡ seat) × (result.claim ≡ claim) }
+    /// A worker that has claimed nothing. Where the source of the merge is only read, and it has a reader of that, it fetches stripes by it.
+    pub fn new(
+        seat: Seat<SharedChain<S>>,
+        claim: ClaimSeat,
+        readers: ReaderSet<S::R>,
+        piece: Piece,
+        source: Option<SealedSource>,
+    ) -> Worker<S>
+        ensures seats { (result.seat ≡ seat) × (result.claim ≡ claim) }
+        ensures readers { result.reads.readers ≡ readers }
+        ensures unfetched { result.unfetched ≡ 0 }
+        ensures source { (first : Chain S KeepAll S.R) → seat.basis.first ≡ Some first → All (IsReaderFor S.disk first) readers → IfSome source (IsSealedSource first.layers (S.disk first.store))
+            → HasSource S.disk seat.basis result.reads }
     {
-        Worker { seat, claim, piece }
+        Worker {
+            seat,
+            claim,
+            piece,
+            reads: SourceReaders::new(readers, source),
+            unfetched: 0,
+        }
     }
 
-    // Copies a stripe, in a turn of its own.
+    // Fetches a stripe by a reader of the source, with no turn. Without one, or off the disk, it fetches nothing.
+    fn fetch(&mut self, stripe: u32) -> Result<(), ReadFault>
+        requires source { HasSource S.disk self.old.seat.basis self.old.reads }
+        ensures source { HasSource S.disk self.new.seat.basis self.new.reads }
+        ensures fetched { OnOk result (HasFetched S.disk self.new.seat.basis stripe self.new.piece) }
+        ensures stays { OnOk result (self.new.reads.readers ≡ self.old.reads.readers) }
+        ensures err { IfErr result (ReaderFailed self.old.reads.readers self.new.reads.readers) }
+        ensures only { self.new ≡ record self.old { piece = self.new.piece; reads = self.new.reads } }
+    {
+        self.piece.clear();
+        self.reads.fetch(stripe, &mut self.piece)
+    }
+
+    // Copies a stripe, in a turn of its own: puts what was fetched of it, or fetches it there.
     fn deliver<T: Wait>(
         &mut self,
         rt: &T,
@@ -34,17 +79,46 @@ impl<S: Store> Worker<S> {
         stripe: u32,
     ) -> Result<(), ChainRefusal>
         requires own { IsFree lock.now self.old.seat }
+        requires fetched { HasFetched S.disk self.old.seat.basis stripe self.old.piece }
         ensures worked { HasWorked 1 self.old.seat self.new.seat }
         ensures swept { IsSwept stripe self.old.seat self.new.seat }
-        ensures claim { self.new.claim ≡ self.old.claim }
+        ensures only { self.new ≡ record self.old { seat = self.new.seat; piece = self.new.piece } }
     {
         let mut held = match lock.lock(rt, &mut self.seat) {
             Ok(held) => held,
             Err(spent) => return Err(ChainRefusal::Spent { t: spent.ticket }),
         };
-        let answer = held.value().copy_stripe(stripe, &mut self.piece);
+        let answer = copy_in_turn(held.value(), stripe, &mut self.piece);
         lock.unlock(&mut self.seat, held);
         answer
+    }
+
+    // Fetches a stripe and copies it; one that can't be fetched is left, and counted.
+    fn copy<T: Wait, G: Gate>(
+        &mut self,
+        rt: &T,
+        lock: &TurnLock<SharedChain<S>>,
+        gate: &G,
+        stripe: u32,
+    )
+        requires own { IsFree lock.now self.old.seat }
+        requires source { HasSource S.disk self.old.seat.basis self.old.reads }
+        requires failed { HaveFailed self.old.reads self.old.unfetched }
+        ensures source { HasSource S.disk self.new.seat.basis self.new.reads }
+        ensures failed { HaveFailed self.new.reads self.new.unfetched }
+        ensures worked { HasWorked 1 self.old.seat self.new.seat }
+        ensures left { IsLeft stripe self.old.seat self.new.seat self.new.unfetched }
+        ensures counted { 0 < self.old.unfetched → 0 < self.new.unfetched }
+        ensures claim { self.new.claim ≡ self.old.claim }
+    {
+        let fetched = self.fetch(stripe);
+        gate.at(rt, 2);
+        match fetched {
+            Ok(()) => {
+                let _ = self.deliver(rt, lock, stripe);
+            }
+            Err(_) => self.unfetched = self.unfetched.saturating_add(1),
+        }
     }
 
     // Finishes the merge, in a turn of its own.
@@ -55,7 +129,7 @@ impl<S: Store> Worker<S> {
     ) -> Result<(), ChainRefusal>
         requires own { IsFree lock.now self.old.seat }
         ensures worked { HasWorked 1 self.old.seat self.new.seat }
-        ensures claim { self.new.claim ≡ self.old.claim }
+        ensures only { self.new ≡ record self.old { seat = self.new.seat } }
     {
         let mut held = match lock.lock(rt, &mut self.seat) {
             Ok(held) => held,
@@ -66,9 +140,10 @@ impl<S: Store> Worker<S> {
         answer
     }
 
-    /// Claims stripes until none is left, and copies each once; a stripe that is refused is left. Then it finishes the merge, and answers what
-    /// that answered. It draws a ticket for each stripe that it claims, and one to finish. Of each of these that the chain keeps in mind
-    /// a turn has answered then that it was copied, or what stopped that shows.
+    /// Claims stripes until none is left, and copies each once: by a reader it fetches it with no turn, and puts it in one; else it does both in one.
+    /// A stripe that is refused is left. Then it finishes the merge, and answers what that answered. It draws a ticket for each stripe that it
+    /// claims at most, and one to finish. Of each of these that the chain keeps in mind a turn has answered then that it was copied, or what
+    /// stopped that shows, or a reader failed.
     pub fn sweep<T: Wait, G: Gate>(
         &mut self,
         rt: &T,
@@ -78,8 +153,11 @@ impl<S: Store> Worker<S> {
     ) -> Result<(), ChainRefusal>
         requires own { IsFree lock.now self.old.seat }
         requires counter { self.old.claim.counter ≡ claims.now }
+        requires source { HasSource S.disk self.old.seat.basis self.old.reads }
+        requires failed { HaveFailed self.old.reads self.old.unfetched }
         ensures worked { HasWorked (claims.now.limit + 1) self.old.seat self.new.seat }
-        ensures swept { AreSwept self.old.claim.numbers self.new.claim.numbers self.old.seat self.new.seat }
+        ensures left { AreLeft self.old.claim.numbers self.new.claim.numbers self.old.seat self.new.seat self.new.unfetched }
+        ensures failed { HaveFailed self.new.reads self.new.unfetched }
         ensures closed { self.new.claim.is_closed ≡ true }
         ensures family { self.new.claim.family ≡ self.old.claim.family }
         ensures counter { self.new.claim.counter ≡ self.old.claim.counter }
@@ -89,21 +167,41 @@ impl<S: Store> Worker<S> {
             let Some(stripe) = claims.claim(&mut self.claim) else {
                 break;
             };
-            gate.at(rt, 2);
-            let _ = self.deliver(rt, lock, stripe);
+            self.copy(rt, lock, gate, stripe);
         }
         self.finish(rt, lock)
     }
 
-    /// Its seats.
-    pub fn end(self) -> (Seat<SharedChain<S>>, ClaimSeat)
-        ensures { (result.0 ≡ self.seat) × (result.1 ≡ self.claim) }
+    /// Its seats and its readers, and how many stripes it couldn't fetch, as a reader failed.
+    pub fn end(self) -> (Seat<SharedChain<S>>, ClaimSeat, ReaderSet<S::R>, u64)
+        ensures seats { (result.0 ≡ self.seat) × (result.1 ≡ self.claim) }
+        ensures readers { result.2 ≡ self.reads.readers }
+        ensures unfetched { result.3 ≡ self.unfetched }
     {
         let Worker {
             seat,
             claim,
             piece: _,
+            reads,
+            unfetched,
         } = self;
-        (seat, claim)
+        (seat, claim, reads.into_readers(), unfetched)
+    }
+}
+
+// Puts what was fetched of a stripe; where nothing was it is fetched here.
+fn copy_in_turn<S: Store>(
+    chain: &mut SharedChain<S>,
+    stripe: u32,
+    piece: &mut Piece,
+) -> Result<(), ChainRefusal>
+    requires fetched { piece.old.filled ≡ true → (piece.old.stripe ≡ stripe) × IsFetched S.disk chain.old.first piece.old }
+    ensures stepped { IsStepped S.disk (copies stripe) chain.old chain.new result }
+    ensures stopped { IfErr result (StopsCopy S.disk stripe chain.old chain.new) }
+{
+    if piece.is_filled() {
+        chain.put_stripe(piece)
+    } else {
+        chain.copy_stripe(stripe, piece)
     }
 }

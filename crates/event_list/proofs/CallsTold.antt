@@ -146,7 +146,7 @@ module _ (drive : Drive) (who : Caller) (call : Call) (v : State) (stage : Stage
         after = None;
         told_so = subst (λ t. IsEventTold drive v.history stage None (Guest who call) t (behind_call call stage) None) (ap₂ (λ (p : ℕ) (q : Reply). told.Reply p q) place_is replied) (is_done stage who call cause);
         history = refl;
-        same = λ k later is. later_same v (with_entry by_event v) k later refl refl refl (numbers_entry by_event v) (names_entry by_event v) (inl (record { number = refl; name = refl; retired = refl; writes = refl; since = refl; merges = refl })) (λ e. (e, refl)) is;
+        same = λ k later is. later_same v (with_entry by_event v) k later refl refl refl (numbers_entry by_event v) (names_entry by_event v) (inl (record { number = refl; name = refl; retired = refl; writes = refl; since = refl; merges = refl })) (λ e. (e, refl)) (λ e. refl) is;
         over = record {
           geometry = h.geometry ∙ over.geometry;
           change = h.session ∙ over.change;

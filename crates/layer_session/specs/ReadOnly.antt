@@ -51,6 +51,11 @@ pub record IsReadOf (parts : Parts) (file : ℕ) (l : ReadLayer) : Type 0 where
   pub reads : (trace : Trace) → file < length trace.attached → length (seen (file_of trace file)) ≤ 2 ^ 63
       → HasParts (at_rest (seen (file_of trace file))) (seen (file_of trace file)) parts → IsRead l trace (as_read trace file (seen (file_of trace file)) parts)
 
+-- A new layer of a file that another one reads, which has this number where it is read: it goes by the same sizes, and nothing is changed.
+pub record IsAnother (file : ℕ) (of l : ReadLayer) : Type 0 where
+  pub parts_are : l.tables.parts ≡ record (of.tables.parts) { file = file }
+  pub new : IsNew l.tables.parts l.tables
+
 -- Only what the layer keeps in memory is another.
 pub record IsSameRead (old new : ReadLayer) (disk : Disk) : Type 0 where
   pub parts : new.tables.parts ≡ old.tables.parts

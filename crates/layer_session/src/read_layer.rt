@@ -3,7 +3,7 @@
 ghost use Rattle.std.specs.Prelude.{◌≡◌, ◌+◌, ◌*◌, ◌^◌, ◌<◌, ◌≤◌, length, Contains, IfOk, IfErr, OnOk};
 ghost use Rattle.store_model.specs.Disk.{ReadFailed};
 ghost use Rattle.vhdx_format.specs.FileParts.{HasNumbers};
-ghost use Rattle.layer_session.specs.ReadOnly.{AreReadable, AreSameRead, CanRead, HaveSameParts, IsReadOf, IsSameRead, ReadLayersStand, SomeReadFailed, numbers_of};
+ghost use Rattle.layer_session.specs.ReadOnly.{AreReadable, AreSameRead, CanRead, HaveSameParts, IsAnother, IsReadOf, IsSameRead, ReadLayersStand, SomeReadFailed, numbers_of};
 ghost use Rattle.layer_session.specs.Found.{KeepsFound};
 ghost use Rattle.layer_session.specs.ByFiles.{AddRead, AddsRead};
 ghost use Rattle.layer_session.specs.Locating.{AreLocatedIn};
@@ -30,6 +30,17 @@ impl ReadLayer {
         ensures { IfOk result (IsReadOf parts.now file) }
     {
         let tables = Tables::new(alloc, TableParts::new(file, parts), pages)?;
+        Ok(ReadLayer { tables })
+    }
+
+    /// A layer of the same file where it has this number, with room of its own for so many pages of its tables in memory.
+    pub fn another(&self, alloc: Global, file: u32, pages: u32) -> Result<ReadLayer, NoRoom>
+        requires pages { 0 < pages }
+        ensures { IfOk result (IsAnother file self.now) }
+    {
+        let mut parts = self.tables.parts;
+        parts.file = file;
+        let tables = Tables::new(alloc, parts, pages)?;
         Ok(ReadLayer { tables })
     }
 

@@ -8,7 +8,7 @@ use crate::common::{
     DRAWN, DRAWN_LATER, LOOK, add, ask, ask_text, caller_of, copy_of, empty_host, ids_of, prepare,
     printed, run_script, says, script_done, serve_line, text_of,
 };
-use mem_store::{MemHost, MemSink};
+use mem_store::{MemHost, MemSink, ReaderFault};
 use std::alloc::Global;
 use std::process::Abort;
 use std::sync::Wait;
@@ -273,6 +273,26 @@ fn leaves_the_files_of_steps(rt: HostRuntime) {
         let files = files_behind(&rt, alloc, line, "");
         let steps = files_behind(&rt, alloc, other, "copy\nfinish\n");
         ask(&rt, are_same(&files, &steps), line);
+    }
+}
+
+// A reader by which a worker fetches stripes fails: the status tells it, and the stripe is copied behind the threads.
+#[test]
+fn a_stripe_that_cannot_be_fetched(rt: HostRuntime) {
+    let alloc = rt.alloc();
+    for read in [1u64, 2] {
+        let mut host = chain(&rt, alloc);
+        host.failing_reader = Some(ReaderFault { reader: 0, read });
+        let mut ids = ids_of(&rt, alloc, &DRAWN);
+        let line = "serve c.vhdx --workers 1 --merge b.vhdx";
+        let (status, out) = run_script(&rt, alloc, line, "", &mut host, &mut ids);
+        ask(&rt, status == Status::Fault && says(&out, ""), "no fault");
+        let left = files_in(&rt, alloc, &host);
+        let mut host = host_of(&rt, alloc, &left);
+        let out = printed(&rt, alloc, "info c.vhdx", "", &mut host);
+        ask_text(&rt, &out, MIDDLE.chain);
+        let out = printed(&rt, alloc, LOOK, READS, &mut host);
+        ask_text(&rt, &out, NONE.disk);
     }
 }
 

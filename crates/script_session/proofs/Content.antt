@@ -79,7 +79,7 @@ fetch_untold stripe answer old new left none h = go (fetch_refused stripe old) r
     go None is = both_untold _ old.disk.told new.disk.told none (h.told is)
     go (Some e) is = ap (λ (s : Session). s.disk.told) (subst (λ o. IfStopped {T = ℕ} o answer (IsUnchanged old new)) is h.early).1 ∙ none
 
-put_untold : (piece : Piece) (answer : Result (Unit {0}) ChainRefusal) (old new : Session) → old.disk.told ≡ None → AnswersPut piece answer old new → new.disk.told ≡ None
+pub put_untold : (piece : Piece) (answer : Result (Unit {0}) ChainRefusal) (old new : Session) → old.disk.told ≡ None → AnswersPut piece answer old new → new.disk.told ≡ None
 put_untold piece answer old new none h = go (put_refused piece old) refl
   where
     go : (o : Option ChainRefusal) → put_refused piece old ≡ o → new.disk.told ≡ None

@@ -1,6 +1,6 @@
 -- A step of a merge leaves a later state of what its session serves.
 use Rattle.std.proofs.Common.{◌≡◌, ◌==◌, ℕ, Bool, true, false, Option, Some, None, Result, Ok, Err, refl, sym, ap, subst, ◌∙◌}
-use Rattle.std.specs.Prelude.{IfErr, IfSome, OnOk, if◌then◌else◌, nat_lt, ◌^◌, ◌||◌, is_some}
+use Rattle.std.specs.Prelude.{⊤, IfErr, IfSome, OnOk, if◌then◌else◌, nat_lt, ◌^◌, ◌||◌, is_some}
 use Rattle.vx_base.specs.declared.parts.Geometry.{Geometry}
 use Rattle.store_model.specs.declared.fault.StoreFault.{StoreFault}
 use Rattle.store_model.specs.Trace.{Trace}
@@ -20,11 +20,11 @@ use Rattle.chain_core.specs.declared.layers.Layers.{Layers}
 use Rattle.chain_core.specs.States.{IsServing, LeavesOthers, State, dirty_now, disk_now, sector_of}
 use Rattle.script_session.specs.Histories.{Grows, IsEndTold, IsLater}
 use Rattle.script_session.specs.MergeSteps.{AnswersFetch, AnswersFinish, AnswersPut, AnswersTurn, IsUnchanged, fetched_and, not_fetched}
-use Rattle.script_session.specs.StepsLeft.{FinishesLeave, IsFullAt, IsLeft, TurnsLeave}
+use Rattle.script_session.specs.StepsLeft.{FinishesLeave, IsFullAt, IsLeft, PutsLeave, TurnsLeave}
 use Rattle.script_session.specs.Told.{Told}
 use Rattle.std.proofs.lemmas.Option.{same_Some}
 use Rattle.store_model.specs.Disk.{WhereBothTold}
-use Rattle.script_session.proofs.Content.{finish_untold, turn_untold}
+use Rattle.script_session.proofs.Content.{finish_untold, put_untold, turn_untold}
 use Rattle.script_session.proofs.LeftFiles.{later_itself, later_put}
 use Rattle.script_session.proofs.Lengths.{end_later, free_by, grows_none, grows_on, long_later, moments_grow}
 use Rattle.script_session.proofs.Moving.{ok_reached, parts_none}
@@ -385,25 +385,39 @@ finish_tells answer old new trace seen h = go (merge_refused old) refl
 
 -- ---- the laws
 
-abbrev Both : Result (Unit {0}) ChainRefusal → Session → Session → Option Trace → Option Trace → Type 0
-Both answer old new a b = WhereBothTold (λ trace now. (v : State) → IsServing old.layers v trace → IsLeft v answer new trace now) a b
+module _ (Apt : State → Type 0) where
+  abbrev Both : Result (Unit {0}) ChainRefusal → Session → Session → Option Trace → Option Trace → Type 0
+  Both answer old new a b = WhereBothTold (λ trace now. (v : State) → IsServing old.layers v trace → Apt v → IsLeft v answer new trace now) a b
 
-where_both : (answer : Result (Unit {0}) ChainRefusal) (old new : Session) → (old.disk.told ≡ None → new.disk.told ≡ None) → ((trace : Trace) → old.disk.told ≡ Some trace → (now : Trace) × (new.disk.told ≡ Some now))
-    → ((v : State) (trace : Trace) → old.disk.told ≡ Some trace → IsServing old.layers v trace → Leaves v answer new trace)
-    → WhereBothTold (λ trace now. (v : State) → IsServing old.layers v trace → IsLeft v answer new trace now) old.disk.told new.disk.told
-where_both answer old new untold tells leaves = go old.disk.told refl
-  where
-    go : (o : Option Trace) → old.disk.told ≡ o → Both answer old new o new.disk.told
-    go None is = subst (λ b. Both answer old new None b) (sym (untold is)) tt
-    go (Some trace) is =
-        let n = tells trace is in
-        subst (λ b. Both answer old new (Some trace) b) (sym n.1)
-        (λ v serving. let l = leaves v trace is serving in subst (λ now. IsLeft v answer new trace now) (same_Some l.now n.0 (sym l.seen ∙ n.1)) l.is_left)
+  where_both : (answer : Result (Unit {0}) ChainRefusal) (old new : Session) → (old.disk.told ≡ None → new.disk.told ≡ None) → ((trace : Trace) → old.disk.told ≡ Some trace → (now : Trace) × (new.disk.told ≡ Some now))
+      → ((v : State) (trace : Trace) → old.disk.told ≡ Some trace → IsServing old.layers v trace → Apt v → Leaves v answer new trace) → Both answer old new old.disk.told new.disk.told
+  where_both answer old new untold tells leaves = go old.disk.told refl
+    where
+      go : (o : Option Trace) → old.disk.told ≡ o → Both answer old new o new.disk.told
+      go None is = subst (λ b. Both answer old new None b) (sym (untold is)) tt
+      go (Some trace) is =
+          let n = tells trace is in
+          subst (λ b. Both answer old new (Some trace) b) (sym n.1)
+          (λ v serving apt. let l = leaves v trace is serving apt in subst (λ now. IsLeft v answer new trace now) (same_Some l.now n.0 (sym l.seen ∙ n.1)) l.is_left)
+
+-- of each state
+each_state : (answer : Result (Unit {0}) ChainRefusal) (old new : Session) (a b : Option Trace) → Both (λ v. ⊤) answer old new a b → WhereBothTold (λ trace now. (v : State) → IsServing old.layers v trace → IsLeft v answer new trace now) a b
+each_state answer old new None None h = tt
+each_state answer old new None (Some b) h = absurd h
+each_state answer old new (Some a) None h = absurd h
+each_state answer old new (Some a) (Some b) h = λ v serving. h v serving tt
+
+pub puts_leave : PutsLeave
+puts_leave piece answer old new whole h =
+    where_both (λ v. IsTruePiece v (piece_of piece)) answer old new (λ none. put_untold piece answer old new none h) (λ trace seen. put_tells piece answer old new trace seen h)
+    (λ v trace seen serving is_true. put_left v old trace seen whole serving piece new is_true answer h)
 
 pub turns_leave : TurnsLeave
 turns_leave stripe answer old new whole h =
-    where_both answer old new (λ none. turn_untold stripe answer old new none h) (λ trace seen. turn_tells stripe answer old new trace seen h) (λ v trace seen serving. turn_leaves stripe answer old new v trace seen whole serving h)
+    each_state answer old new old.disk.told new.disk.told
+    (where_both (λ v. ⊤) answer old new (λ none. turn_untold stripe answer old new none h) (λ trace seen. turn_tells stripe answer old new trace seen h) (λ v trace seen serving any. turn_leaves stripe answer old new v trace seen whole serving h))
 
 pub finishes_leave : FinishesLeave
 finishes_leave answer old new whole h =
-    where_both answer old new (λ none. finish_untold answer old new none h) (λ trace seen. finish_tells answer old new trace seen h) (λ v trace seen serving. finish_leaves answer old new v trace seen whole serving h)
+    each_state answer old new old.disk.told new.disk.told
+    (where_both (λ v. ⊤) answer old new (λ none. finish_untold answer old new none h) (λ trace seen. finish_tells answer old new trace seen h) (λ v trace seen serving any. finish_leaves answer old new v trace seen whole serving h))

@@ -1,6 +1,6 @@
 -- The files below the leaf that stay when a merge is finished: their numbers stay whatever the steps of the merge do.
 use Rattle.std.proofs.Common.{◌≡◌, ◌+◌, ◌==◌, ◌⊎◌, inl, inr, if◌then◌else◌, subst, ℕ, Bool, true, false, List, [], ◌∷◌, ◌++◌, length, map, refl, sym, ap, ap₂, ◌∙◌}
-use Rattle.std.specs.Prelude.{Option}
+use Rattle.std.specs.Prelude.{Option, is_some}
 use Rattle.std.specs.List.{AllByRecursion}
 use Rattle.std.proofs.lemmas.Bool.{eq-eqb, eqb-true}
 use Rattle.std.proofs.lemmas.List.{append_assoc, map-append}
@@ -24,7 +24,7 @@ use Rattle.chain_core.specs.Merging.{put_on, with_piece, with_put}
 use Rattle.chain_core.specs.Starting.{placed_from}
 use Rattle.chain_core.specs.States.{Rest, State, merging, others_of, plain, retiring}
 use Rattle.chain_core.proofs.MergeFound.{AreFound, child_opened, opened_above, rest_opened, source_opened, target_opened}
-use Rattle.script_session.specs.Histories.{GoesOn, HasRetired, IsLater, all_names, is_under_way, merges_leaf, names_left, numbers_left, staying}
+use Rattle.script_session.specs.Histories.{GoesOn, HasRetired, IsLater, all_names, is_under_way, merges_leaf, names_left, numbers_left, source_began, staying}
 
 abbrev pub number_of : Placed → ℕ
 number_of f = f.number
@@ -146,7 +146,7 @@ own_unnamed v later h now is still n some own = by_write (later.writes n) refl
 
 -- no step at all
 pub later_itself : (v : State) → IsLater v v.history v
-later_itself v = record { leaf = refl; opening = refl; began = refl; left = refl; names = refl; history = refl; goes = inl (record { number = refl; name = refl; retired = refl; writes = refl; since = refl; merges = refl }); whole = λ e. (e, refl) }
+later_itself v = record { leaf = refl; opening = refl; began = refl; left = refl; names = refl; history = refl; goes = inl (record { number = refl; name = refl; retired = refl; writes = refl; since = refl; merges = refl }); whole = λ e. (e, refl); source = λ e. refl }
 
 goes_twice : (v w later : State) → GoesOn v w → GoesOn w later → GoesOn v later
 goes_twice v w later one more = record {
@@ -195,8 +195,8 @@ later_goes v w later (inr done) (inr again) = never_both again.merges done.ended
 
 -- a step that leaves the same files in the chain
 pub later_same : (v w : State) (h : History) (later : State) → w.leaf ≡ v.leaf → w.opening ≡ v.opening → w.began ≡ v.began → numbers_left w ≡ numbers_left v → names_left w ≡ names_left v → GoesOn v w ⊎ HasRetired v w
-    → (is_under_way w.rest ≡ true → (is_under_way v.rest ≡ true) × (all_names w ≡ all_names v)) → IsLater w h later → IsLater v h later
-later_same v w h later leaf opening began left names goes all is = record {
+    → (is_under_way w.rest ≡ true → (is_under_way v.rest ≡ true) × (all_names w ≡ all_names v)) → (is_some (source_began w.rest) ≡ true → source_began w.rest ≡ source_began v.rest) → IsLater w h later → IsLater v h later
+later_same v w h later leaf opening began left names goes all source is = record {
   leaf = is.leaf ∙ leaf;
   opening = is.opening ∙ opening;
   began = is.began ∙ began;
@@ -208,6 +208,7 @@ later_same v w h later leaf opening began left names goes all is = record {
       let more = is.whole e in
       let one = all more.0 in
       (one.0, more.1 ∙ one.1);
+  source = λ e. let last = is.source e in last ∙ source (subst (λ o. is_some o ≡ true) last e);
 }
 
 merges_put : (piece : Piece) (rest : Rest) → merges_leaf (put_on piece rest) ≡ merges_leaf rest
@@ -224,9 +225,14 @@ all_put piece v e = by_rest v.top v.rest e
     by_rest top (retiring target below first before) e = (refl, refl)
     by_rest top (merging above source target below m) e = (refl, ap (λ ns. name_of top ∷ ns) (map-append name_of above (source ∷ with_piece piece target ∷ below) ∙ sym (map-append name_of above (source ∷ target ∷ below))))
 
+source_put : (piece : Piece) (rest : Rest) → source_began (put_on piece rest) ≡ source_began rest
+source_put piece (plain others) = refl
+source_put piece (merging above source target below m) = refl
+source_put piece (retiring target below first before) = refl
+
 pub later_put : (v : State) (piece : Piece) (h : History) (later : State) → IsLater (with_put piece v) h later → IsLater v h later
 later_put v piece h later is =
-    later_same v (with_put piece v) h later refl refl refl (numbers_put piece v) (names_put piece v) (inl (record { number = refl; name = refl; retired = refl; writes = refl; since = refl; merges = merges_put piece v.rest })) (all_put piece v) is
+    later_same v (with_put piece v) h later refl refl refl (numbers_put piece v) (names_put piece v) (inl (record { number = refl; name = refl; retired = refl; writes = refl; since = refl; merges = merges_put piece v.rest })) (all_put piece v) (λ e. source_put piece v.rest) is
 
 pub looks_names : (files : List Placed) → map (λ (l : Look). l.name) (map look_of files) ≡ map name_of files
 looks_names [] = refl

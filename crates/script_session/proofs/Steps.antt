@@ -92,7 +92,7 @@ below_left layers v now rest is below stays done =
             writes = refl;
             since = refl;
             merges = sym (ap merges_leaf is ∙ below);
-          })) (λ e. let never : false ≡ true = e in cc) later_is;
+          })) (λ e. let never : false ≡ true = e in cc) (λ e. let never : false ≡ true = e in cc) later_is;
     }
 
 -- and of the leaf
@@ -114,7 +114,7 @@ leaf_left layers v now id target below first before is done = record {
         since = done.still;
         rests = done.rests;
         no_log = done.no_log;
-      })) (λ e. let never : false ≡ true = e in cc) later_is;
+      })) (λ e. let never : false ≡ true = e in cc) (λ e. let never : false ≡ true = e in cc) later_is;
 }
   where
     behind : State

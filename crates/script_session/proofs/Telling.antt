@@ -341,7 +341,7 @@ module _ (drive : Drive) (number : ℕ) (call : Call) (v : State) (course : Cour
         after = None;
         told_so = (refl, subst (λ t. IsTold drive v.history None call t None) (ap₂ (λ (p : ℕ) (r : Reply). Ok (Some p, of_call r)) place replied) (is_done cause));
         history = refl;
-        same = λ h later is. later_same v (with_entry by_line v) h later refl refl refl (numbers_entry by_line v) (names_entry by_line v) (inl (record { number = refl; name = refl; retired = refl; writes = refl; since = refl; merges = refl })) (λ e. (e, refl)) is;
+        same = λ h later is. later_same v (with_entry by_line v) h later refl refl refl (numbers_entry by_line v) (names_entry by_line v) (inl (record { number = refl; name = refl; retired = refl; writes = refl; since = refl; merges = refl })) (λ e. (e, refl)) (λ e. refl) is;
         over = record {
           geometry = h.geometry ∙ over.geometry;
           change = h.session ∙ over.change;

@@ -13,6 +13,7 @@ use Rattle.guest_model.specs.declared.refusal.ChainRefusal.TheVariants.{Broken, 
 use Rattle.guest_model.specs.Calls.{Disk, is_named, reply}
 use Rattle.guest_model.specs.History.{History, either, is_flush, replay}
 use Rattle.chain_model.specs.Images.{Placed}
+use Rattle.chain_model.specs.Layers.{Layer as SectorLayer}
 use Rattle.chain_model.specs.Merges.{AllMarked, marks_after, with_mark}
 use Rattle.chain_model.specs.Moments.{EachOpens, EachOpensToPrefix}
 use Rattle.chain_model.specs.Stripes.{stamp, stripe_count}
@@ -292,6 +293,12 @@ is_under_way (plain others) = false
 is_under_way (merging above source target below m) = true
 is_under_way (retiring target below first before) = true
 
+-- what the source of a merge had when that began, which isn't the leaf
+abbrev pub source_began : Rest → Option SectorLayer
+source_began (plain others) = None
+source_began (merging above source target below m) = Some m.first
+source_began (retiring target below first before) = None
+
 -- It goes on over the same leaf, with the same retired leaves behind its name, and may change the same files.
 pub record GoesOn (v later : State) : Type 0 where
   pub number : later.top.number ≡ v.top.number
@@ -325,6 +332,8 @@ pub record IsLater (v : State) (h : History) (later : State) : Type 0 where
   pub goes : GoesOn v later ⊎ HasRetired v later
   -- while the merge is under way the chain has the same files
   pub whole : is_under_way later.rest ≡ true → (is_under_way v.rest ≡ true) × (all_names later ≡ all_names v)
+  -- and a merge of another source than the leaf is the one that was
+  pub source : is_some (source_began later.rest) ≡ true → source_began later.rest ≡ source_began v.rest
 
 -- The session of a chain over this drive, with the state's history, which its recorder has if it tells it.
 pub record IsOver (drive : Drive) (v : State) (s : Session) : Type 0 where

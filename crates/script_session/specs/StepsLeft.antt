@@ -4,10 +4,13 @@ use Rattle.store_model.specs.Disk.{WhereBothTold}
 use Rattle.store_model.specs.Trace.{Trace}
 use Rattle.guest_model.specs.declared.refusal.ChainRefusal.{ChainRefusal}
 use Rattle.chain_model.specs.Moments.{EachOpens, EachOpensToPrefix}
+use Rattle.merge_core.specs.Pieces.{piece_of}
+use Rattle.merge_core.specs.declared.piece.Piece.{Piece}
+use Rattle.chain_core.specs.Merging.{IsTruePiece}
 use Rattle.chain_core.specs.Sessions.{Session}
 use Rattle.chain_core.specs.States.{IsServing, LeavesOthers, State, dirty_now, disk_now, sector_of}
 use Rattle.script_session.specs.Histories.{Grows, IsEndTold, IsLater, IsSoLong}
-use Rattle.script_session.specs.MergeSteps.{AnswersFinish, AnswersTurn}
+use Rattle.script_session.specs.MergeSteps.{AnswersFinish, AnswersPut, AnswersTurn}
 
 -- a file that may be changed is so long, within 1,024 MB of the greatest place that a block may have
 abbrev pub IsFullAt : (ℕ → Bool) → Trace → ℕ → Type 0
@@ -32,6 +35,12 @@ abbrev pub TurnsLeave : Type 0
 TurnsLeave =
     (stripe : ℕ) (answer : Result (Unit {0}) ChainRefusal) (old new : Session) → old.broken ≡ None → AnswersTurn stripe answer old new
     → WhereBothTold (λ trace now. (v : State) → IsServing old.layers v trace → IsLeft v answer new trace now) old.disk.told new.disk.told
+
+-- So it is of a put, for a state that the session serves of which the piece is true.
+abbrev pub PutsLeave : Type 0
+PutsLeave =
+    (piece : Piece) (answer : Result (Unit {0}) ChainRefusal) (old new : Session) → old.broken ≡ None → AnswersPut piece answer old new
+    → WhereBothTold (λ trace now. (v : State) → IsServing old.layers v trace → IsTruePiece v (piece_of piece) → IsLeft v answer new trace now) old.disk.told new.disk.told
 
 abbrev pub FinishesLeave : Type 0
 FinishesLeave =

@@ -97,6 +97,10 @@ module _ {S T : Type 0} (disk : S → Disk) where
     pub made_ready : (n : ℕ) (actors : List (Actor S T)) → AreFresh (IsSetFor disk v.first) made n actors → All (IsReady disk lock) actors
     made_ready n actors h = fresh_ready disk v.first made lock n actors (ap (λ (s : Known Step (Basis S T)). s.lock) is) made_knows.began h
 
+    -- it knows with what the session began
+    pub made_first : made.basis.first ≡ Some v.first
+    made_first = made_knows.began
+
     pub made_run : v.first.layers.geometry.sector ≡ 512 → (names : List (List ℕ)) (lines : List Line) (n : ℕ) (old new : List (Actor S T)) → AreFresh (IsSetFor disk v.first) made n old → RunsEach disk lock names lines old new → AreActors (HasRun disk v.first lock names lines) n new
     made_run sector names lines n old new h runs = all_run disk v.first lock names lines made n old new (ap (λ (s : Known Step (Basis S T)). s.lock) is) made_knows sector h runs
 
@@ -273,6 +277,8 @@ module _ {S T : Type 0} (disk : S → Disk) where
           counted = subst (λ f. EndsCounted (disk old.first.store) after f run.closed) (sym fault) counted_first;
           faults = faults_told disk old.first merges s.lock names lines s.seat told short s.guests s.joined v mid.broke history basis s.places s.refusals small after run.closed ended w counted_first;
           unread = unread_of_store disk old.first merges s.lock names lines s.seat told short s.guests s.joined v mid.broke history basis s.places s.refusals small;
+          unfetched = s.unfetched;
+          none_fetched = s.none_fetched;
           unread_is = s.unread_is;
           full = v.full;
           ends = ends_told disk old.first s.seat v.full (λ next h. full_noted next (disk v.chain.store) v.chain.broken v.full (basis.notes (notes.Full next) h)) lines s.guests s.joined.heard;
@@ -316,7 +322,9 @@ module _ {S T : Type 0} (disk : S → Disk) where
             none = changed_none (disk old.first.store) after run.closed counted_first.none;
           };
           unread = all_empty _ unread_in refl (guest_count lines);
-          unread_is = no_read ∙ sym (unread_none (guest_count lines));
+          unfetched = 0;
+          none_fetched = λ none. refl;
+          unread_is = (let none = unread_none (guest_count lines) in omega (arith, no_read, none));
           full = v.full;
           ends = all_empty _ (flat_map told_of) refl (guest_count lines);
           under_way = has_merge v.chain.layers;
@@ -402,7 +410,9 @@ module _ {S T : Type 0} (disk : S → Disk) where
       none = changed_none (disk first.store) after run.run.closed counted.none;
     };
     unread = all_empty _ unread_in refl (guest_count lines);
-    unread_is = no_read ∙ sym (unread_none (guest_count lines));
+    unfetched = 0;
+    none_fetched = λ none. refl;
+    unread_is = (let none = unread_none (guest_count lines) in omega (arith, no_read, none));
     full = None;
     ends = all_empty _ (flat_map told_of) refl (guest_count lines);
     under_way = has_merge first.layers;

@@ -1,6 +1,6 @@
 -- What a seat has heard of a guest's calls, as it sees more, and by one more call.
 use Rattle.std.proofs.Common.{◌≡◌, ◌⊎◌, ◌+◌, ◌*◌, ◌/◌, ◌^◌, ◌<◌, ◌≤◌, ◌==◌, ◌++◌, ◌∷◌, ℕ, Bool, true, false, [], List, length, replicate, Option, Some, None, Result, Ok, Err, inl, inr, refl, sym, ap, ap₂, subst, ◌∙◌, arith, eqb-true, length-append, lt-ltb, leb-true, take}
-use Rattle.std.specs.Prelude.{◌&&◌, IfErr, IfOk, IfSome, MatchBool, OnOk, if◌then◌else◌, is_some, nat_le, nat_lt}
+use Rattle.std.specs.Prelude.{◌&&◌, IfErr, IfOk, IfSome, MatchBool, if◌then◌else◌, is_some, nat_le, nat_lt}
 use Rattle.std.proofs.lemmas.Bool.{ltb-true, ne_eqb}
 use Rattle.std.proofs.lemmas.List.{length-map, length-replicate}
 use Rattle.store_model.specs.Cause.{Rose}

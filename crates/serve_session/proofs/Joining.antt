@@ -27,7 +27,7 @@ use Rattle.serve_session.specs.declared.actor.Actor.{Actor}
 use Rattle.serve_session.specs.Actors.{AreHeard, AreJoined, HasHeard, HasRun, IsActor, IsFrom, OwnsAt}
 use Rattle.claims.specs.Seats.{Counter}
 use Rattle.serve_session.specs.Sealing.{IsSetFor}
-use Rattle.serve_session.specs.Lists.{AreActors, AreFresh, HasDone, IsFresh, IsFreshWorker, IsReady, RunsEach, WorksEach, with_splits}
+use Rattle.serve_session.specs.Lists.{AreActors, AreFresh, CanWork, HasDone, IsFresh, IsFreshWorker, IsReady, RunsEach, WorksEach, with_splits}
 use Rattle.serve_session.specs.Served.{EachGuest, IsCountedUp, IsRising, Outcome, SomeGuest, forms_of, none_failed, places_in, told_calls, told_guests, unread_in}
 use Rattle.serve_session.proofs.Guests.{each_map, each_snoc, forms_few, some_last, some_left, some_map, told_guests_snoc, unread_few}
 use Rattle.serve_session.proofs.Hearing.{all_heard_later, from_through, heard_few, knows_more, owns_still}
@@ -62,17 +62,31 @@ module _ {S T : Type 0} where
         subst (λ o. IfSome o (λ (chain : Chain S KeepAll T). All (IsReaderFor disk chain) a.guest.readers)) (sym (ap (λ (s : Known Step (Basis S T)). s.basis.first) h.0.seat ∙ began)) h.0.set.own,
       ) (fresh_ready disk first seat lock (n - 1) actors of_lock began h.1)
 
-  -- workers that had made no turn have none of their own now but one that broke the session
-  pub all_done : (lock : TableId) (seat : Known Step (Basis S T)) (claims : Counter) (turns : ℕ) (old new : List (Worker S T)) → turns ≤ 2 ^ 32 → seat.lock ≡ lock → All (IsFreshWorker seat claims) old → WorksEach turns old new → All (HasDone lock) new
-  all_done lock seat claims turns old new few of_lock fresh works i d within =
+  -- workers that have made no turn may take turns
+  pub fresh_can : (disk : S → Disk) (lock : TableId) (seat : Known Step (Basis S T)) (claims : Counter) (workers : List (Worker S T)) → seat.lock ≡ lock → All (IsFreshWorker disk seat claims) workers → All (CanWork disk lock claims) workers
+  fresh_can disk lock seat claims workers of_lock fresh i d within =
+      let f = fresh i d within in
+      record {
+        free = (ap (λ (s : Known Step (Basis S T)). s.lock) f.seat ∙ of_lock, ap (λ (s : Known Step (Basis S T)). s.turn) f.seat);
+        counter = f.counter;
+        source = f.source;
+        failed = f.failed;
+      }
+
+  -- and have none of their own once they took them but one that broke the session
+  pub all_done : (disk : S → Disk) (lock : TableId) (seat : Known Step (Basis S T)) (claims : Counter) (turns : ℕ) (old new : List (Worker S T)) → turns ≤ 2 ^ 32 → seat.lock ≡ lock → All (IsFreshWorker disk seat claims) old → WorksEach turns old new
+      → All (HasDone lock) new
+  all_done disk lock seat claims turns old new few of_lock fresh works i d within =
       let before : i < length old = omega (arith, within, works.count) in
       let f = fresh i d before in
       let w = works.each i d before in
-      let nothing : (slice_index_or old i d).seat.drawn ≡ 0 = ap (λ (s : Known Step (Basis S T)). s.drawn) f.seat in (
-        (w.keeps.lock ∙ ap (λ (s : Known Step (Basis S T)). s.lock) f.seat ∙ of_lock, w.keeps.free),
-        λ p own. go p (slice_index_or old i d) (ap (λ (s : Known Step (Basis S T)). s.mine) f.seat) (w.own p own),
-        omega (arith, w.drawn, nothing, few),
-      )
+      let nothing : (slice_index_or old i d).seat.drawn ≡ 0 = ap (λ (s : Known Step (Basis S T)). s.drawn) f.seat in
+      record {
+        free = (w.keeps.lock ∙ ap (λ (s : Known Step (Basis S T)). s.lock) f.seat ∙ of_lock, w.keeps.free);
+        owns = λ p own. go p (slice_index_or old i d) (ap (λ (s : Known Step (Basis S T)). s.mine) f.seat) (w.own p own);
+        drawn = omega (arith, w.drawn, nothing, few);
+        failed = works.failed i d before;
+      }
     where
       go : (p : ℕ) (a : Worker S T) {Q : Type 0} → a.seat.mine ≡ [] → (0 < times p a.seat.mine) ⊎ Q → Q
       go p a none (inl own) = absurd (nothing_own p (subst (λ ms. 0 < times p ms) none own))
@@ -237,7 +251,7 @@ module _ {S T : Type 0} where
           positive (suc n) ne = omega arith
 
           go : (times p seat.mine ≡ 0) ⊎ (times p seat.mine ≢ 0) → SomeGuest (OwnsBy new p) 1 guests ⊎ MergeBreaksAt new.seen p
-          go (inl none) = inr (breaks_later w.seat.seen new.seen p seen.1 (done.1 p (omega (arith, own, mine, none))))
+          go (inl none) = inr (breaks_later w.seat.seen new.seen p seen.1 (done.owns p (omega (arith, own, mine, none))))
           go (inr some) = still_owns p (j.owns p (positive (times p seat.mine) some))
 
       pub worker_joined : AreJoined disk first true lock names lines new told short guests

@@ -147,6 +147,7 @@ module _ {S T : Type 0} (disk : S → Disk) (chain : Chain S KeepAll T) (names :
         subst (λ n. FaultsAreTold (all_told h.guests) (failed_by run.run.closed) n old.failed_changes after.failed_reads after.failed_changes) (files_are disk chain first sealed.met sealed.sealing old counts)
         (record { each = k.each; end = k.end; none = λ none. k.none none ∙ changes_are disk chain first sealed.met sealed.sealing old counts });
     unread = subst (λ n. AllByRecursion (λ fault. fault.file < n) (all_unread h.guests)) (files_are disk chain first sealed.met sealed.sealing old counts) h.unread;
+    unfetched = h.unfetched;
     unread_is = h.unread_is;
     stopped = h.stopped;
     served = have;

@@ -1,5 +1,5 @@
 -- What a guest's readers count, as its reads are made.
-use Rattle.std.proofs.Common.{◌≡◌, ◌≢◌, ◌⊎◌, ◌+◌, ◌<◌, ◌≤◌, ◌==◌, ◌++◌, ◌∷◌, ℕ, zero, suc, Bool, true, false, List, [], length, map, set, get_or, Result, Ok, Err, inl, inr, refl, sym, ap, subst, ◌∙◌, arith, ne_eqb}
+use Rattle.std.proofs.Common.{◌≡◌, ◌≢◌, ◌⊎◌, ◌<◌, ◌++◌, ◌∷◌, ℕ, zero, suc, true, List, [], length, map, set, get_or, Result, Ok, Err, inl, inr, refl, sym, ap, subst, ◌∙◌, arith, ne_eqb}
 use Rattle.std.specs.Prelude.{All, IfErr, if◌then◌else◌}
 use Rattle.std.specs.List.{AllByRecursion}
 use Rattle.std.proofs.Math.Seq.{map-set_same}
@@ -25,7 +25,8 @@ use Rattle.guest_io.specs.declared.placed.Placed.{Placed}
 use Rattle.serve_session.specs.Actors.{HasReaders, IsUnread}
 use Rattle.serve_session.specs.Asking.{is_want, outcome_of, read_as}
 use Rattle.serve_session.specs.Served.{Outcome, call_of, counts_behind, none_failed, unread_in, unread_of, with_count}
-use Rattle.serve_session.proofs.Back.{failed_at, risen_lt, snoc_lt}
+use Rattle.read_plan.proofs.Failing.{failed_at, risen_lt}
+use Rattle.serve_session.proofs.Back.{snoc_lt}
 use Rattle.serve_session.proofs.Guests.{unread_snoc}
 
 -- the counts behind one more failed read

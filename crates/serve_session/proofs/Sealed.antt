@@ -1,10 +1,9 @@
 -- Sealing what a session only reads, and the readers that each of its guests gets.
-use Rattle.std.proofs.Common.{◌≡◌, ◌≢◌, ◌==◌, ◌||◌, ◌+◌, ◌<◌, ◌≤◌, ◌++◌, ℕ, Bool, true, false, List, [], ◌∷◌, length, map, replicate, Option, Some, None, refl, sym, ap, subst, ◌∙◌, arith}
+use Rattle.std.proofs.Common.{◌≡◌, ◌≢◌, ◌==◌, ◌||◌, ◌<◌, ◌++◌, ℕ, Bool, true, false, List, [], ◌∷◌, map, replicate, Option, Some, None, refl, sym, ap, subst, ◌∙◌, arith}
 use Rattle.std.specs.Prelude.{All, IfSome, is_some}
 use Rattle.std.specs.List.{AllByRecursion}
 use Rattle.std.proofs.lemmas.Bool.{eq-eqb}
 use Rattle.std.proofs.lemmas.List.Elements.{All-from_recursion, All-map, All-replicate}
-use Rattle.store_model.specs.Cause.{Rose}
 use Rattle.store_model.specs.Disk.{Disk, Sealed, WhereBothTold, WhereTold, changed, fault_in, reader_of}
 use Rattle.store_model.specs.File.{Seal}
 use Rattle.store_model.specs.Trace.{Trace}
@@ -13,7 +12,7 @@ use Rattle.store_model.specs.declared.fault.SealFault.TheVariants.{NoRoom, Store
 use Rattle.store_model.specs.declared.fault.StoreFault.{StoreFault}
 use Rattle.layer_session.proofs.Equal.{none_some, some_same}
 use Rattle.guest_model.specs.declared.recorder.KeepAll.{KeepAll}
-use Rattle.read_plan.specs.Reading.{is_among}
+use Rattle.read_plan.specs.Reading.{has_failed, is_among}
 use Rattle.chain_core.specs.declared.chain.Chain.{Chain}
 use Rattle.chain_core.specs.Sealed.{AreSynced, CanSeal, GoesOnSealed, StopsAt, StopsSealing, read_numbers, readers_of, sealed_in}
 use Rattle.chain_core.specs.Sessions.{AreApart, IsSound}
@@ -27,7 +26,6 @@ use Rattle.chain_core.proofs.SealedSteps.{files_all, read_files_are_synced, read
 use Rattle.shared_chain.specs.Faults.{CountsRead}
 use Rattle.shared_chain.specs.Homes.{session_of}
 use Rattle.shared_chain.specs.Planned.{IsReaderFor}
-use Rattle.serve_session.specs.Back.{has_failed}
 use Rattle.serve_session.specs.Served.{counts_behind, none_failed}
 use Rattle.serve_session.specs.Sealing.{IsSealing, IsSetFor, ServesFirst}
 

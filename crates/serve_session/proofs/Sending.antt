@@ -15,6 +15,7 @@ use Rattle.read_plan.proofs.plan.Plan.TheSendSync.{the_send as plan_send}
 use Rattle.read_plan.proofs.readers.ReaderSet.TheSendSync.{the_send as set_send}
 use Rattle.claims.proofs.counter.ClaimSeat.TheSendSync.{the_send as claim_send}
 use Rattle.copy_workers.specs.contracts.worker.Worker as worker
+use Rattle.copy_workers.proofs.source.SourceReaders.TheSendSync.{the_send as source_send}
 use Rattle.guest_io.specs.contracts.guest.Guest as guest
 use Rattle.script.proofs.told.ToldCall.TheSendSync as told
 use Rattle.serve_session.specs.contracts.actor.Actor as actor
@@ -38,7 +39,7 @@ actor_send S R d r s k =
     recorded_send (actor.the_field S R d r).row _ _ (actor.the_type S R d r).to_one
     (struct_send (shape (actor.the_type S R d r)) (g, (search (sendable, crosses) depth 30, (search (sendable, crosses) depth 30, (search (sendable, crosses) depth 30, (search (sendable, crosses) depth 30, (search (sendable, crosses) depth 30, tt)))))))
 
-pub worker_send : (S R : RattleType) (d : store.Ghosts S.Denot R.Denot) (r : reader.Ghosts R.Denot) → IsSend S → IsSend (worker.the_row S R d r)
-worker_send S R d r s =
+pub worker_send : (S R : RattleType) (d : store.Ghosts S.Denot R.Denot) (r : reader.Ghosts R.Denot) → IsSend S → IsSend R → IsSend (worker.the_row S R d r)
+worker_send S R d r s k =
     let v = shared_send S R d r s in
-    search (sendable, crosses, seat_send, claim_send) depth 30 fits 20000
+    search (sendable, crosses, seat_send, claim_send, source_send) depth 30 fits 20000

@@ -6,7 +6,6 @@ use Rattle.store_model.specs.declared.fault.StoreFault.{StoreFault}
 use Rattle.guest_model.specs.declared.recorder.KeepAll.{KeepAll}
 use Rattle.guest_model.specs.declared.refusal.ChainRefusal.TheVariants.{NoRoom}
 use Rattle.chain_core.specs.declared.chain.Chain.{Chain}
-use Rattle.chain_core.specs.declared.layers.Layers.{Layers}
 use Rattle.chain_core.specs.Sessions.{has_merge}
 use Rattle.script.specs.declared.form.Line.{Line}
 use Rattle.shared_chain.specs.Closing.{LeavesHistory}

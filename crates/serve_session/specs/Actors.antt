@@ -1,4 +1,5 @@
 -- What a guest of a script has done so far, by its seat and what it was told.
+use Rattle.read_plan.specs.Reading.{has_failed}
 use Rattle.std.specs.Prelude.{◌≡◌, ◌⊎◌, ◌+◌, ◌-◌, ◌^◌, ◌<◌, ◌≤◌, ⊤, ℕ, Bool, false, true, All, List, [], ◌∷◌, ◌++◌, if◌then◌else◌, length, map, nat_lt, Some, None, Result, Ok, Err, IfErr, IfOk}
 use Rattle.store_model.specs.Disk.{Disk, Sealed}
 use Rattle.store_model.specs.declared.fault.StoreFault.{StoreFault}
@@ -32,7 +33,6 @@ use Rattle.shared_chain.specs.Bases.{notes_in}
 use Rattle.shared_chain.specs.Notes.{HasNote}
 use Rattle.shared_chain.specs.Steps.{done_steps, open_by}
 use Rattle.shared_chain.specs.Seats.{IsFree, MergeBreaksAt}
-use Rattle.serve_session.specs.Back.{has_failed}
 use Rattle.serve_session.specs.declared.actor.Actor.{Actor}
 use Rattle.serve_session.specs.Served.{EachGuest, Has, IsCountedUp, IsRising, IsWhole, Outcome, SomeGuest, call_of, counts_behind, entry_of, forms_of, none_failed, places_in, told_calls, told_guests, unread_in}
 

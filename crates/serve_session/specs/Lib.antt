@@ -3,6 +3,7 @@ pub mod Served
 pub mod Asking
 pub mod Back
 pub mod Sealing
+pub mod Tools
 pub mod Actors
 pub mod Lists
 pub mod MergeServed

@@ -12,6 +12,7 @@ use Rattle.shared_chain.specs.declared.basis.Step.{Step}
 use Rattle.shared_chain.specs.Seats.{HasWorked, IsFree}
 use Rattle.serve_session.specs.Actors.{AreJoined, HasRun, IsActor}
 use Rattle.claims.specs.Seats.{Counter}
+use Rattle.copy_workers.specs.Sources.{HasSource, HaveFailed}
 use Rattle.copy_workers.specs.declared.worker.Worker.{Worker}
 use Rattle.serve_session.specs.declared.actor.Actor.{Actor}
 use Rattle.shared_chain.specs.Seats.{MergeBreaksAt}
@@ -56,23 +57,33 @@ module _ {S T : Type 0} where
     pub count : length new ≡ length old
     pub each : (i : ℕ) (d : Actor S T) → i < length old → RunsTo disk lock names lines (slice_index_or old i d) (slice_index_or new i d)
 
-  -- a worker with a seat that was split from this one, which has made no turn
-  pub record IsFreshWorker (first : Known Step (Basis S T)) (claims : Counter) (worker : Worker S T) : Type 0 where
-    pub seat : worker.seat ≡ split_off first
-    pub counter : worker.claim.counter ≡ claims
+  module _ (disk : S → Disk) where
+    -- a worker with a seat that was split from this one, which has made no turn, and with readers of which none has failed
+    pub record IsFreshWorker (first : Known Step (Basis S T)) (claims : Counter) (worker : Worker S T) : Type 0 where
+      pub seat : worker.seat ≡ split_off first
+      pub counter : worker.claim.counter ≡ claims
+      pub source : HasSource disk worker.seat.basis worker.reads
+      pub failed : HaveFailed worker.reads worker.unfetched
 
-  -- it may take turns
-  abbrev pub CanWork : TableId → Counter → Worker S T → Type 0
-  CanWork lock claims worker = IsFree lock worker.seat × (worker.claim.counter ≡ claims)
+    -- it may take turns
+    pub record CanWork (lock : TableId) (claims : Counter) (worker : Worker S T) : Type 0 where
+      pub free : IsFree lock worker.seat
+      pub counter : worker.claim.counter ≡ claims
+      pub source : HasSource disk worker.seat.basis worker.reads
+      pub failed : HaveFailed worker.reads worker.unfetched
 
-  -- workers have taken so many turns each at most
+  -- workers have taken so many turns each at most, and count the stripes that they couldn't fetch
   pub record WorksEach (turns : ℕ) (old new : List (Worker S T)) : Type 0 where
     pub count : length new ≡ length old
     pub each : (i : ℕ) (d : Worker S T) → i < length old → HasWorked turns (slice_index_or old i d).seat (slice_index_or new i d).seat
+    pub failed : (i : ℕ) (d : Worker S T) → i < length old → HaveFailed (slice_index_or new i d).reads (slice_index_or new i d).unfetched
 
   -- it has ended its turns, and nothing is its own but where a step of the merge broke the session; it drew fewer than 2^33 tickets
-  abbrev pub HasDone : TableId → Worker S T → Type 0
-  HasDone lock worker = IsFree lock worker.seat × ((p : ℕ) → 0 < times p worker.seat.mine → MergeBreaksAt worker.seat.seen p) × (worker.seat.drawn ≤ 2 ^ 32)
+  pub record HasDone (lock : TableId) (worker : Worker S T) : Type 0 where
+    pub free : IsFree lock worker.seat
+    pub owns : (p : ℕ) → 0 < times p worker.seat.mine → MergeBreaksAt worker.seat.seen p
+    pub drawn : worker.seat.drawn ≤ 2 ^ 32
+    pub failed : HaveFailed worker.reads worker.unfetched
 
   -- what guests were told stands of a seat into which those of a merge's workers were joined
   abbrev pub WorkersJoin : (S → Disk) → TableId → Known Step (Basis S T) → Known Step (Basis S T) → Type 0

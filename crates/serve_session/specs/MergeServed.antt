@@ -73,7 +73,9 @@ pub record HasServedWith (scope : Scope) (names : List (List ℕ)) (lines : List
   pub quiet : run.run.fault ≡ None → OnOk run.run.closed (new ≡ record old { told = new.told })
   pub faults : FaultsAreTold (all_told guests) (failed_by run.run.closed) old.files old.failed_changes new.failed_reads new.failed_changes
   pub unread : AllByRecursion (λ fault. fault.file < old.files) (all_unread guests)
-  pub unread_is : run.unread ≡ length (all_unread guests)
+  -- and so many of stripes that workers couldn't fetch
+  pub unfetched : ℕ
+  pub unread_is : run.unread ≡ length (all_unread guests) + unfetched
   pub stopped : IfErr run.merged (StopsMerge run.run)
   pub served : WhereBothTold (HasServedOver scope lines guests history broken run.merged run.run.closed) old.told new.told
 

@@ -57,7 +57,10 @@ pub record WasShared {S T : Type 0} (disk : S → Disk) (merges : Bool) (old : S
   pub guests : List (List Outcome)
   pub joined : AreJoined disk old.first merges lock names lines seat told short guests
   pub count : length guests ≡ guest_count lines
-  pub unread_is : unread ≡ length (all_unread guests)
+  -- of stripes that workers couldn't fetch
+  pub unfetched : ℕ
+  pub none_fetched : merges ≡ false → unfetched ≡ 0
+  pub unread_is : unread ≡ length (all_unread guests) + unfetched
   pub history : steps_of new.chain.recorder new.broke ≡ seat.seen
   pub basis : Contains (basis_of disk new) seat.basis
   pub places : (p : ℕ) → times p seat.mine ≡ once_between p 1 (length seat.seen + 1)
@@ -96,7 +99,9 @@ pub record HasServed {S T : Type 0} (disk : S → Disk) (merges : Bool) (first :
   pub counted : EndsCounted (disk first.store) after run.run.fault run.run.closed
   pub faults : FaultsAreTold (all_told guests) (failed_by run.run.closed) (disk first.store).files (disk first.store).failed_changes after.failed_reads after.failed_changes
   pub unread : AllByRecursion (λ fault. fault.file < (disk first.store).files) (all_unread guests)
-  pub unread_is : run.unread ≡ length (all_unread guests)
+  pub unfetched : ℕ
+  pub none_fetched : merges ≡ false → unfetched ≡ 0
+  pub unread_is : run.unread ≡ length (all_unread guests) + unfetched
   pub full : Option ℕ
   pub ends : AllByRecursion (IsEndTold (IsUpTo full)) (all_told guests)
   pub under_way : Bool

@@ -10,12 +10,13 @@ ghost use Rattle.serve_session.specs.Served.{guest_count};
 use crate::merging::MergeRun;
 use crate::sealing::{Unserved, seal};
 use crate::serving::{serve, unserved};
+use crate::tools::tools_for;
 use chain_core::Chain;
 use guest_model::KeepAll;
 use merge_core::Piece;
 use read_plan::ReaderSet;
 use script::Line;
-use shared_chain::SharedChain;
+use shared_chain::{SharedChain, end_fresh};
 use std::alloc::Global;
 use std::convert::AsStr;
 use std::sync::Wait;
@@ -56,15 +57,20 @@ where
     ensures served { ServesSealed S.disk (is_some last.entry) chain (map N.text names.now) lines.now result.1 (S.disk result.0) }
     ensures back { any_failed result.2.items ≡ nat_lt 0 result.1.unread }
 {
-    let (chain, sets) = match seal(alloc, chain, rooms.len() as u32) {
+    let readers = (rooms.len() + pieces.len()) as u32;
+    let (chain, sets) = match seal(alloc, chain, readers) {
         Ok(made) => made,
         Err(Unserved { store, met, closed }) => {
             return (store, unserved(met, closed), Vec::new(alloc));
         }
     };
+    let Ok(tools) = tools_for(alloc, &chain, pieces) else {
+        let (store, closed) = end_fresh(chain);
+        return (store, unserved(None, closed), Vec::new(alloc));
+    };
     match SharedChain::new(alloc, chain, stripes) {
         Ok(chain) => serve(
-            rt, alloc, chain, names, lines, rooms, sets, stripes, pieces, last, gate,
+            rt, alloc, chain, names, lines, rooms, sets, stripes, tools, last, gate,
         ),
         Err((store, closed)) => (store, unserved(None, closed), Vec::new(alloc)),
     }

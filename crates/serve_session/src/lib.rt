@@ -9,6 +9,7 @@ mod merging;
 mod sealing;
 mod serving;
 mod session;
+mod tools;
 
 pub use merging::{MergeRun, pieces_for, run_serve_leaf_merge, run_serve_merge};
 pub use serving::rooms_for;

@@ -1,6 +1,6 @@
 //! A script's session with several guests, from the first call to its end.
 
-ghost use Rattle.std.specs.Prelude.{◌≡◌, ◌+◌, ◌*◌, ◌≤◌, ◌<◌, ◌^◌, ℕ, Bool, List, All, Err, Ok, false, true, length, map, nat_lt, is_some, string_bytes, vec_capacity, [], IfOk, IfSome, None};
+ghost use Rattle.std.specs.Prelude.{◌≡◌, ◌+◌, ◌*◌, ◌≤◌, ◌<◌, ◌^◌, ◌||◌, ℕ, Bool, List, All, Err, Ok, false, true, length, map, nat_lt, is_some, string_bytes, vec_capacity, [], IfOk, IfSome, None};
 ghost use denote.Param.Send.{IsSend, IsSync};
 ghost use Rattle.std.specs.Fork.{AcceptsEach};
 ghost use Rattle.serve_session.specs.Beside.{WasCalledAt};
@@ -12,12 +12,14 @@ ghost use Rattle.serve_session.specs.Actors.{AreJoined, HasRun};
 ghost use Rattle.serve_session.specs.Back.{any_failed};
 ghost use Rattle.script.specs.Transcript.{IsTold, serve_text};
 ghost use Rattle.serve_session.specs.Lists.{AreActors, AreFresh, CanWork, HasDone, HasJoined, IsFreshWorker, IsReady, RunsEach, WorkersJoin, WorksEach, with_splits};
+ghost use Rattle.serve_session.specs.Tools.{AreToolsFor};
 ghost use Rattle.serve_session.specs.Served.{greatest_from, guest_count};
 ghost use Rattle.serve_session.specs.Sealing.{IsSetFor};
 ghost use Rattle.serve_session.specs.Serving.{EndsAs, HasBegun, HasServed, IsShared};
 
 use crate::actor::{Actor, Left as GuestLeft, ROOM_LEN};
 use crate::merging::MergeRun;
+use crate::tools::Tools;
 use claims::{ClaimSeat, Claims};
 use copy_workers::Worker;
 use guest_io::Guest;
@@ -100,7 +102,7 @@ fn add_actors<S: Store>(
     requires splits { first.old.family.splits ≡ 0 }
     requires few { length rooms.old.items ≤ 64 }
     requires each { All (λ room. length room.items ≡ 1048576) rooms.old.items }
-    requires count { length sets.old ≡ length rooms.old.items }
+    requires count { length rooms.old.items ≤ length sets.old }
     requires sets { All (IsSetFor S.disk chain.now.value.first) sets.old }
     requires plans { length plans.old.items ≡ length rooms.old.items }
     requires none { actors.old.items ≡ [] }
@@ -108,6 +110,8 @@ fn add_actors<S: Store>(
     ensures seat { first.new ≡ with_splits first.old (length rooms.old.items) }
     ensures fresh { AreFresh (IsSetFor S.disk chain.now.value.first) first.old (length rooms.old.items) actors.new.items }
     ensures count { length actors.new.items ≡ length rooms.old.items }
+    ensures left { length sets.new + length rooms.old.items ≡ length sets.old }
+    ensures sets { All (IsSetFor S.disk chain.now.value.first) sets.new }
 {
     while let Some(room) = rooms.pop() {
         let number = rooms.len() as u32 + 1;
@@ -172,9 +176,12 @@ fn end_actors<S: Store, N: AsStr>(
     requires none { back.old.items ≡ [] }
     requires reserved { length actors.old.items ≤ vec_capacity told.old }
     requires reserved_back { length actors.old.items ≤ vec_capacity back.old }
+    ensures sets { length back.new.items ≡ length actors.old.items }
+    ensures capacity { vec_capacity back.new ≡ vec_capacity back.old }
     ensures joined { HasJoined S.disk false chain.now.value.first lock.now (map N.text names.now) lines.now (length actors.old.items) first.old first.new told.new.items result.is_short
         result.unread }
     ensures back { any_failed back.new.items ≡ nat_lt 0 result.unread }
+    ensures few { result.unread ≤ 2 ^ 26 }
     ensures none { actors.new.items ≡ [] }
 {
     let mut unread = 0;
@@ -213,30 +220,40 @@ fn transcript_of(
     }
 }
 
-// A worker for each piece, with seats of its own; there is room for them.
+// A worker for each one's tools, with seats and readers of its own; there is room for them.
 fn add_workers<S: Store>(
     lock: &TurnLock<SharedChain<S>>,
     first: &mut Seat<SharedChain<S>>,
     claims: &Claims,
     claim: &mut ClaimSeat,
-    pieces: &mut Vec<Piece>,
+    sets: &mut Readers<S::R>,
+    tools: &mut Vec<Tools>,
     workers: &mut Vec<Worker<S>>,
+    chain: &Snapshot<SharedChain<S>>,
 )
     requires free { IsFree lock.now first.old }
     requires leads { first.old.family.is_first ≡ true }
     requires splits { first.old.family.splits ≤ 64 }
     requires counter { (claim.old.counter ≡ claims.now) × (claim.old.family ≡ newborn true) }
-    requires few { length pieces.old.items ≤ 64 }
+    requires few { length tools.old.items ≤ 64 }
+    requires knows { first.old.basis.first ≡ Some chain.now.value.first }
+    requires many { length tools.old.items ≤ length sets.old }
+    requires sets { All (IsSetFor S.disk chain.now.value.first) sets.old }
+    requires tools { All (AreToolsFor S.disk chain.now.value.first) tools.old.items }
     requires none { workers.old.items ≡ [] }
-    requires reserved { length pieces.old.items ≤ vec_capacity workers.old }
-    ensures seat { first.new ≡ with_splits first.old (length pieces.old.items) }
-    ensures fresh { All (IsFreshWorker first.old claims.now) workers.new.items }
-    ensures count { length workers.new.items ≡ length pieces.old.items }
+    requires reserved { length tools.old.items ≤ vec_capacity workers.old }
+    ensures seat { first.new ≡ with_splits first.old (length tools.old.items) }
+    ensures fresh { All (IsFreshWorker S.disk first.old claims.now) workers.new.items }
+    ensures count { length workers.new.items ≡ length tools.old.items }
 {
-    while let Some(piece) = pieces.pop() {
+    while let Some(one) = tools.pop() {
+        let Tools { piece, source } = one;
+        let Some(readers) = sets.take() else {
+            unreachable!();
+        };
         let seat = lock.split(first);
         let own = claims.split(claim);
-        workers.push_reserved(Worker::new(seat, own, piece));
+        workers.push_reserved(Worker::new(seat, own, readers, piece, source));
     }
 }
 
@@ -255,7 +272,7 @@ fn run_beside<S: Store + Send, R: Threads + Wait + Sync, G: Gate + Sync, N: AsSt
 where
     S::R: Send + Drop,
     requires guests { All (IsReady S.disk lock.now) actors.old }
-    requires workers { All (CanWork lock.now claims.now) workers.old }
+    requires workers { All (CanWork S.disk lock.now claims.now) workers.old }
     requires few { length lines.now ≤ 2 ^ 20 }
     ensures guests { RunsEach S.disk lock.now (map N.text names.now) lines.now actors.old actors.new }
     ensures workers { WorksEach (claims.now.limit + 1) workers.old workers.new }
@@ -271,15 +288,21 @@ where
     );
 }
 
-// Joins the seats of all workers.
+// Joins the seats of all workers, and keeps their readers, for which there is room. Answers how many stripes they couldn't fetch, as a reader
+// failed.
 fn end_workers<S: Store>(
     lock: &TurnLock<SharedChain<S>>,
     first: &mut Seat<SharedChain<S>>,
     workers: &mut Vec<Worker<S>>,
-)
+    back: &mut Vec<ReaderSet<S::R>>,
+) -> u64
     requires own { IsFree lock.now first.old }
     requires leads { first.old.family.is_first ≡ true }
     requires done { All (HasDone lock.now) workers.old.items }
+    requires few { length workers.old.items ≤ 64 }
+    requires reserved { length back.old.items + length workers.old.items ≤ vec_capacity back.old }
+    ensures back { any_failed back.new.items ≡ (any_failed back.old.items || nat_lt 0 result) }
+    ensures alone { length workers.old.items ≡ 0 → result ≡ 0 }
     ensures joined { WorkersJoin S.disk lock.now first.old first.new }
     ensures family { first.new.family ≡ record first.old.family { joins = first.old.family.joins + length workers.old.items } }
     ensures free { IsFree lock.now first.new }
@@ -288,14 +311,18 @@ fn end_workers<S: Store>(
     ensures drawn { first.new.drawn ≤ first.old.drawn + 2 ^ 32 * length workers.old.items }
     ensures none { workers.new.items ≡ [] }
 {
+    let mut unfetched: u64 = 0;
     while let Some(worker) = workers.pop() {
-        let (seat, _) = worker.end();
+        let (seat, _, readers, more) = worker.end();
         lock.join(first, seat);
+        back.push_reserved(readers);
+        unfetched = unfetched.saturating_add(more);
     }
+    unfetched
 }
 
-// What threads left of a chain that they shared: the chain, what each guest was told, its readers, how many of the guests' reads failed by one,
-// and whether memory ran out.
+// What threads left of a chain that they shared: the chain, what each guest was told, the readers of guests and workers, how many reads failed by
+// one, and whether memory ran out.
 struct Left<S: Store> {
     chain: SharedChain<S>,
     told: Vec<ToldCalls>,
@@ -364,7 +391,7 @@ fn room_for_sets<R: Reader + Drop>(
     Ok(sets)
 }
 
-// Shares a chain among guests, each of which gets a set of readers, and among a worker for each piece.
+// Shares a chain among guests, and among a worker for each one's tools, each of which gets a set of readers.
 fn share<S: Store + Send, R: Threads + Wait + Sync, G: Gate + Sync, N: AsStr + Sync>(
     rt: &R,
     alloc: Global,
@@ -374,7 +401,7 @@ fn share<S: Store + Send, R: Threads + Wait + Sync, G: Gate + Sync, N: AsStr + S
     rooms: Vec<Vec<u8>>,
     sets: Readers<S::R>,
     stripes: u32,
-    pieces: Vec<Piece>,
+    tools: Vec<Tools>,
     gate: &G,
 ) -> Left<S>
 where
@@ -383,15 +410,16 @@ where
     requires few { length lines.now ≤ 2 ^ 20 }
     requires count { length rooms.items ≡ guest_count lines.now }
     requires each { All (λ room. length room.items ≡ 1048576) rooms.items }
-    requires sets { (length sets ≡ length rooms.items) × All (IsSetFor S.disk chain.first) sets }
-    requires workers { length pieces.items ≤ 64 }
-    ensures alone { length pieces.items ≡ 0 → IsShared S.disk false chain (map N.text names.now) lines.now result.chain result.told.items result.is_short result.unread }
+    requires sets { (length sets ≡ length rooms.items + length tools.items) × All (IsSetFor S.disk chain.first) sets }
+    requires tools { All (AreToolsFor S.disk chain.first) tools.items }
+    requires workers { length tools.items ≤ 64 }
+    ensures alone { length tools.items ≡ 0 → IsShared S.disk false chain (map N.text names.now) lines.now result.chain result.told.items result.is_short result.unread }
     ensures beside { IsShared S.disk true chain (map N.text names.now) lines.now result.chain result.told.items result.is_short result.unread }
     ensures back { any_failed result.back.items ≡ nat_lt 0 result.unread }
 {
     let mut rooms = rooms;
     let mut sets = sets;
-    let mut pieces = pieces;
+    let mut tools = tools;
     let was = Snapshot::of(&chain);
     let Ok((claims, mut claim)) = Claims::new(alloc, stripes) else {
         return unshared(alloc, chain);
@@ -399,11 +427,10 @@ where
     let Ok(mut plans) = plans_for(alloc, rooms.len()) else {
         return unshared(alloc, chain);
     };
-    let Ok(mut back) = room_for_sets(alloc, rooms.len()) else {
+    let Ok(mut back) = room_for_sets(alloc, rooms.len() + tools.len()) else {
         return unshared(alloc, chain);
     };
-    let Some((mut actors, mut workers, mut told)) = reserved(alloc, rooms.len(), pieces.len())
-    else {
+    let Some((mut actors, mut workers, mut told)) = reserved(alloc, rooms.len(), tools.len()) else {
         return unshared(alloc, chain);
     };
     let (lock, mut first) = match TurnLock::new(alloc, chain) {
@@ -429,8 +456,10 @@ where
         &mut first,
         &claims,
         &mut claim,
-        &mut pieces,
+        &mut sets,
+        &mut tools,
         &mut workers,
+        &was,
     );
     let (guests, hands) = (actors.as_mut_slice(), workers.as_mut_slice());
     run_beside(rt, alloc, &lock, gate, names, lines, guests, &claims, hands);
@@ -444,7 +473,7 @@ where
         names,
         lines,
     );
-    end_workers(&lock, &mut first, &mut workers);
+    let unfetched = end_workers(&lock, &mut first, &mut workers, &mut back);
     actors.destroy_empty();
     workers.destroy_empty();
     let chain = lock.close(first);
@@ -452,7 +481,7 @@ where
         chain,
         told,
         back,
-        unread,
+        unread: unread.saturating_add(unfetched),
         is_short,
     }
 }
@@ -471,9 +500,9 @@ fn end_merge<S: Store>(
 }
 
 /// Runs a script of `serve` over a chain whose session has begun, each guest's calls in the script's order, beside a worker of the merge for
-/// each piece; then the merge, if there is one, is finished, and the session ends. The store comes back, whatever is answered, and with it the
-/// guests' readers. The names are those of the chain's files, from the leaf on; each guest has a room, and the merge a piece of its own for what
-/// is left to it.
+/// each one's tools; then the merge, if there is one, is finished, and the session ends. The store comes back, whatever is answered, and with it the
+/// readers of guests and workers. The names are those of the chain's files, from the leaf on; each guest has a room, and the merge a piece of its
+/// own for what is left to it.
 pub(crate) fn serve<S: Store + Send, R: Threads + Wait + Sync, G: Gate + Sync, N: AsStr + Sync>(
     rt: &R,
     alloc: Global,
@@ -483,7 +512,7 @@ pub(crate) fn serve<S: Store + Send, R: Threads + Wait + Sync, G: Gate + Sync, N
     rooms: Vec<Vec<u8>>,
     sets: Readers<S::R>,
     stripes: u32,
-    pieces: Vec<Piece>,
+    tools: Vec<Tools>,
     last: Option<&mut Piece>,
     gate: &G,
 ) -> (S, MergeRun, Vec<ReaderSet<S::R>>)
@@ -493,14 +522,15 @@ where
     requires few { length lines.now ≤ 2 ^ 20 }
     requires count { length rooms.items ≡ guest_count lines.now }
     requires each { All (λ room. length room.items ≡ 1048576) rooms.items }
-    requires sets { (length sets ≡ length rooms.items) × All (IsSetFor S.disk chain.first) sets }
-    requires workers { length pieces.items ≤ 64 }
-    requires alone { is_some last ≡ false → length pieces.items ≡ 0 }
+    requires sets { (length sets ≡ length rooms.items + length tools.items) × All (IsSetFor S.disk chain.first) sets }
+    requires tools { All (AreToolsFor S.disk chain.first) tools.items }
+    requires workers { length tools.items ≤ 64 }
+    requires alone { is_some last ≡ false → length tools.items ≡ 0 }
     ensures served { HasServed S.disk (is_some last.entry) chain.first (map N.text names.now) lines.now result.1 (S.disk result.0) }
     ensures back { any_failed result.2.items ≡ nat_lt 0 result.1.unread }
 {
     let left = share(
-        rt, alloc, chain, names, lines, rooms, sets, stripes, pieces, gate,
+        rt, alloc, chain, names, lines, rooms, sets, stripes, tools, gate,
     );
     let Left {
         mut chain,

@@ -62,3 +62,7 @@ turn_marks stripe old new (fetched_and answer stamp old' mid new' piece fetched 
 pub marks_if : {stripe : ℕ} {old new : Session} (answer : Result (Unit {0}) ChainRefusal) → AnswersTurn stripe answer old new → OnOk answer (HasMark stripe new.layers)
 marks_if {stripe} {old} {new} (Ok done) turn = turn_marks stripe old new turn
 marks_if {stripe} {old} {new} (Err x) turn = tt
+
+pub put_marks_if : {piece : Piece} {old new : Session} (answer : Result (Unit {0}) ChainRefusal) → AnswersPut piece answer old new → OnOk answer (HasMark piece.stripe new.layers)
+put_marks_if {piece} {old} {new} (Ok done) put = put_marks piece old new put
+put_marks_if {piece} {old} {new} (Err x) put = tt

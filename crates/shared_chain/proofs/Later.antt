@@ -14,11 +14,11 @@ use Rattle.script_session.proofs.LeftFiles.{later_itself, later_same, later_writ
 use Rattle.script_session.proofs.Telling.{names_entry, numbers_entry}
 
 pub later_through : (from v : State) (h k : History) (end : State) → IsLater from h v → IsLater v k end → IsLater from k end
-later_through from v h k end c is = later_same from v k end c.leaf c.opening c.began c.left c.names c.goes c.whole is
+later_through from v h k end c is = later_same from v k end c.leaf c.opening c.began c.left c.names c.goes c.whole c.source is
 
 pub later_entry : (e : Entry) (v : State) → IsLater v (v.history ++ e ∷ []) (with_entry e v)
 later_entry e v =
-    later_same v (with_entry e v) (v.history ++ e ∷ []) (with_entry e v) refl refl refl (numbers_entry e v) (names_entry e v) (inl (record { number = refl; name = refl; retired = refl; writes = refl; since = refl; merges = refl })) (λ u. (u, refl))
+    later_same v (with_entry e v) (v.history ++ e ∷ []) (with_entry e v) refl refl refl (numbers_entry e v) (names_entry e v) (inl (record { number = refl; name = refl; retired = refl; writes = refl; since = refl; merges = refl })) (λ u. (u, refl)) (λ u. refl)
     (later_itself (with_entry e v))
 
 -- what it may change it might before

@@ -15,3 +15,4 @@ mod Ended
 pub mod Breaking
 mod Counting
 pub mod Marked
+mod Fetched

@@ -49,27 +49,30 @@ use Rattle.shared_chain.proofs.Breaking.{none_broke}
 use Rattle.shared_chain.proofs.Causing.{at_end, noted_reads}
 use Rattle.shared_chain.proofs.Filling.{second_told}
 use Rattle.shared_chain.proofs.Noting.{IsChange, Stays, noted}
-use Rattle.shared_chain.proofs.Stepping.{IsQuiet, StepOf, finish_quiet, finish_step, home_quiet, home_step, keeps_both, quiet_change, same_err, step_change, turn_step}
+use Rattle.shared_chain.proofs.Stepping.{IsAptFrom, IsQuiet, StepOf, finish_quiet, finish_step, home_quiet, home_step, keeps_both, quiet_change, same_err, step_change, turn_step}
 
 -- ---- what one or more steps carry on
 
-pub record Carries (old new : Session) (answer : Result (Unit {0}) ChainRefusal) : Type 0 where
+pub record Carries (first old new : Session) (answer : Result (Unit {0}) ChainRefusal) : Type 0 where
   pub keeps : KeepsHistory old new
   pub later : old.events ≤ new.events
   pub change : IsChange (as_answer answer) old.disk new.disk old.broken new.broken
-  pub home : (first : Session) (h : History) (full : Option ℕ) (broke : Option Breach) (fault : Option StoreFault) → IsHome first old h full broke fault
+  pub home : (h : History) (full : Option ℕ) (broke : Option Breach) (fault : Option StoreFault) → IsHome first old h full broke fault
       → IsHome first new h (full_after full (as_answer answer)) (broke_after broke merge_breach (as_answer answer)) (fault_after fault (as_answer answer))
 
-pub carries_step : (old new : Session) (answer : Result (Unit {0}) ChainRefusal) → IsSound new → StepOf old new answer → Carries old new answer
-carries_step old new answer sound s = record {
+pub carries_apt : (Apt : State → Type 0) (first old new : Session) (answer : Result (Unit {0}) ChainRefusal) → IsSound new → StepOf Apt old new answer → ((h : History) → IsAptFrom Apt first h) → Carries first old new answer
+carries_apt Apt first old new answer sound s apt = record {
   keeps = s.keeps;
   later = s.later;
   change = step_change old new answer s;
-  home = λ first h full broke fault home. home_step first old new h full broke fault answer sound s home;
+  home = λ h full broke fault home. home_step first old new h full broke fault answer sound s (apt h) home;
 }
 
-carries_none : (old : Session) → Carries old old (Ok tt)
-carries_none old = record { keeps = record { noted = refl; told = refl; geometry = refl; session = refl }; later = omega arith; change = (refl, refl, refl); home = λ first h full broke fault home. home }
+pub carries_step : (first old new : Session) (answer : Result (Unit {0}) ChainRefusal) → IsSound new → StepOf (λ v. ⊤) old new answer → Carries first old new answer
+carries_step first old new answer sound s = carries_apt (λ v. ⊤) first old new answer sound s (λ h t told from to serving empty comes. tt)
+
+carries_none : (first old : Session) → Carries first old old (Ok tt)
+carries_none first old = record { keeps = record { noted = refl; told = refl; geometry = refl; session = refl }; later = omega arith; change = (refl, refl, refl); home = λ h full broke fault home. home }
 
 change_behind : (a b c : Disk) (x y z : Option StoreFault) (answer : Result ℕ ChainRefusal) → Stays a b x y → IsChange answer b c y z → IsChange answer a c x z
 change_behind a b c x y z answer s = go answer
@@ -100,59 +103,59 @@ change_behind a b c x y z answer s = go answer
     go (Err NoPiece) t = stays t
     go (Err NoRoom) t = stays t
 
-carries_then : (old mid new : Session) (answer : Result (Unit {0}) ChainRefusal) → Carries old mid (Ok tt) → Carries mid new answer → Carries old new answer
-carries_then old mid new answer a b = record {
+carries_then : (first old mid new : Session) (answer : Result (Unit {0}) ChainRefusal) → Carries first old mid (Ok tt) → Carries first mid new answer → Carries first old new answer
+carries_then first old mid new answer a b = record {
   keeps = keeps_both old mid new a.keeps b.keeps;
   later = omega (arith, a.later, b.later);
   change = change_behind old.disk mid.disk new.disk old.broken mid.broken new.broken (as_answer answer) a.change b.change;
-  home = λ first h full broke fault home. b.home first h full broke fault (a.home first h full broke fault home);
+  home = λ h full broke fault home. b.home h full broke fault (a.home h full broke fault home);
 }
 
-carries_turns : (old : Session) (slot : Piece) (new : Session) (left : Piece) → AnswersTurns old slot new left → IsSound new → Carries old new (Ok tt)
-carries_turns old slot _ _ no_turn sound = carries_none old
-carries_turns old slot new left (one_more stripe mid _ held _ turns next turn empty) sound =
-    carries_then old mid new (Ok tt) (carries_turns old slot mid held turns (sound_of stripe (Ok tt) mid new turn)) (carries_step mid new (Ok tt) sound (turn_step stripe (Ok tt) mid new turn))
+carries_turns : (first old : Session) (slot : Piece) (new : Session) (left : Piece) → AnswersTurns old slot new left → IsSound new → Carries first old new (Ok tt)
+carries_turns first old slot _ _ no_turn sound = carries_none first old
+carries_turns first old slot new left (one_more stripe mid _ held _ turns next turn empty) sound =
+    carries_then first old mid new (Ok tt) (carries_turns first old slot mid held turns (sound_of stripe (Ok tt) mid new turn)) (carries_step first mid new (Ok tt) sound (turn_step stripe (Ok tt) mid new turn))
 
-ends_carry : (old : Session) (slot : Piece) (answer : Result (Unit {0}) ChainRefusal) (new : Session) (left : Piece) → EndsCopy old slot answer new left → IsSound new → Carries old new answer
-ends_carry old slot _ _ _ (all_moved new left turns sound missing) s = carries_turns old slot new left turns sound
-ends_carry old slot _ new left (one_refused e stripe mid _ held _ turns next turn empty) sound =
-    carries_then old mid new (Err e) (carries_turns old slot mid held turns (sound_of stripe (Err e) mid new turn)) (carries_step mid new (Err e) sound (turn_step stripe (Err e) mid new turn))
+ends_carry : (first old : Session) (slot : Piece) (answer : Result (Unit {0}) ChainRefusal) (new : Session) (left : Piece) → EndsCopy old slot answer new left → IsSound new → Carries first old new answer
+ends_carry first old slot _ _ _ (all_moved new left turns sound missing) s = carries_turns first old slot new left turns sound
+ends_carry first old slot _ new left (one_refused e stripe mid _ held _ turns next turn empty) sound =
+    carries_then first old mid new (Err e) (carries_turns first old slot mid held turns (sound_of stripe (Err e) mid new turn)) (carries_step first mid new (Err e) sound (turn_step stripe (Err e) mid new turn))
 
 unchanged_self : (s : Session) → IsUnchanged s s
 unchanged_self s = refl
 
-copy_carries : (old : Session) (slot : Piece) (answer : Result (Unit {0}) ChainRefusal) (new : Session) (left : Piece) → AnswersCopy answer old slot new left → IsSound new → Carries old new answer
-copy_carries old slot answer new left h sound = go (merge_refused old) refl
+copy_carries : (first old : Session) (slot : Piece) (answer : Result (Unit {0}) ChainRefusal) (new : Session) (left : Piece) → AnswersCopy answer old slot new left → IsSound new → Carries first old new answer
+copy_carries first old slot answer new left h sound = go (merge_refused old) refl
   where
-    go : (o : Option ChainRefusal) → merge_refused old ≡ o → Carries old new answer
-    go None is = ends_carry old slot answer new left (h.turns is) sound
+    go : (o : Option ChainRefusal) → merge_refused old ≡ o → Carries first old new answer
+    go None is = ends_carry first old slot answer new left (h.turns is) sound
     go (Some e) is =
         let early = subst (λ o. IfStopped {T = Unit {0}} o answer ((new ≡ old) × (left ≡ slot))) is h.early in
         let q = finish_quiet old e is in
-        subst (Carries old new) (sym early.0)
-        (subst (λ s. Carries old s (Err e)) (sym early.1.0)
+        subst (Carries first old new) (sym early.0)
+        (subst (λ s. Carries first old s (Err e)) (sym early.1.0)
         (record {
           keeps = record { noted = refl; told = refl; geometry = refl; session = refl };
           later = omega arith;
           change = quiet_change old.disk old.disk old.broken old.broken e refl refl q;
-          home = λ first k full broke fault home. home_quiet first old old k full broke fault home home.sound (unchanged_self old) e q;
+          home = λ k full broke fault home. home_quiet first old old k full broke fault home home.sound (unchanged_self old) e q;
         }))
 
-pub end_carries : (old : Session) (slot : Piece) (new : Session) (answer : Result (Unit {0}) ChainRefusal) → EndsMerge old slot new answer → IsSound new → Carries old new answer
-end_carries old slot new _ (none_found left h) sound =
-    let c = copy_carries old slot (Err NoMerge) new left h sound in record { keeps = c.keeps; later = c.later; change = c.change; home = c.home }
-end_carries old slot new _ (none_left mid left s h f) sound =
-    let c = carries_then old mid new (Err NoMerge) (copy_carries old slot (Ok tt) mid left h s) (carries_step mid new (Err NoMerge) sound (finish_step (Err NoMerge) mid new f)) in
+pub end_carries : (first old : Session) (slot : Piece) (new : Session) (answer : Result (Unit {0}) ChainRefusal) → EndsMerge old slot new answer → IsSound new → Carries first old new answer
+end_carries first old slot new _ (none_found left h) sound =
+    let c = copy_carries first old slot (Err NoMerge) new left h sound in record { keeps = c.keeps; later = c.later; change = c.change; home = c.home }
+end_carries first old slot new _ (none_left mid left s h f) sound =
+    let c = carries_then first old mid new (Err NoMerge) (copy_carries first old slot (Ok tt) mid left h s) (carries_step first mid new (Err NoMerge) sound (finish_step (Err NoMerge) mid new f)) in
     record { keeps = c.keeps; later = c.later; change = c.change; home = c.home }
-end_carries old slot new _ (copy_stopped left x other h) sound = copy_carries old slot (Err x) new left h sound
-end_carries old slot new _ (finish_done mid left s h f) sound = carries_then old mid new (Ok tt) (copy_carries old slot (Ok tt) mid left h s) (carries_step mid new (Ok tt) sound (finish_step (Ok tt) mid new f))
-end_carries old slot new _ (finish_stopped mid left x other s h f) sound =
-    carries_then old mid new (Err x) (copy_carries old slot (Ok tt) mid left h s) (carries_step mid new (Err x) sound (finish_step (Err x) mid new f))
+end_carries first old slot new _ (copy_stopped left x other h) sound = copy_carries first old slot (Err x) new left h sound
+end_carries first old slot new _ (finish_done mid left s h f) sound = carries_then first old mid new (Ok tt) (copy_carries first old slot (Ok tt) mid left h s) (carries_step first mid new (Ok tt) sound (finish_step (Ok tt) mid new f))
+end_carries first old slot new _ (finish_stopped mid left x other s h f) sound =
+    carries_then first old mid new (Err x) (copy_carries first old slot (Ok tt) mid left h s) (carries_step first mid new (Err x) sound (finish_step (Err x) mid new f))
 
 -- ---- what a step leaves of the shared chain
 
 module _ {S T : Type 0} (disk : S → Disk) (old new first : Chain S KeepAll T) (answer : Result (Unit {0}) ChainRefusal) (full full' : Option ℕ) (broke broke' : Option Breach) (fault fault' : Option StoreFault) (copied copied' : Marks) (finished finished' : Bool) (full_is : full' ≡ full_after full (as_answer answer))
-    (broke_is : broke' ≡ broke_after broke merge_breach (as_answer answer)) (fault_is : fault' ≡ fault_after fault (as_answer answer)) (c : Carries (session_of disk old) (session_of disk new) answer) where
+    (broke_is : broke' ≡ broke_after broke merge_breach (as_answer answer)) (fault_is : fault' ≡ fault_after fault (as_answer answer)) (c : Carries (session_of disk first) (session_of disk old) (session_of disk new) answer) where
   abbrev was : Shared (Chain S KeepAll T)
   was = record { chain = old; first = first; full = full; broke = broke; fault = fault; copied = copied; finished = finished }
 
@@ -190,7 +193,7 @@ module _ {S T : Type 0} (disk : S → Disk) (old new first : Chain S KeepAll T) 
       (subst (λ f. IsHome (session_of disk first) (session_of disk new) old.recorder full' broke' f) (sym fault_is)
       (subst (λ b. IsHome (session_of disk first) (session_of disk new) old.recorder full' b (fault_after fault (as_answer answer))) (sym broke_is)
       (subst (λ n. IsHome (session_of disk first) (session_of disk new) old.recorder n (broke_after broke merge_breach (as_answer answer)) (fault_after fault (as_answer answer))) (sym full_is)
-      (c.home (session_of disk first) old.recorder full broke fault home))))
+      (c.home old.recorder full broke fault home))))
 
 -- ---- none is under way
 
@@ -400,7 +403,7 @@ turn_stops stripe _ x _ _ is next (not_fetched e old new left h) = subst (EndsBy
 turn_stops stripe _ x _ _ is next (fetched_and answer stamp old mid new piece h p) = put_stops stripe stamp old mid new piece x h (subst (λ r. AnswersPut piece r mid new) is p)
 
 -- what stops a turn of a copy, by the session before it and behind it
-data TurnEnds (stripe : ℕ) (old new : Session) : ChainRefusal → Type 0 where
+pub data TurnEnds (stripe : ℕ) (old new : Session) : ChainRefusal → Type 0 where
   turn_spent : (t : ℕ) → 2 ^ 63 ≤ t → t ≤ new.events → TurnEnds stripe old new (Spent t)
   turn_broken : (file count : ℕ) → TurnEnds stripe old new (Broken file count)
   turn_read : (file count : ℕ) → TurnEnds stripe old new (ReadFault file count)
@@ -435,7 +438,7 @@ of_end stripe old new _ (by_broken file count is) = turn_broken file count
 of_end stripe old new _ (by_read file count has) = turn_read file count
 of_end stripe old new _ (by_full next has) = turn_full next
 
-turn_refused : (stripe : ℕ) (answer : Result (Unit {0}) ChainRefusal) (x : ChainRefusal) (old new : Session) → answer ≡ Err x → AnswersTurn stripe answer old new → TurnEnds stripe old new x
+pub turn_refused : (stripe : ℕ) (answer : Result (Unit {0}) ChainRefusal) (x : ChainRefusal) (old new : Session) → answer ≡ Err x → AnswersTurn stripe answer old new → TurnEnds stripe old new x
 turn_refused stripe _ x _ _ is (not_fetched e old new left h) = subst (TurnEnds stripe old new) (same_err {T = Unit {0}} e x is) (go (fetch_refused stripe old) refl)
   where
     go : (o : Option ChainRefusal) → fetch_refused stripe old ≡ o → TurnEnds stripe old new e
@@ -444,6 +447,32 @@ turn_refused stripe _ x _ _ is (not_fetched e old new left h) = subst (TurnEnds 
         subst (TurnEnds stripe old new) (sym (same_err {T = ℕ} e f early.0)) (turn_early stripe old new f early.1 h.later first)
     go None fit = of_end stripe old new e (fetch_ends left old new e (still_has stripe (Err e) old new left h fit) (h.cause fit))
 turn_refused stripe _ x _ _ is (fetched_and answer stamp old mid new piece h p) = of_end stripe old new x (put_stops stripe stamp old mid new piece x h (subst (λ r. AnswersPut piece r mid new) is p))
+
+-- what refuses a put of a piece that was fetched outside is what refuses a fetch of its stripe
+put_as_fetch : (piece : Piece) (s : Session) → piece.filled ≡ true → piece.stamp ≡ 0 → s.layers.retiring ≡ None → put_refused piece s ≡ fetch_refused piece.stripe s
+put_as_fetch piece s filled stamp alone =
+    ap (or_else (unfit s.events s.broken))
+    (ap₂ (λ (a b : Option ChainRefusal). or_else (no_merge s.layers) (or_else a (or_else (no_stripe piece.stripe s.layers) b))) (ap (λ b. if b then None else Some NoPiece) filled)
+    (ap₂ stale stamp (ap (λ o. stamp_in o piece.stripe) alone) ∙ never_stale 0) ∙ ap (or_else (no_merge s.layers)) (or_none (no_stripe piece.stripe s.layers)) ∙ twice (has_merge s.layers))
+  where
+    twice : (b : Bool) → or_else (if b then None else Some NoMerge) (if b then past_stripes piece.stripe (stripe_count s.layers.geometry.sector s.layers.geometry.sectors) else Some NoMerge)
+        ≡ (if b then past_stripes piece.stripe (stripe_count s.layers.geometry.sector s.layers.geometry.sectors) else Some NoMerge)
+    twice true = refl
+    twice false = refl
+
+pub put_stopped : (piece : Piece) (answer : Result (Unit {0}) ChainRefusal) (x : ChainRefusal) (old new : Session) → piece.filled ≡ true → piece.stamp ≡ 0 → old.layers.retiring ≡ None → answer ≡ Err x → AnswersPut piece answer old new → TurnEnds piece.stripe old new x
+put_stopped piece answer x old new filled stamp alone is p = go (put_refused piece old) refl
+  where
+    same : put_refused piece old ≡ fetch_refused piece.stripe old
+    same = put_as_fetch piece old filled stamp alone
+
+    go : (o : Option ChainRefusal) → put_refused piece old ≡ o → TurnEnds piece.stripe old new x
+    go (Some e) first =
+        let early = subst (λ o. IfStopped {T = Unit {0}} o answer (IsUnchanged old new)) first p.early in
+        subst (TurnEnds piece.stripe old new) (sym (same_err {T = Unit {0}} x e (sym is ∙ early.0))) (turn_early piece.stripe old new e early.1 p.later (sym same ∙ first))
+    go None fit =
+        let has = stripe_has piece.stripe old.layers (parts_none (unfit old.events old.broken) (no_stripe piece.stripe old.layers) (sym same ∙ fit)).1 in
+        of_end piece.stripe old new x (put_ends piece old new x has (subst (PutCause piece old new) is (p.cause fit)))
 
 -- ---- a copy
 
@@ -649,7 +678,7 @@ end_events old slot new _ (finish_stopped mid left x other s h f) = omega (arith
 -- ---- a file that is full
 
 -- a step that is refused for want of room is one of a session that isn't broken
-full_whole : (old new : Session) (next : ℕ) → StepOf old new (Err (FileFull next)) → old.broken ≡ None
+full_whole : (old new : Session) (next : ℕ) → StepOf (λ v. ⊤) old new (Err (FileFull next)) → old.broken ≡ None
 full_whole old new next s = go old.broken refl
   where
     go : (o : Option StoreFault) → old.broken ≡ o → old.broken ≡ None
@@ -663,21 +692,21 @@ module _ (first : Session) (h : History) (full : Option ℕ) (broke : Option Bre
   abbrev IsNear : ℕ → Type 0
   IsNear next = WhereTold first.disk.told (λ trace. (from : State) → IsServing first.layers from trace → from.history ≡ [] → 2 ^ 43 < next + 1024)
 
-  step_near : (old new : Session) (next : ℕ) → IsHome first old h full broke fault → StepOf old new (Err (FileFull next)) → IsNear next
+  step_near : (old new : Session) (next : ℕ) → IsHome first old h full broke fault → StepOf (λ v. ⊤) old new (Err (FileFull next)) → IsNear next
   step_near old new next home s trace told from serving empty =
       let whole = full_whole old new next s in
       let b = both_told (λ trace after. (from : State) → IsServing first.layers from trace → from.history ≡ [] → Follows from h full broke old after) first.disk.told old.disk.told trace told home.follows in
       let f = b.2 from serving empty in
       let l = both_told _ old.disk.told new.disk.told b.0 b.1 (s.left whole) in
-      let left = l.2 f.to (f.serves whole) in
+      let left = l.2 f.to (f.serves whole) tt in
       let k : IsFullAt f.to.writes l.0 next = left.full in
       k.0
 
   copy_near : (answer : Result (Unit {0}) ChainRefusal) (old : Session) (slot : Piece) (new : Session) (left : Piece) (next : ℕ) → answer ≡ Err (FileFull next) → IsHome first old h full broke fault → EndsCopy old slot answer new left → IsNear next
   copy_near _ old slot _ _ next is home (all_moved new left turns sound missing) = absurd (ok_err is)
   copy_near _ old slot new left next is home (one_refused e stripe mid _ held _ turns next_is turn empty) =
-      let there = (carries_turns old slot mid held turns (sound_of stripe (Err e) mid new turn)).home first h full broke fault home in
-      step_near mid new next there (subst (StepOf mid new) is (turn_step stripe (Err e) mid new turn))
+      let there = (carries_turns first old slot mid held turns (sound_of stripe (Err e) mid new turn)).home h full broke fault home in
+      step_near mid new next there (subst (StepOf (λ v. ⊤) mid new) is (turn_step stripe (Err e) mid new turn))
 
   end_near : (old : Session) (slot : Piece) (new : Session) (answer : Result (Unit {0}) ChainRefusal) (next : ℕ) → answer ≡ Err (FileFull next) → IsHome first old h full broke fault → EndsMerge old slot new answer → IsNear next
   end_near old slot new _ next is home (none_found left h) = absurd (ok_err is)
@@ -697,7 +726,7 @@ module _ (first : Session) (h : History) (full : Option ℕ) (broke : Option Bre
 
 module _ {S T : Type 0} (disk : S → Disk) (old new first : Chain S KeepAll T) (slot : Piece) (answer : Result (Unit {0}) ChainRefusal) (full full' : Option ℕ) (broke broke' : Option Breach) (fault fault' : Option StoreFault) (copied copied' : Marks) (finished finished' : Bool) (full_is : full' ≡ full_after full (as_answer answer))
     (broke_is : broke' ≡ broke_after broke merge_breach (as_answer answer)) (fault_is : fault' ≡ fault_after fault (as_answer answer)) (e : EndsMerge (session_of disk old) slot (session_of disk new) answer)
-    (c : Carries (session_of disk old) (session_of disk new) answer) (home : IsHome (session_of disk first) (session_of disk old) old.recorder full broke fault) (copied_is : copied' ≡ copied) (finished_is : finished' ≡ true) where
+    (c : Carries (session_of disk first) (session_of disk old) (session_of disk new) answer) (home : IsHome (session_of disk first) (session_of disk old) old.recorder full broke fault) (copied_is : copied' ≡ copied) (finished_is : finished' ≡ true) where
   abbrev before : Shared (Chain S KeepAll T)
   before = record { chain = old; first = first; full = full; broke = broke; fault = fault; copied = copied; finished = finished }
 
@@ -730,7 +759,7 @@ module _ {S T : Type 0} (disk : S → Disk) (old new first : Chain S KeepAll T) 
 -- ---- why a stripe isn't copied
 
 module _ {S T : Type 0} (disk : S → Disk) (old new first : Chain S KeepAll T) (answer : Result (Unit {0}) ChainRefusal) (full full' : Option ℕ) (broke broke' : Option Breach) (fault fault' : Option StoreFault) (copied copied' : Marks) (finished finished' : Bool)
-    (full_is : full' ≡ full_after full (as_answer answer)) (broke_is : broke' ≡ broke_after broke merge_breach (as_answer answer)) (fault_is : fault' ≡ fault_after fault (as_answer answer)) (c : Carries (session_of disk old) (session_of disk new) answer) where
+    (full_is : full' ≡ full_after full (as_answer answer)) (broke_is : broke' ≡ broke_after broke merge_breach (as_answer answer)) (fault_is : fault' ≡ fault_after fault (as_answer answer)) (c : Carries (session_of disk first) (session_of disk old) (session_of disk new) answer) where
   abbrev earlier : Shared (Chain S KeepAll T)
   earlier = record { chain = old; first = first; full = full; broke = broke; fault = fault; copied = copied; finished = finished }
 
@@ -757,9 +786,9 @@ module _ {S T : Type 0} (disk : S → Disk) (old new first : Chain S KeepAll T) 
   stops_copy stripe _ is (turn_none none) = none
   stops_copy stripe _ is (turn_past s n same past count) = (same, past, count)
 
-  pub stopped_as : (stripe : ℕ) → AnswersTurn stripe answer (session_of disk old) (session_of disk new) → (seen : Shared (Chain S KeepAll T)) → earlier ≡ seen → IfErr answer (StopsCopy disk stripe seen later)
-  stopped_as stripe turn seen seen_is = subst (λ s. IfErr answer (StopsCopy disk stripe s later)) seen_is (go answer refl)
+  pub stopped_as : (stripe : ℕ) → ((x : ChainRefusal) → answer ≡ Err x → TurnEnds stripe (session_of disk old) (session_of disk new) x) → (seen : Shared (Chain S KeepAll T)) → earlier ≡ seen → IfErr answer (StopsCopy disk stripe seen later)
+  stopped_as stripe stops seen seen_is = subst (λ s. IfErr answer (StopsCopy disk stripe s later)) seen_is (go answer refl)
     where
       go : (r : Result (Unit {0}) ChainRefusal) → answer ≡ r → IfErr r (StopsCopy disk stripe earlier later)
       go (Ok done) is = tt
-      go (Err x) is = stops_copy stripe x is (turn_refused stripe answer x (session_of disk old) (session_of disk new) is turn)
+      go (Err x) is = stops_copy stripe x is (stops x is)

@@ -11,21 +11,24 @@ use Rattle.guest_model.specs.declared.refusal.ChainRefusal.TheVariants.{Abandone
 use Rattle.guest_model.specs.History.{History}
 use Rattle.chain_model.specs.Moments.{EachOpens, EachOpensToPrefix}
 use Rattle.chain_model.specs.Stripes.{stripe_count}
+use Rattle.merge_core.specs.Pieces.{piece_of}
 use Rattle.merge_core.specs.declared.piece.Piece.{Piece}
 use Rattle.layer_session.specs.Calls.{Fails}
 use Rattle.layer_session.specs.declared.file.LayerFault.TheVariants as layer
 use Rattle.chain_core.specs.Answering.{fault_of}
-use Rattle.chain_core.specs.Copying.{FetchCause, IfStopped, PutCause, fetch_refused, merge_refused, no_merge, no_stripe, past_stripes, put_refused, stale, stamp_of, unfilled}
+use Rattle.chain_core.specs.Copying.{FetchCause, IfStopped, MarksToo, PutCause, fetch_refused, merge_refused, no_merge, no_stripe, past_stripes, put_refused, stale, stamp_of, unfilled}
 use Rattle.chain_core.specs.Finished.{FinishCause}
+use Rattle.chain_core.specs.Merging.{IsTruePiece}
 use Rattle.chain_core.specs.Refusing.{broken_by, or_else, unfit}
 use Rattle.chain_core.specs.Sessions.{IsSound, Session, has_merge}
 use Rattle.chain_core.specs.States.{IsServing, LeavesOthers, State, dirty_now, disk_now, sector_of}
 use Rattle.chain_core.specs.declared.layers.Layers.{Layers}
+use Rattle.chain_core.specs.declared.layers.Retiring.{Retiring}
 use Rattle.layer_session.proofs.Equal.{none_some, ok_err, some_none, some_same}
 use Rattle.script_session.specs.Histories.{IsEndTold, IsLater, IsSoLong}
 use Rattle.script_session.specs.MergeSteps.{AnswersFetch, AnswersFinish, AnswersPut, AnswersTurn, IsUnchanged, KeepsHistory, fetched_and, not_fetched}
 use Rattle.script_session.specs.StepsLeft.{IsFullAt, IsLeft}
-use Rattle.script_session.proofs.Leaving.{finishes_leave, turns_leave}
+use Rattle.script_session.proofs.Leaving.{finishes_leave, puts_leave, turns_leave}
 use Rattle.script_session.proofs.Lengths.{grows_none, long_later}
 use Rattle.script_session.proofs.Moving.{ok_reached}
 use Rattle.shared_chain.specs.declared.basis.Breach.{Breach}
@@ -214,14 +217,81 @@ behind_fetch : (old mid new : Session) (answer : Result (Unit {0}) ChainRefusal)
 behind_fetch old mid new _ disk whole still (quiet x same broken q) = quiet x (same ∙ disk) (broken ∙ still ∙ sym whole) (subst (λ o. IsQuiet o x) (still ∙ sym whole) q)
 behind_fetch old mid new answer disk whole still (reached _ none c) = reached answer whole (subst (λ d. HasCounted d new (as_answer answer)) disk c)
 
+-- ---- the merge of the leaf
+
+-- what a session that broke, or one that refused, kept
+same_layers : (old new : Session) → IsUnchanged old new → old.layers.retiring ≡ None → new.layers.retiring ≡ None
+same_layers old new is none = ap (λ (s : Session). s.layers.retiring) is ∙ none
+
+marks_none : (stripe : ℕ) (r q : Option Retiring) → MarksToo stripe r q → r ≡ None → q ≡ None
+marks_none stripe None None h none = refl
+marks_none stripe None (Some q) h none = absurd h
+marks_none stripe (Some r) q h none = absurd (some_none none)
+
+put_caused : (piece : Piece) (old new : Session) (answer : Result (Unit {0}) ChainRefusal) → PutCause piece old new answer → old.layers.retiring ≡ None → new.layers.retiring ≡ None
+put_caused piece old new (Ok done) c none = marks_none piece.stripe old.layers.retiring new.layers.retiring c.0.1 none
+put_caused piece old new (Err EmptyRange) c none = absurd c
+put_caused piece old new (Err (OutOfRange first count sectors)) c none = absurd c
+put_caused piece old new (Err (TooLong count limit)) c none = absurd c
+put_caused piece old new (Err ReadOnly) c none = absurd c
+put_caused piece old new (Err (Broken file count)) c none = c.0.1 ∙ none
+put_caused piece old new (Err (Spent t)) c none = absurd c
+put_caused piece old new (Err (FileFull next)) c none = c.0.1 ∙ none
+put_caused piece old new (Err (ReadFault file count)) c none = c.0.1 ∙ none
+put_caused piece old new (Err NoMerge) c none = absurd c
+put_caused piece old new (Err (Stale taken at)) c none = absurd c
+put_caused piece old new (Err (NotYet stripe)) c none = absurd c
+put_caused piece old new (Err (Abandoned file count)) c none = absurd c
+put_caused piece old new (Err (NoStripe stripe stripes)) c none = absurd c
+put_caused piece old new (Err NoPiece) c none = absurd c
+put_caused piece old new (Err NoRoom) c none = absurd c
+
+put_alone : (piece : Piece) (answer : Result (Unit {0}) ChainRefusal) (old new : Session) → AnswersPut piece answer old new → old.layers.retiring ≡ None → new.layers.retiring ≡ None
+put_alone piece answer old new h none = go (put_refused piece old) refl
+  where
+    go : (o : Option ChainRefusal) → put_refused piece old ≡ o → new.layers.retiring ≡ None
+    go (Some e) is = same_layers old new (subst (λ o. IfStopped {T = Unit {0}} o answer (IsUnchanged old new)) is h.early).1 none
+    go None is = put_caused piece old new answer (h.cause is) none
+
+turn_alone : (stripe : ℕ) (answer : Result (Unit {0}) ChainRefusal) (old new : Session) → AnswersTurn stripe answer old new → old.layers.retiring ≡ None → new.layers.retiring ≡ None
+turn_alone stripe _ _ _ (not_fetched e old new left h) none = h.merge.1 ∙ none
+turn_alone stripe _ _ _ (fetched_and answer stamp old mid new piece h p) none = put_alone piece answer mid new p (h.merge.1 ∙ none)
+
+finish_caused : (old new : Session) (answer : Result (Unit {0}) ChainRefusal) → FinishCause old new answer (IsUnchanged old new) → old.layers.retiring ≡ None → new.layers.retiring ≡ None
+finish_caused old new (Ok done) c none = c.merge.1
+finish_caused old new (Err EmptyRange) c none = absurd c
+finish_caused old new (Err (OutOfRange first count sectors)) c none = absurd c
+finish_caused old new (Err (TooLong count limit)) c none = absurd c
+finish_caused old new (Err ReadOnly) c none = absurd c
+finish_caused old new (Err (Broken file count)) c none = c.merge.1 ∙ none
+finish_caused old new (Err (Spent t)) c none = absurd c
+finish_caused old new (Err (FileFull next)) c none = absurd c
+finish_caused old new (Err (ReadFault file count)) c none = absurd c
+finish_caused old new (Err NoMerge) c none = absurd c
+finish_caused old new (Err (Stale taken at)) c none = absurd c
+finish_caused old new (Err (NotYet stripe)) c none = same_layers old new c.1 none
+finish_caused old new (Err (Abandoned file count)) c none = absurd c
+finish_caused old new (Err (NoStripe stripe stripes)) c none = absurd c
+finish_caused old new (Err NoPiece) c none = absurd c
+finish_caused old new (Err NoRoom) c none = absurd c
+
+finish_alone : (answer : Result (Unit {0}) ChainRefusal) (old new : Session) → AnswersFinish answer old new → old.layers.retiring ≡ None → new.layers.retiring ≡ None
+finish_alone answer old new h none = go (merge_refused old) refl
+  where
+    go : (o : Option ChainRefusal) → merge_refused old ≡ o → new.layers.retiring ≡ None
+    go (Some e) is = same_layers old new (subst (λ o. IfStopped {T = Unit {0}} o answer (IsUnchanged old new)) is h.early).1 none
+    go None is = finish_caused old new answer (h.cause is) none
+
 -- ---- a step
 
-pub record StepOf (old new : Session) (answer : Result (Unit {0}) ChainRefusal) : Type 0 where
+-- A step leaves a later state of each state that the session serves for which it is apt.
+pub record StepOf (Apt : State → Type 0) (old new : Session) (answer : Result (Unit {0}) ChainRefusal) : Type 0 where
   pub keeps : KeepsHistory old new
   pub later : old.events ≤ new.events
+  pub alone : old.layers.retiring ≡ None → new.layers.retiring ≡ None
   pub broken : (fault : StoreFault) → old.broken ≡ Some fault → IsUnchanged old new × ((x : ChainRefusal) × (answer ≡ Err x) × IsQuiet old.broken x)
   pub kind : old.broken ≡ None → Kind old new answer
-  pub left : old.broken ≡ None → WhereBothTold (λ trace now. (v : State) → IsServing old.layers v trace → IsLeft v answer new trace now) old.disk.told new.disk.told
+  pub left : old.broken ≡ None → WhereBothTold (λ trace now. (v : State) → IsServing old.layers v trace → Apt v → IsLeft v answer new trace now) old.disk.told new.disk.told
 
 pub keeps_both : (old mid new : Session) → KeepsHistory old mid → KeepsHistory mid new → KeepsHistory old new
 keeps_both old mid new a b = record { noted = b.noted ∙ a.noted; told = b.told ∙ a.told; geometry = b.geometry ∙ a.geometry; session = b.session ∙ a.session }
@@ -251,16 +321,41 @@ turn_kind stripe _ _ _ (fetched_and answer stamp old mid new piece h p) whole =
     let c = h.cause (ok_reached _ (fetch_refused stripe old) stamp h.early) in
     behind_fetch old mid new answer c.1 whole c.2 (put_kind mid new c.2 piece answer p)
 
-pub turn_step : (stripe : ℕ) (answer : Result (Unit {0}) ChainRefusal) (old new : Session) → AnswersTurn stripe answer old new → StepOf old new answer
+-- what is so of each state is so of those that are apt
+of_each : (answer : Result (Unit {0}) ChainRefusal) (old new : Session) (a b : Option Trace) → WhereBothTold (λ trace now. (v : State) → IsServing old.layers v trace → IsLeft v answer new trace now) a b
+    → WhereBothTold (λ trace now. (v : State) → IsServing old.layers v trace → ⊤ → IsLeft v answer new trace now) a b
+of_each answer old new None None h = tt
+of_each answer old new None (Some b) h = absurd h
+of_each answer old new (Some a) None h = absurd h
+of_each answer old new (Some a) (Some b) h = λ v serving any. h v serving
+
+pub turn_step : (stripe : ℕ) (answer : Result (Unit {0}) ChainRefusal) (old new : Session) → AnswersTurn stripe answer old new → StepOf (λ v. ⊤) old new answer
 turn_step stripe answer old new h = record {
   keeps = turn_keeps stripe answer old new h;
   later = turn_later stripe answer old new h;
   broken = turn_broken stripe answer old new h;
   kind = turn_kind stripe answer old new h;
-  left = λ whole. turns_leave stripe answer old new whole h;
+  alone = turn_alone stripe answer old new h;
+  left = λ whole. of_each answer old new old.disk.told new.disk.told (turns_leave stripe answer old new whole h);
 }
 
-pub finish_step : (answer : Result (Unit {0}) ChainRefusal) (old new : Session) → AnswersFinish answer old new → StepOf old new answer
+-- a put of a piece, of each state of which that is true
+pub put_step : (piece : Piece) (answer : Result (Unit {0}) ChainRefusal) (old new : Session) → AnswersPut piece answer old new → StepOf (λ v. IsTruePiece v (piece_of piece)) old new answer
+put_step piece answer old new h = record {
+  keeps = h.keeps;
+  later = h.later;
+  alone = put_alone piece answer old new h;
+  broken = λ fault is.
+      let later = or_else (no_merge old.layers) (or_else (unfilled piece) (or_else (no_stripe piece.stripe old.layers) (stale piece.stamp (stamp_of old.layers piece.stripe)))) in
+      let first = broken_first old.events fault later in
+      let cause : put_refused piece old ≡ Some first.0 = ap (λ o. or_else (unfit old.events o) later) is ∙ first.1 in
+      let early = subst (λ o. IfStopped {T = Unit {0}} o answer (IsUnchanged old new)) cause h.early in
+      (early.1, (first.0, early.0, put_quiet piece old first.0 cause));
+  kind = λ whole. put_kind old new whole piece answer h;
+  left = λ whole. puts_leave piece answer old new whole h;
+}
+
+pub finish_step : (answer : Result (Unit {0}) ChainRefusal) (old new : Session) → AnswersFinish answer old new → StepOf (λ v. ⊤) old new answer
 finish_step answer old new h = record {
   keeps = h.keeps;
   later = h.later;
@@ -270,7 +365,8 @@ finish_step answer old new h = record {
       let early = subst (λ o. IfStopped {T = Unit {0}} o answer (IsUnchanged old new)) cause h.early in
       (early.1, (first.0, early.0, finish_quiet old first.0 cause));
   kind = λ whole. finish_kind old new whole answer h;
-  left = λ whole. finishes_leave answer old new whole h;
+  alone = finish_alone answer old new h;
+  left = λ whole. of_each answer old new old.disk.told new.disk.told (finishes_leave answer old new whole h);
 }
 
 -- ---- what is noted
@@ -322,7 +418,7 @@ kind_change : (old new : Session) (answer : Result (Unit {0}) ChainRefusal) → 
 kind_change old new _ (quiet x same still q) = quiet_change old.disk new.disk old.broken new.broken x same still q
 kind_change old new answer (reached _ whole c) = reached_change old.disk new old.broken (as_answer answer) whole c
 
-pub step_change : (old new : Session) (answer : Result (Unit {0}) ChainRefusal) → StepOf old new answer → IsChange (as_answer answer) old.disk new.disk old.broken new.broken
+pub step_change : {Apt : State → Type 0} (old new : Session) (answer : Result (Unit {0}) ChainRefusal) → StepOf Apt old new answer → IsChange (as_answer answer) old.disk new.disk old.broken new.broken
 step_change old new answer s = go old.broken refl
   where
     go : (o : Option StoreFault) → old.broken ≡ o → IsChange (as_answer answer) old.disk new.disk old.broken new.broken
@@ -399,9 +495,9 @@ module _ (from : State) (h : History) (old new : Session) (full : Option ℕ) (b
     last = wider v.leaf (dirty_now v) (λ s. dirty_now v s || open_by broke' s) (disk_now v) now (λ s apart. (or_parts (dirty_now v s) (open_by broke' s) apart).0) last;
   }
 
-  follows_step : (trace now : Trace) → old.broken ≡ None → Follows from h full broke old trace → ((v : State) → IsServing old.layers v trace → IsLeft v answer new trace now) → Follows from h (full_after full (as_answer answer)) broke' new now
-  follows_step trace now whole f leaves =
-      let l = leaves f.to (f.serves whole) in
+  follows_step : {Apt : State → Type 0} (trace now : Trace) → old.broken ≡ None → Follows from h full broke old trace → ((to : State) → ComesTo from h to → Apt to) → ((v : State) → IsServing old.layers v trace → Apt v → IsLeft v answer new trace now) → Follows from h (full_after full (as_answer answer)) broke' new now
+  follows_step trace now whole f apt leaves =
+      let l = leaves f.to (f.serves whole) (apt f.to f.comes) in
       record {
         to = l.later;
         comes = record { later = later_through from f.to h h l.later f.comes.later (subst (λ k. IsLater f.to k l.later) f.comes.later.history l.same); sector = l.sector ∙ f.comes.sector };
@@ -409,6 +505,17 @@ module _ (from : State) (h : History) (old new : Session) (full : Option ℕ) (b
         stopped = stopped_on l.later now new.broken l.still l.past l.last;
         long = long_after from.writes full (as_answer answer) now now (long_still from.writes full trace now l.grows f.long) (far_now f.to trace now f.comes.later l) (grows_none now);
       }
+
+-- each state that a session may have come to by this history, from one that it served when it had begun, is apt
+abbrev pub IsAptFrom : (State → Type 0) → Session → History → Type 0
+IsAptFrom Apt first h = (t : Trace) → first.disk.told ≡ Some t → (from to : State) → IsServing first.layers from t → from.history ≡ [] → ComesTo from h to → Apt to
+
+-- what is so where the first content is told is so where both are
+with_first : (F : Trace → Trace → Type 0) (Q : Trace → Type 0) (a b : Option Trace) → ((t : Trace) → a ≡ Some t → Q t) → WhereBothTold F a b → WhereBothTold (λ t u. F t u × Q t) a b
+with_first F Q None None q f = tt
+with_first F Q None (Some u) q f = absurd f
+with_first F Q (Some t) None q f = absurd f
+with_first F Q (Some t) (Some u) q f = (f, q t refl)
 
 module _ (first old new : Session) (h : History) (full : Option ℕ) (broke : Option Breach) (fault : Option StoreFault) where
   abbrev Behind : Result (Unit {0}) ChainRefusal → Session → Type 0
@@ -434,8 +541,8 @@ module _ (first old new : Session) (h : History) (full : Option ℕ) (broke : Op
       (subst (λ n. IsHome first new h n broke fault) (sym same.2)
       (subst (λ s. IsHome first s h full broke fault) (sym is) (home_counted first old h full broke fault new.events home (subst IsSound is sound)))))
 
-  pub home_step : (answer : Result (Unit {0}) ChainRefusal) → IsSound new → StepOf old new answer → IsHome first old h full broke fault → Behind answer new
-  home_step answer sound s home = go old.broken refl
+  pub home_step : {Apt : State → Type 0} (answer : Result (Unit {0}) ChainRefusal) → IsSound new → StepOf Apt old new answer → IsAptFrom Apt first h → IsHome first old h full broke fault → Behind answer new
+  home_step {Apt} answer sound s apt home = go old.broken refl
     where
       go : (o : Option StoreFault) → old.broken ≡ o → Behind answer new
       go (Some f) is = let b = s.broken f is in subst (λ r. Behind r new) (sym b.1.1) (home_quiet home sound b.0 b.1.0 b.1.2)
@@ -443,8 +550,10 @@ module _ (first old new : Session) (h : History) (full : Option ℕ) (broke : Op
         sound = sound;
         geometry = s.keeps.geometry ∙ home.geometry;
         session = s.keeps.session ∙ home.session;
+        retiring = λ none. s.alone (home.retiring none);
         breaks = breaks_on answer home is (s.kind is);
         counted = counted_step answer home is (s.kind is);
         follows = both_join _ _ _ first.disk.told old.disk.told new.disk.told
-            (λ t u w f leaves from serving empty. follows_step from h old new full broke (broke_after broke merge_breach (as_answer answer)) answer u w is (f from serving empty) leaves) home.follows (s.left is);
+            (λ t u w f leaves from serving empty. follows_step from h old new full broke (broke_after broke merge_breach (as_answer answer)) answer u w is (f.0 from serving empty) (λ to comes. f.1 from to serving empty comes) leaves)
+            (with_first _ (λ t. (from to : State) → IsServing first.layers from t → from.history ≡ [] → ComesTo from h to → Apt to) first.disk.told old.disk.told apt home.follows) (s.left is);
       }

@@ -51,6 +51,8 @@ pub record IsHome (first now : Session) (h : History) (full : Option ℕ) (broke
   pub sound : IsSound now
   pub geometry : now.layers.geometry ≡ first.layers.geometry
   pub session : is_some now.layers.leaf ≡ is_some first.layers.leaf
+  -- the leaf is merged only where it was then
+  pub retiring : first.layers.retiring ≡ None → now.layers.retiring ≡ None
   pub breaks : is_some broke ≡ is_some now.broken
   pub counted : AreCounted first.disk now.disk now.broken fault
   pub follows : WhereBothTold (λ trace after. (from : State) → IsServing first.layers from trace → from.history ≡ [] → Follows from h full broke now after) first.disk.told now.disk.told

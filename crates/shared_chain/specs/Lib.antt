@@ -9,5 +9,6 @@ pub mod Answers
 pub mod Planned
 pub mod Closing
 pub mod Ends
+pub mod Fetched
 pub mod Merging
 pub mod Seats

@@ -57,7 +57,3 @@ module _ {S T : Type 0} where
   -- A turn answered that the stripe was copied, or it is none of those that are kept in mind; or what stopped that shows.
   abbrev pub IsSwept : ℕ → Known Step (Basis S T) → Known Step (Basis S T) → Type 0
   IsSwept stripe old new = HasStripe stripe new.basis.copied ⊎ (new.basis.stripes ≤ stripe) ⊎ ((x : ChainRefusal) × StopsTurn stripe old new x)
-
-  -- so it is of each stripe that was claimed meanwhile
-  pub record AreSwept (claimed numbers : List ℕ) (old new : Known Step (Basis S T)) : Type 0 where
-    pub each : (stripe : ℕ) → HasStripe stripe numbers → HasStripe stripe claimed ⊎ IsSwept stripe old new

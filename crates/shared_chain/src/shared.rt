@@ -12,6 +12,7 @@ ghost use Rattle.shared_chain.specs.Answers.{IsCalled};
 ghost use Rattle.shared_chain.specs.Planned.{IsPlanned};
 ghost use Rattle.script_session.specs.Running.{IsEnded};
 ghost use Rattle.shared_chain.specs.Closing.{LeavesHistory};
+ghost use Rattle.shared_chain.specs.Fetched.{IsFetched};
 ghost use Rattle.shared_chain.specs.Merging.{HasMark, IsMerged, IsStepped, StopsCopy, as_answer, copied_behind, copies, finished_behind, finishes};
 ghost use Rattle.merge_core.specs.Copied.{marks_of};
 ghost use Rattle.shared_chain.specs.Steps.{broke_after, merge_breach, steps_of};
@@ -22,7 +23,7 @@ use chain_core::Chain;
 use guest_model::{Caller, ChainRefusal, KeepAll};
 use merge_core::{Marks, Piece};
 use read_plan::{Plan, ReaderSet};
-use script_session::{copy, finish, move_stripe};
+use script_session::{copy, finish, move_stripe, put};
 use std::alloc::{AllocFailed, Global};
 use std::marker::Model;
 use std::snapshot::Snapshot;
@@ -321,6 +322,25 @@ impl<S: Store> SharedChain<S> {
         ensures empty { piece.new.filled ≡ false }
     {
         let done = move_stripe(&mut *self.chain, stripe, piece);
+        mark_copied(&mut self.copied, stripe, done);
+        self.finished = finished_by_copy(self.finished, stripe, done);
+        let answer = as_answer(done);
+        self.full = full_behind(self.full, answer);
+        self.broke = broke_by_merge(self.broke, answer);
+        self.fault = fault_behind(self.fault, answer);
+        done
+    }
+
+    /// Puts what was fetched of the source of the merge outside the chain into the target. Whatever is answered, no piece is left.
+    pub fn put_stripe(&mut self, piece: &mut Piece) -> Result<(), ChainRefusal>
+        requires { IsFetched S.disk self.old.first piece.old }
+        ensures stepped { IsStepped S.disk (copies piece.old.stripe) self.old self.new result }
+        ensures stopped { IfErr result (StopsCopy S.disk piece.old.stripe self.old self.new) }
+        ensures copied { OnOk result (HasMark piece.old.stripe self.new.chain.layers) }
+        ensures empty { piece.new.filled ≡ false }
+    {
+        let stripe = piece.stripe();
+        let done = put(&mut *self.chain, piece);
         mark_copied(&mut self.copied, stripe, done);
         self.finished = finished_by_copy(self.finished, stripe, done);
         let answer = as_answer(done);

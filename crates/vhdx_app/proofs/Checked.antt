@@ -1,5 +1,5 @@
 -- A check, from the look at its file to what is printed.
-use Rattle.std.proofs.Common.{◌≡◌, ◌≢◌, ◌⊎◌, ℕ, List, [], ◌∷◌, ◌++◌, map, Option, Some, None, Ok, Err, inl, inr, refl, sym, ap, subst, ◌∙◌}
+use Rattle.std.proofs.Common.{◌≡◌, ◌⊎◌, ℕ, List, [], ◌∷◌, ◌++◌, map, Option, Some, None, Ok, Err, inl, inr, refl, sym, ap, subst, ◌∙◌}
 use Rattle.std.specs.Prelude.{codes}
 use Rattle.store_model.specs.Disk.{WhereTold}
 use Rattle.store_model.specs.Folder.{Held, Hosted}
@@ -17,7 +17,7 @@ use Rattle.link_rules.specs.Touches.{TouchesSafely}
 use Rattle.link_rules.proofs.Composing.{replays_keep}
 use Rattle.link_rules.proofs.Lent.{idle_as, none_kept}
 use Rattle.link_rules.proofs.Safe.{none_safely}
-use Rattle.check_repair.specs.Answers.{AreRules, MeanRules, copy_finding, told_rule}
+use Rattle.check_repair.specs.Answers.{MeanRules, copy_finding, told_rule}
 use Rattle.check_repair.specs.Findings.{Breaks, Finding, Finds}
 use Rattle.check_repair.specs.declared.looking.Findings as code
 use Rattle.named_file.specs.Looks.{LeavesLookBy, LooksIn, missing, present}

@@ -4,7 +4,7 @@ use Rattle.std.specs.Prelude.{IfErr, IfOk, OnErr, nat_lt, option_map}
 use Rattle.std.proofs.lemmas.Bool.{lt-ltb, ltb-true}
 use Rattle.store_model.specs.Cause.{Rose}
 use Rattle.store_model.specs.Disk.{Disk as StoreDisk, Sealed, WhereTold}
-use Rattle.store_model.specs.Folder.{HasFailed, Hosted, KeepsStore, RoseWhere, given_back, without}
+use Rattle.store_model.specs.Folder.{HasFailed, Hosted, KeepsStore, RoseWhere, given_back}
 use Rattle.chain_core.specs.declared.starting.Mode.TheVariants.{Guests}
 use Rattle.link_rules.specs.Chains.{names_of}
 use Rattle.link_rules.specs.declared.linked.Linked.{Linked}

@@ -7,7 +7,6 @@ use Rattle.std.proofs.lemmas.Bool.{or_left, or_right}
 use Rattle.std.proofs.lemmas.List.{map-append}
 use Rattle.std.proofs.lemmas.Option.{none-some, same_Some}
 use Rattle.std.proofs.lemmas.Slice.Eq.{bytes_eq-Decides}
-use Rattle.store_model.specs.Disk.{WhereTold}
 use Rattle.store_model.specs.File.{seen}
 use Rattle.store_model.specs.Folder.{Held, Hosted, IsFolderImage, file_named, fresh}
 use Rattle.store_model.specs.Moments.{Throughout}
@@ -26,13 +25,12 @@ use Rattle.link_rules.specs.Chains as chains
 use Rattle.link_rules.specs.Effects.{linked_names}
 use Rattle.link_rules.specs.Folders.{AllIdle, Contents, contents}
 use Rattle.link_rules.specs.Laws.{AreMembers, at_rest_all}
-use Rattle.link_rules.specs.Touches.{AreSafe, IsOnWay, TouchesSafely}
+use Rattle.link_rules.specs.Touches.{AreSafe, IsOnWay}
 use Rattle.link_rules.specs.declared.linked.Linked.{Linked}
 use Rattle.link_rules.proofs.Alike.{images_alike, long_enough}
 use Rattle.link_rules.proofs.Chained.{names_same}
 use Rattle.link_rules.proofs.EachChain.{chains_are_linked}
 use Rattle.link_rules.proofs.OneLinking.{one_linking}
-use Rattle.printing.specs.declared.status.Status.{Status}
 use Rattle.vhdx_app.specs.Crashes.{OpensToFirst}
 use Rattle.vhdx_app.specs.Folders.{files_of}
 use Rattle.vhdx_app.specs.Printed.{RefusesLeaf, unlinked}

@@ -1,5 +1,5 @@
 -- Guests served over a chain's files, with a merge beside them or without: from what the store's session leaves to what the host is left with.
-use Rattle.std.proofs.Common.{◌≡◌, ◌≢◌, ◌==◌, ◌<◌, ◌++◌, ℕ, Bool, true, false, List, [], ◌∷◌, length, Option, Some, None, Result, Ok, Err, refl, sym, subst, ◌∙◌, inl, inr}
+use Rattle.std.proofs.Common.{◌≡◌, ◌≢◌, ◌==◌, ◌+◌, ◌<◌, ◌++◌, ℕ, Bool, true, false, List, [], ◌∷◌, length, Option, Some, None, Result, Ok, Err, arith, refl, sym, subst, ◌∙◌}
 use Rattle.std.specs.Prelude.{⊤, All, IfErr, IfOk, IfSome, OnOk, option_map, slice_index_or, string_bytes}
 use Rattle.std.specs.List.{AllByRecursion}
 use Rattle.std.proofs.lemmas.Option.{same_Some}
@@ -138,7 +138,9 @@ module _ (retired : List (List ℕ)) (leaf : LinkedFile) (others : List LinkedFi
       counted = if_some Guests retired leaf others old mid now lent disk idle served once chain lends back_is past_is count before after None (written_in Guests) (first_may Guests leaf others) changed run.run.fault h.counted;
       ended = if_err Guests retired leaf others old mid now lent disk idle served once chain lends back_is past_is count before after None (written_in Guests) (first_may Guests leaf others) changed run.run.closed h.ended;
       quiet = λ none. on_ok Guests retired leaf others old mid now lent disk idle served once chain lends back_is past_is count before after None (written_in Guests) (first_may Guests leaf others) changed run.run.closed (h.quiet none);
-      unread_is = h.unread_is;
+      unfetched = 0;
+      none_fetched = λ none. refl;
+      unread_is = (let all = h.unread_is in omega (arith, all));
       stopped = none_unfinished run.merged _ none;
       served = served_in;
     }
@@ -225,9 +227,9 @@ module _ (retired : List (List ℕ)) (leaf : LinkedFile) (others : List LinkedFi
       }
 
     beside_over : length guests ≡ guest_count lines → IfOk run.run.transcript (λ text. IsTranscript (names_of (leaf ∷ others)) lines guests h (string_bytes text)) → IfSome run.run.fault (Counts disk) → IfErr run.run.closed (Counts disk)
-        → (run.run.fault ≡ None → OnOk run.run.closed (disk ≡ record lent { told = disk.told })) → run.unread ≡ length (all_unread guests) → IfErr run.merged (StopsMerge run.run) → JudgesMergeOf (is_leaf (leaf ∷ others) name) L name old.folder before after None
+        → (run.run.fault ≡ None → OnOk run.run.closed (disk ≡ record lent { told = disk.told })) → (unfetched : ℕ) → run.unread ≡ length (all_unread guests) + unfetched → IfErr run.merged (StopsMerge run.run) → JudgesMergeOf (is_leaf (leaf ∷ others) name) L name old.folder before after None
         → ServedOver (Some name) L lines run old now before after
-    beside_over is_count transcript counted ended quiet unread_is stopped drawn = record {
+    beside_over is_count transcript counted ended quiet unfetched unread_is stopped drawn = record {
       guests = guests;
       history = h;
       broken = broken;
@@ -237,6 +239,8 @@ module _ (retired : List (List ℕ)) (leaf : LinkedFile) (others : List LinkedFi
       counted = if_some Guests retired leaf others old mid now lent disk idle served once chain lends back_is past_is count before after (Some name) changes may became run.run.fault counted;
       ended = if_err Guests retired leaf others old mid now lent disk idle served once chain lends back_is past_is count before after (Some name) changes may became run.run.closed ended;
       quiet = λ none. on_ok Guests retired leaf others old mid now lent disk idle served once chain lends back_is past_is count before after (Some name) changes may became run.run.closed (quiet none);
+      unfetched = unfetched;
+      none_fetched = λ none. let never : Some name ≡ None = none in cc;
       unread_is = unread_is;
       stopped = stopped_so run.merged stopped;
       served = beside_in;
@@ -278,11 +282,11 @@ module _ (retired : List (List ℕ)) (leaf : LinkedFile) (others : List LinkedFi
     over_beside : (b : Bool) → is_leaf (leaf ∷ others) name ≡ b → HasServedMergeOf b (leaf ∷ others) name (names_of (leaf ∷ others)) lines run lent disk before after → ServedOver (Some name) (record { retired = retired; files = leaf ∷ others }) lines run old now before after
     over_beside true is h =
         beside_over retired leaf others old mid now lent disk idle served once chain lends back_is past_is count before after lines run name is_first_two (leaf_left_names h.m) (leaf_merge.may retired leaf others old mid lent disk chain lends before after name is) (leaf_merge.left retired leaf others old mid lent disk chain lends before after name is h.m h.merge h.planned) h.serves.guests h.serves.history h.serves.broken (past_leaf h is) h.serves.faults h.serves.unread (unlogged_two leaf others name is)
-        h.serves.count h.serves.transcript h.serves.counted h.serves.ended h.serves.quiet h.serves.unread_is h.serves.stopped (leaf_merge.drawn retired leaf others old mid lent disk chain lends before after name is h.m h.merge h.planned)
+        h.serves.count h.serves.transcript h.serves.counted h.serves.ended h.serves.quiet h.serves.unfetched h.serves.unread_is h.serves.stopped (leaf_merge.drawn retired leaf others old mid lent disk chain lends before after name is h.m h.merge h.planned)
     over_beside false is h =
         beside_over retired leaf others old mid now lent disk idle served once chain lends back_is past_is count before after lines run name (is_changed h.m) (names_without h.m) (merge.may retired leaf others old mid lent disk chain lends before after name is h.m h.merge h.planned) (merge.left retired leaf others old mid lent disk chain lends before after name is h.m h.merge h.planned) h.serves.guests h.serves.history h.serves.broken (past_other h is) h.serves.faults h.serves.unread
         (merge.ended_all retired leaf others old mid lent disk chain lends before after name is h.m h.merge h.planned (last_once retired (names_of (leaf ∷ others)) once))
-        h.serves.count h.serves.transcript h.serves.counted h.serves.ended h.serves.quiet h.serves.unread_is h.serves.stopped (merge.drawn retired leaf others old mid lent disk chain lends before after name is h.m h.merge h.planned)
+        h.serves.count h.serves.transcript h.serves.counted h.serves.ended h.serves.quiet h.serves.unfetched h.serves.unread_is h.serves.stopped (merge.drawn retired leaf others old mid lent disk chain lends before after name is h.m h.merge h.planned)
 
 -- ---- of what was linked, whose files are these
 

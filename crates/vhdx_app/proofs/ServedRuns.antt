@@ -1,5 +1,5 @@
 -- What `serve` does once the chain is opened, from what the session leaves.
-use Rattle.std.proofs.Common.{◌≡◌, ◌≢◌, ◌⊎◌, ◌<◌, ◌==◌, ℕ, zero, suc, Bool, true, false, List, [], length, Option, Some, None, Result, Ok, Err, refl, sym, ap, subst, ◌∙◌, inl, inr, arith, eqb-true}
+use Rattle.std.proofs.Common.{◌+◌, ◌≡◌, ◌≢◌, ◌<◌, ◌==◌, ℕ, zero, suc, Bool, true, false, List, [], length, Option, Some, None, Result, Ok, Err, refl, sym, ap, subst, ◌∙◌, inl, inr, arith, eqb-true}
 use Rattle.std.specs.Prelude.{IfErr, IfOk, IfSome, OnOk, String, codes, if◌then◌else◌, is_some, string_bytes}
 use Rattle.std.specs.List.{AllByRecursion}
 use Rattle.std.proofs.lemmas.Option.{same_Some}
@@ -215,6 +215,7 @@ module _ (leaf : List ℕ) (merge : Option (List ℕ)) (before now : World) (sta
       unchanged : meant ≡ Refused → service.has_begun ≡ false → code.StaysAsItWas mid.folder now.host.folder
       rose : meant ≡ Fault → Rose before.host.faults now.host.faults
       quiet : meant ≢ Fault → (now.host.faults ≡ before.host.faults) × (met service ≡ None) × (unread_by service ≡ 0)
+      alone : merge ≡ None → service.unfetched ≡ 0
 
     abbrev EndsOf : Service → Type 0
     EndsOf service = AllByRecursion (IsEndTold (λ next. WhereTold now.host.folder (HasLong (changed_names false merge linked.files) next))) (all_told service.guests)
@@ -246,6 +247,7 @@ module _ (leaf : List ℕ) (merge : Option (List ℕ)) (before now : World) (sta
       unchanged = s.unchanged;
       rose = s.rose;
       quiet = s.quiet;
+      alone = s.alone;
     }
       where
         keeps : WhereTold before.host.folder (λ f. KeepsServed leaf linked begun.disk merge lines service s.meant mid now.host)
@@ -318,6 +320,7 @@ module _ (leaf : List ℕ) (merge : Option (List ℕ)) (before now : World) (sta
           unchanged = λ refused begun. unchanged refused;
           rose = rose;
           quiet = λ other. (quiet other, refl, refl);
+          alone = λ none. refl;
         }
 
         not_run_said : HasSaid no_service
@@ -396,10 +399,10 @@ module _ (leaf : List ℕ) (merge : Option (List ℕ)) (before now : World) (sta
       err_from (Err fault) c = counted_from fault c
 
       abbrev service : Service
-      service = record { has_begun = true; guests = o.guests; history = o.history; broken = o.broken; stopped = stopped_by run.merged; refused = run.run.fault; ended = failed_by run.run.closed }
+      service = record { has_begun = true; guests = o.guests; history = o.history; broken = o.broken; stopped = stopped_by run.merged; refused = run.run.fault; ended = failed_by run.run.closed; unfetched = o.unfetched }
 
       abbrev service_by : Result (Unit {0}) ChainRefusal → Option StoreFault → Result (Unit {0}) StoreFault → Service
-      service_by merged fault closed = record { has_begun = true; guests = o.guests; history = o.history; broken = o.broken; stopped = stopped_by merged; refused = fault; ended = failed_by closed }
+      service_by merged fault closed = record { has_begun = true; guests = o.guests; history = o.history; broken = o.broken; stopped = stopped_by merged; refused = fault; ended = failed_by closed; unfetched = o.unfetched }
 
       abbrev TextIs : List ℕ → Type 0
       TextIs text = IsTranscript (names_of linked.files) lines o.guests o.history text
@@ -409,7 +412,7 @@ module _ (leaf : List ℕ) (merge : Option (List ℕ)) (before now : World) (sta
 
       -- how many reads failed by a reader
       abbrev missed : ℕ
-      missed = length (all_unread o.guests)
+      missed = length (all_unread o.guests) + o.unfetched
 
       record Shown (merged : Result (Unit {0}) ChainRefusal) (fault : Option StoreFault) (closed : Result (Unit {0}) StoreFault) (said : Status × List ℕ) : Type 0 where
         so : IsServeText begun merge now (service_by merged fault closed) said.0 said.1
@@ -489,6 +492,7 @@ module _ (leaf : List ℕ) (merge : Option (List ℕ)) (before now : World) (sta
           unchanged = λ e begun. let never : true ≡ false = begun in cc;
           rose = shown.rose;
           quiet = shown.quiet;
+          alone = o.none_fetched;
         }
 
         run_runs : RunsServe leaf merge before now status

@@ -1,9 +1,9 @@
 -- What a session changes of a folder's files: those that it may.
-use Rattle.std.proofs.Common.{◌≡◌, ℕ, zero, suc, ◌+◌, ◌-◌, ◌==◌, ◌⊎◌, inl, inr, Bool, true, false, cond, List, [], ◌∷◌, map, drop, Some, refl, sym, ap, subst, ◌∙◌, arith}
+use Rattle.std.proofs.Common.{◌≡◌, ℕ, zero, suc, ◌+◌, ◌-◌, ◌==◌, Bool, true, false, cond, List, [], ◌∷◌, map, drop, Some, refl, sym, ap, subst, ◌∙◌, arith}
 use Rattle.std.specs.Prelude.{option_map, slice_index_or, unwrap_or}
 use Rattle.std.specs.List.{AllByRecursion}
 use Rattle.std.specs.Str.{bytes_eq}
-use Rattle.store_model.specs.File.{File, Op, Seal, is_synced, seen, with_op}
+use Rattle.store_model.specs.File.{File, Op, Seal, is_synced, seen}
 use Rattle.store_model.specs.Folder.{Held, attached_trace, back_from, file_named, fresh, given_back, has_name, seen_named, with_file, without}
 use Rattle.store_model.specs.Trace.{Change, NamedBytes, Trace, at_moment, bytes_of, file_of, moment, ops_of}
 use Rattle.store_model.proofs.Throughout.{attached-at_moment}

@@ -1,6 +1,6 @@
 -- What is said of a script's run, by what it gave.
 use Rattle.std.proofs.Common.{◌≡◌, ◌<◌, ◌≤◌, arith, ne_eqb, ℕ, List, Option, Some, None, Result, Ok, Err, sym, ap, subst, ◌∙◌}
-use Rattle.std.specs.Prelude.{◌==◌, if◌then◌else◌, String, codes, string_bytes}
+use Rattle.std.specs.Prelude.{if◌then◌else◌, String, codes, string_bytes}
 use Rattle.store_model.specs.declared.fault.StoreFault.{StoreFault}
 use Rattle.vx_base.specs.declared.NoRoom.{NoRoom}
 use Rattle.script.specs.declared.refusal.SourceRefusal.{SourceRefusal}
@@ -9,7 +9,7 @@ use Rattle.printing.specs.Answers.{fault_line}
 use Rattle.printing.specs.Sent.{Sent}
 use Rattle.vhdx_app.specs.Sessions.{ReportsRun, Said, lines_said, none_said, run_said, said_of, source_said}
 use Rattle.serve_session.specs.declared.merging.MergeRun.{MergeRun}
-use Rattle.vhdx_app.specs.Guests.{ReportsServed, end_of, none_served, served_of, served_said, unread_said, with_unread}
+use Rattle.vhdx_app.specs.Guests.{ReportsServed, none_served, served_of, served_said, unread_said, with_unread}
 use Rattle.vhdx_app.specs.declared.refusal.StepsRefusal.{StepsRefusal}
 use Rattle.printing.specs.declared.status.Status.{Status}
 use Rattle.printing.specs.declared.status.Status.TheVariants.{Done, Fault, NoMemory}

@@ -1,5 +1,5 @@
 -- What the functions of `serve` say of themselves; what a run promises doesn't rest on these.
-use Rattle.std.specs.Prelude.{◌≡◌, ◌≢◌, ◌<◌, ◌==◌, if◌then◌else◌, codes, ℕ, Bool, true, false, is_some, List, length, String, string_bytes, Option, None, Some, Result, Ok, Err, IfErr, IfOk, IfSome, OnOk, option_map}
+use Rattle.std.specs.Prelude.{◌≡◌, ◌+◌, ◌≢◌, ◌<◌, ◌==◌, if◌then◌else◌, codes, ℕ, Bool, true, false, is_some, List, length, String, string_bytes, Option, None, Some, Result, Ok, Err, IfErr, IfOk, IfSome, OnOk, option_map}
 use Rattle.std.specs.List.{AllByRecursion}
 use Rattle.store_model.specs.Disk.{Disk, WhereTold}
 use Rattle.store_model.specs.Folder.{Held, Hosted, RoseWhere}
@@ -87,7 +87,9 @@ pub record ServedOver (merge : Option (List ℕ)) (linked : Linked) (lines : Lis
   pub counted : IfSome run.run.fault (IsCounted old new)
   pub ended : IfErr run.run.closed (IsCounted old new)
   pub quiet : run.run.fault ≡ None → OnOk run.run.closed (new.faults ≡ old.faults)
-  pub unread_is : run.unread ≡ length (all_unread guests)
+  pub unfetched : ℕ
+  pub none_fetched : merge ≡ None → unfetched ≡ 0
+  pub unread_is : run.unread ≡ length (all_unread guests) + unfetched
   pub stopped : IfErr run.merged (λ refusal. (merge ≢ None) × StopsMerge run.run refusal)
   pub served : WhereTold old.folder (λ folder. ServedIn merge linked lines guests history broken run.merged run.run.closed folder old new)
 

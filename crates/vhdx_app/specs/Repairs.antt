@@ -1,7 +1,6 @@
 -- What `repair` prints, and what it does.
 use Rattle.std.specs.Prelude.{◌≡◌, ◌⊎◌, ℕ, List, [], ◌∷◌, ◌++◌, Option, Err, codes}
 use Rattle.store_model.specs.Disk.{WhereTold}
-use Rattle.store_model.specs.Folder.{Held}
 use Rattle.file_open.specs.Opening as opening
 use Rattle.make_file.specs.Identifiers.{Draws}
 use Rattle.make_file.specs.Makes.{Outside, outside}

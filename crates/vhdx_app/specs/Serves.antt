@@ -1,5 +1,5 @@
 -- What `serve` does: the calls of a script's guests on the disk to which a leaf's name is opened, and what is printed of them (profile).
-use Rattle.std.specs.Prelude.{◌≡◌, ◌≢◌, ◌⊎◌, ⊤, ◌<◌, ◌≤◌, ◌+◌, ◌^◌, ℕ, Bool, true, false, is_some, List, [], length, codes, Option, None, Some, IfSome}
+use Rattle.std.specs.Prelude.{◌≡◌, ◌≢◌, ◌⊎◌, ⊤, ◌<◌, ◌+◌, ◌^◌, ℕ, Bool, true, false, is_some, List, [], length, codes, Option, None, Some, IfSome}
 use Rattle.std.specs.List.{AllByRecursion}
 use Rattle.store_model.specs.Cause.{Rose}
 use Rattle.store_model.specs.Disk.{WhereTold}
@@ -37,7 +37,8 @@ use Rattle.printing.specs.declared.status.Status.TheVariants.{Done, Refused, Fau
 
 -- What became of a script's guests: whether a session began; what each was told of its calls, guest 1 first; the history of the calls that were
 -- done; what broke the session if it is broken; why a merge isn't finished, if one was to be and it isn't; the last fault that refused a call
--- or a step of the merge, and the fault by which the session's end failed, if it did, or that had broken it.
+-- or a step of the merge, and the fault by which the session's end failed, if it did, or that had broken it; and how many stripes workers of the
+-- merge couldn't fetch, as a reader failed.
 pub record Service : Type 0 where
   pub has_begun : Bool
   pub guests : List (List Outcome)
@@ -46,18 +47,19 @@ pub record Service : Type 0 where
   pub stopped : Option ChainRefusal
   pub refused : Option StoreFault
   pub ended : Option StoreFault
+  pub unfetched : ℕ
 
 -- no session began
 abbrev pub no_service : Service
-no_service = record { has_begun = false; guests = []; history = []; broken = None; stopped = None; refused = None; ended = None }
+no_service = record { has_begun = false; guests = []; history = []; broken = None; stopped = None; refused = None; ended = None; unfetched = 0 }
 
 -- the last fault that was met, by a call, a step of the merge or the session's end
 abbrev pub met : Service → Option StoreFault
 met service = later_of service.refused service.ended
 
--- how many reads of the guests stand in the history and failed by a reader
+-- how many reads failed by a reader: of the guests', which stand in the history, and of stripes
 abbrev pub unread_by : Service → ℕ
-unread_by service = length (all_unread service.guests)
+unread_by service = length (all_unread service.guests) + service.unfetched
 
 -- ---- what is printed
 
@@ -141,6 +143,7 @@ pub record ServesOver (leaf : List ℕ) (merge : Option (List ℕ)) (before now 
   pub opening : TouchesSafely (λ folder. IsOnWay (contents folder) leaf) before.host opened
   pub service : Service
   pub none : service.has_begun ≡ false → service ≡ no_service
+  pub alone : merge ≡ None → service.unfetched ≡ 0
   pub meant : Status
   pub text : List ℕ
   pub said : IsServeText begun merge now service meant text

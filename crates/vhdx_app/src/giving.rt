@@ -1,7 +1,8 @@
 //! Readers of sealed files are given back to the host.
 
 ghost use Rattle.std.specs.Prelude.{◌≡◌, [], map, true};
-ghost use Rattle.serve_session.specs.Back.{any_failed, has_failed};
+ghost use Rattle.serve_session.specs.Back.{any_failed};
+ghost use Rattle.read_plan.specs.Reading.{has_failed};
 ghost use Rattle.store_model.specs.Folder.{RoseWhere};
 
 use read_plan::ReaderSet;

@@ -1,5 +1,4 @@
 use Rattle.std.proofs.Common.{sym, subst}
-use Rattle.std.specs.Prelude.{IfSome}
 use Rattle.store_model.specs.Disk.{fault_in}
 use Rattle.serve_session.specs.Sealing.{EndsUnserved}
 use Rattle.serve_session.proofs.Sealed.{apart_in, met_counted, read_there, sealed_all, sealed_part, sets_for, synced_for}

@@ -33,7 +33,7 @@ loop-room-preserved g c =
             memory = c.new.ensures.5;
           }));
       sets = taken.0;
-      many_sets = omega (arith, fewer_sets, popped, i.many_sets);
+      many_sets = omega (arith, fewer_sets, pushed, i.many_sets);
       plans = omega (arith, fewer_plans, popped, i.plans);
       count = omega (arith, popped, pushed, i.count);
       each = left.0;

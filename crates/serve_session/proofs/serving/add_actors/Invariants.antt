@@ -9,7 +9,7 @@ invariant-loop-room g l = record {
   seat : l.first ≡ with_splits l.fn.first (length l.actors.items);
   fresh : AreFresh (IsSetFor g.S.Store.disk l.chain.value.first) l.fn.first (length l.fn.rooms.items) l.actors.items;
   sets : All (IsSetFor g.S.Store.disk l.chain.value.first) l.sets;
-  many_sets : length l.sets ≡ length l.rooms.items;
+  many_sets : length l.sets + length l.actors.items ≡ length l.fn.sets;
   plans : length l.plans.items ≡ length l.rooms.items;
   count : length l.actors.items + length l.rooms.items ≡ length l.fn.rooms.items;
   each : All (λ room. length room.items ≡ 1048576) l.rooms.items;

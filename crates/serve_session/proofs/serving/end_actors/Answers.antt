@@ -4,7 +4,8 @@ use Rattle.turn_lock.specs.Histories.{StartsWith}
 use Rattle.turn_lock.specs.Seats.{together_of}
 use Rattle.shared_chain.specs.Bases.{Contains, together}
 use Rattle.serve_session.specs.Actors.{AreJoined, HasRun}
-use Rattle.serve_session.specs.Back.{any_failed, has_failed}
+use Rattle.serve_session.specs.Back.{any_failed}
+use Rattle.read_plan.specs.Reading.{has_failed}
 use Rattle.serve_session.specs.Lists.{AreActors}
 use Rattle.serve_session.proofs.Back.{any_more}
 use Rattle.serve_session.proofs.Guests.{all_unread_count, forms_few}
@@ -77,3 +78,8 @@ loop-actor-preserved g c =
       sets = omega (arith, pushed, more, i.sets);
       reserved_back = c.push_reserved.ensures.capacity ∙ i.reserved_back;
     }
+
+pub returns-clause-few : goal.returns-clause-few
+returns-clause-few g c =
+    let i = c.loop-actor.invariant in
+    omega (arith, i.unread, i.few_unread, i.count, c.requires.guests)

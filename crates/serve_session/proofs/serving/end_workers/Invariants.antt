@@ -1,4 +1,6 @@
-use Rattle.std.proofs.Common.{◌≡◌, ◌+◌, ◌*◌, ◌^◌, ◌≤◌, All, ℕ, length, true}
+use Rattle.std.proofs.Common.{◌≡◌, ◌+◌, ◌*◌, ◌^◌, ◌≤◌, All, ℕ, length, true, vec_capacity}
+use Rattle.std.specs.Prelude.{◌||◌, nat_lt}
+use Rattle.serve_session.specs.Back.{any_failed}
 use Rattle.shared_chain.specs.Seats.{IsFree}
 use Rattle.serve_session.specs.Lists.{HasDone, WorkersJoin}
 use Rattle.serve_session.proofs.serving.end_workers.Given as goal
@@ -15,6 +17,10 @@ invariant-loop-worker g l = record {
   leads : l.first.family.is_first ≡ true;
   same : length l.fn.workers.items ≡ 0 → l.first ≡ l.fn.first;
   first_ticket : l.first.first_ticket ≡ l.fn.first.first_ticket;
+  sets : length l.back.items ≡ length l.fn.back.items + taken;
+  back : any_failed l.back.items ≡ (any_failed l.fn.back.items || nat_lt 0 l.unfetched);
+  none : taken ≡ 0 → l.unfetched ≡ 0;
+  reserved : vec_capacity l.back ≡ vec_capacity l.fn.back;
   drawn : l.first.drawn ≤ l.fn.first.drawn + 2 ^ 32 * taken;
 }
 

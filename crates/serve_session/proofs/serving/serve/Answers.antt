@@ -9,7 +9,7 @@ transcript_of-transcript-requires-clause-told g c =
     let disk = g.S.Store.disk in
     let names = map g.N.AsStr.text c.args.names.now in
     let left = c.share-left.result in
-    let shared = shared_as disk (is_some c.args.last) (length c.args.pieces.items) c.args.chain left.chain names c.args.lines.now left.told.items left.is_short left.unread c.requires.alone c.share-left.ensures.alone c.share-left.ensures.beside in
+    let shared = shared_as disk (is_some c.args.last) (length c.args.tools.items) c.args.chain left.chain names c.args.lines.now left.told.items left.is_short left.unread c.requires.alone c.share-left.ensures.alone c.share-left.ensures.beside in
     λ short. subst (λ told. All (IsTold told) c.close-store.result.1) (sym c.as_slice.ensures.value)
     (subst (All (IsTold left.told.items)) (sym c.close-store.ensures.history)
     (called disk (is_some c.args.last) c.args.chain left.chain c.end_merge-merged.new.chain c.end_merge-merged.result c.end_merge-merged.ensures names c.args.lines.now left.told.items left.is_short left.unread shared short))
@@ -26,7 +26,7 @@ returns-clause-served g c =
     let disk = g.S.Store.disk in
     let names = map g.N.AsStr.text c.args.names.now in
     let left = c.share-left.result in
-    let shared = shared_as disk (is_some c.args.last) (length c.args.pieces.items) c.args.chain left.chain names c.args.lines.now left.told.items left.is_short left.unread c.requires.alone c.share-left.ensures.alone c.share-left.ensures.beside in
+    let shared = shared_as disk (is_some c.args.last) (length c.args.tools.items) c.args.chain left.chain names c.args.lines.now left.told.items left.is_short left.unread c.requires.alone c.share-left.ensures.alone c.share-left.ensures.beside in
     let text = subst (λ told. IfOk c.transcript_of-transcript.result (λ text. (left.is_short ≡ false) × (string_bytes text ≡ serve_text c.end_merge-merged.new.chain.chain.recorder told))) c.as_slice.ensures.value
     (subst (λ h. IfOk c.transcript_of-transcript.result (λ text. (left.is_short ≡ false) × (string_bytes text ≡ serve_text h c.as_slice.result.now))) c.close-store.ensures.history c.transcript_of-transcript.ensures) in
     served_so disk (is_some c.args.last) c.args.chain left.chain c.end_merge-merged.new.chain c.end_merge-merged.result c.end_merge-merged.ensures

@@ -1,13 +1,16 @@
-use Rattle.std.proofs.Common.{◌≡◌, ◌++◌, ◌+◌, ap, arith, drop, false, length, map, sym, subst, take, true, ◌∙◌}
-use Rattle.std.specs.Prelude.{All}
+use Rattle.std.proofs.Common.{◌≡◌, ◌++◌, ◌+◌, ◌-◌, ◌||◌, Some, ap, arith, drop, false, length, map, refl, sym, subst, take, true, ◌∙◌}
+use Rattle.std.specs.Prelude.{All, nat_lt}
 use Rattle.serve_session.specs.Actors.{AreJoined, HasRun}
-use Rattle.serve_session.specs.Lists.{AreActors, AreFresh, HasDone, IsFreshWorker, IsReady}
+use Rattle.serve_session.specs.Lists.{AreActors, AreFresh, CanWork, HasDone, IsFreshWorker, IsReady}
 use Rattle.serve_session.specs.Sealing.{IsSetFor}
 use Rattle.serve_session.specs.Serving.{IsShared}
-use Rattle.serve_session.specs.Served.{greatest_from}
-use Rattle.serve_session.proofs.Final.{few_guests, few_turns, made_all, made_ready, made_run}
+use Rattle.serve_session.specs.Served.{all_unread, greatest_from}
+use Rattle.serve_session.specs.Tools.{AreToolsFor}
+use Rattle.layer_session.proofs.Equal.{false_true}
+use Rattle.serve_session.proofs.Back.{sat_least, sat_none, sat_some}
+use Rattle.serve_session.proofs.Final.{few_guests, few_turns, made_all, made_first, made_ready, made_run}
 use Rattle.serve_session.proofs.Guests.{written_all}
-use Rattle.serve_session.proofs.Joining.{all_done, wider_joined}
+use Rattle.serve_session.proofs.Joining.{all_done, fresh_can, wider_joined}
 use Rattle.serve_session.proofs.serving.share.Goals as goal
 
 pub run_beside-requires-clause-guests : goal.run_beside-requires-clause-guests
@@ -18,6 +21,23 @@ run_beside-requires-clause-guests g c κs within =
     let fresh = subst (λ v. AreFresh (IsSetFor disk v.first) made n c.add_actors.new.actors.items) c.of-was.ensures c.add_actors.ensures.fresh in
     subst (λ xs. All (IsReady disk c.in-Ok-new.made.0) xs) (sym c.as_mut_slice-guests.ensures.value)
     (made_ready disk c.args.chain c.requires.begun.fresh c.requires.begun.whole c.in-Ok-new.made.0 made c.in-Ok-new.ensures.ok n c.add_actors.new.actors.items fresh)
+
+pub run_beside-requires-clause-workers : goal.run_beside-requires-clause-workers
+run_beside-requires-clause-workers g c κs within =
+    let disk = g.S.Store.disk in
+    let lock = c.in-Ok-new.made.0 in
+    subst (All (CanWork disk lock c.in-Ok.claims)) (sym c.as_mut_slice-hands.ensures.value)
+    (fresh_can disk lock c.add_actors.new.first c.in-Ok.claims c.add_workers.new.workers.items (ap (λ s. s.lock) c.add_actors.ensures.seat ∙ ap (λ s. s.lock) c.in-Ok-new.ensures.ok) c.add_workers.ensures.fresh)
+
+pub add_workers-requires-clause-knows : goal.add_workers-requires-clause-knows
+add_workers-requires-clause-knows g c =
+    ap (λ s. s.basis.first) c.add_actors.ensures.seat ∙ made_first g.S.Store.disk c.args.chain c.requires.begun.fresh c.requires.begun.whole c.in-Ok-new.made.0 c.in-Ok-new.made.1 c.in-Ok-new.ensures.ok ∙ ap (λ v. Some v.first) (sym c.of-was.ensures)
+
+pub add_workers-requires-clause-many : goal.add_workers-requires-clause-many
+add_workers-requires-clause-many g c = omega (arith, c.add_actors.ensures.left, c.requires.sets.0)
+
+pub add_workers-requires-clause-tools : goal.add_workers-requires-clause-tools
+add_workers-requires-clause-tools g c = subst (λ v. All (AreToolsFor g.S.Store.disk v.first) c.args.tools.items) (sym c.of-was.ensures) c.requires.tools
 
 pub end_actors-unread-requires-clause-ran : goal.end_actors-unread-requires-clause-ran
 end_actors-unread-requires-clause-ran g c =
@@ -42,14 +62,15 @@ end_actors-unread-requires-clause-guests g c =
     few_guests (length (take c.add_actors.new.actors.len (c.run_beside.new.actors ++ drop (length c.run_beside.new.actors) c.add_actors.new.actors.items))) (greatest_from 0 c.args.lines.now)
     (ap length all ∙ c.run_beside.ensures.guests.count ∙ ap length c.as_mut_slice-guests.ensures.value ∙ c.add_actors.ensures.count ∙ c.requires.count)
 
-pub end_workers-requires-clause-done : goal.end_workers-requires-clause-done
-end_workers-requires-clause-done g c =
+pub end_workers-unfetched-requires-clause-done : goal.end_workers-unfetched-requires-clause-done
+end_workers-unfetched-requires-clause-done g c =
+    let disk = g.S.Store.disk in
     let lock = c.in-Ok-new.made.0 in
     let whole : c.add_workers.new.workers.len ≡ length c.run_beside.new.workers = c.add_workers.new.workers.ok.0 ∙ ap length (sym c.as_mut_slice-hands.ensures.value) ∙ sym c.run_beside.ensures.workers.count in
     let all = written_all c.add_workers.new.workers.len c.run_beside.new.workers (drop (length c.run_beside.new.workers) c.add_workers.new.workers.items) whole in
     subst (All (HasDone lock)) (sym all)
-    (all_done lock c.add_actors.new.first c.in-Ok.claims (c.in-Ok.claims.limit + 1) c.as_mut_slice-hands.result.now c.run_beside.new.workers (omega (arith, c.in-Ok.ensures.counter.0, c.ranges.stripes.fits)) (ap (λ s. s.lock) c.add_actors.ensures.seat ∙ ap (λ s. s.lock) c.in-Ok-new.ensures.ok)
-    (subst (All (IsFreshWorker c.add_actors.new.first c.in-Ok.claims)) (sym c.as_mut_slice-hands.ensures.value) c.add_workers.ensures.fresh) c.run_beside.ensures.workers)
+    (all_done disk lock c.add_actors.new.first c.in-Ok.claims (c.in-Ok.claims.limit + 1) c.as_mut_slice-hands.result.now c.run_beside.new.workers (omega (arith, c.in-Ok.ensures.counter.0, c.ranges.stripes.fits)) (ap (λ s. s.lock) c.add_actors.ensures.seat ∙ ap (λ s. s.lock) c.in-Ok-new.ensures.ok)
+    (subst (All (IsFreshWorker disk c.add_actors.new.first c.in-Ok.claims)) (sym c.as_mut_slice-hands.ensures.value) c.add_workers.ensures.fresh) c.run_beside.ensures.workers)
 
 pub close-chain-requires-clause-all : goal.close-chain-requires-clause-all
 close-chain-requires-clause-all g c =
@@ -58,8 +79,8 @@ close-chain-requires-clause-all g c =
     let actors = ap length (written_all c.add_actors.new.actors.len c.run_beside.new.actors (drop (length c.run_beside.new.actors) c.add_actors.new.actors.items) guests) in
     let workers = ap length (written_all c.add_workers.new.workers.len c.run_beside.new.workers (drop (length c.run_beside.new.workers) c.add_workers.new.workers.items) hands) in
     made_all g.S.Store.disk c.args.chain c.requires.begun.fresh c.requires.begun.whole c.in-Ok-new.made.0 c.in-Ok-new.made.1 c.in-Ok-new.ensures.ok
-    (length c.args.rooms.items) (length c.args.pieces.items) _ _ c.add_actors.new.first c.add_workers.new.first c.end_actors-unread.new.first c.end_workers.new.first
-    c.add_actors.ensures.seat c.add_workers.ensures.seat c.end_actors-unread.ensures.joined.family c.end_workers.ensures.family
+    (length c.args.rooms.items) (length c.args.tools.items) _ _ c.add_actors.new.first c.add_workers.new.first c.end_actors-unread.new.first c.end_workers-unfetched.new.first
+    c.add_actors.ensures.seat c.add_workers.ensures.seat c.end_actors-unread.ensures.joined.family c.end_workers-unfetched.ensures.family
     (actors ∙ c.run_beside.ensures.guests.count ∙ ap length c.as_mut_slice-guests.ensures.value ∙ c.add_actors.ensures.count)
     (workers ∙ c.run_beside.ensures.workers.count ∙ ap length c.as_mut_slice-hands.ensures.value ∙ c.add_workers.ensures.count)
 
@@ -76,20 +97,26 @@ returns-clause-alone g c none =
     let hands : c.add_workers.new.workers.len ≡ length c.run_beside.new.workers = c.add_workers.new.workers.ok.0 ∙ ap length (sym c.as_mut_slice-hands.ensures.value) ∙ sym c.run_beside.ensures.workers.count in
     let actors = ap length (written_all c.add_actors.new.actors.len c.run_beside.new.actors (drop (length c.run_beside.new.actors) c.add_actors.new.actors.items) guests) in
     let workers = ap length (written_all c.add_workers.new.workers.len c.run_beside.new.workers (drop (length c.run_beside.new.workers) c.add_workers.new.workers.items) hands) in
-    let same = c.end_workers.ensures.same (workers ∙ c.run_beside.ensures.workers.count ∙ ap length c.as_mut_slice-hands.ensures.value ∙ c.add_workers.ensures.count ∙ none) in
+    let same = c.end_workers-unfetched.ensures.same (workers ∙ c.run_beside.ensures.workers.count ∙ ap length c.as_mut_slice-hands.ensures.value ∙ c.add_workers.ensures.count ∙ none) in
     let n_is = actors ∙ c.run_beside.ensures.guests.count ∙ ap length c.as_mut_slice-guests.ensures.value ∙ c.add_actors.ensures.count ∙ c.requires.count in
     let m_is = workers ∙ c.run_beside.ensures.workers.count ∙ ap length c.as_mut_slice-hands.ensures.value ∙ c.add_workers.ensures.count in
-    let bounds = few_turns disk lock _ c.in-Ok-new.made.1 c.add_actors.new.first c.add_workers.new.first c.end_actors-unread.new.first c.end_workers.new.first _ _ _ _ (greatest_from 0 lines) c.close-chain.result.chain.events
-    c.in-Ok-new.ensures.ok c.add_actors.ensures.seat c.add_workers.ensures.seat j.first_ticket j.drawn c.end_workers.ensures.first_ticket c.end_workers.ensures.drawn n_is (omega (arith, m_is, c.requires.workers))
+    let bounds = few_turns disk lock _ c.in-Ok-new.made.1 c.add_actors.new.first c.add_workers.new.first c.end_actors-unread.new.first c.end_workers-unfetched.new.first _ _ _ _ (greatest_from 0 lines) c.close-chain.result.chain.events
+    c.in-Ok-new.ensures.ok c.add_actors.ensures.seat c.add_workers.ensures.seat j.first_ticket j.drawn c.end_workers-unfetched.ensures.first_ticket c.end_workers-unfetched.ensures.drawn n_is (omega (arith, m_is, c.requires.workers))
     c.close-chain.ensures.refused c.close-chain.ensures.worked in
     IsShared.was_shared (record {
       lock = lock;
-      seat = c.end_workers.new.first;
+      seat = c.end_workers-unfetched.new.first;
       guests = j.guests;
-      joined = subst (λ f. AreJoined disk f false lock names lines c.end_workers.new.first told short j.guests) (ap (λ v. v.first) c.of-was.ensures)
+      joined = subst (λ f. AreJoined disk f false lock names lines c.end_workers-unfetched.new.first told short j.guests) (ap (λ v. v.first) c.of-was.ensures)
           (subst (λ s. AreJoined disk c.of-was.result.value.first false lock names lines s told short j.guests) (sym same) j.joined);
       count = j.count_is ∙ actors ∙ c.run_beside.ensures.guests.count ∙ ap length c.as_mut_slice-guests.ensures.value ∙ c.add_actors.ensures.count ∙ c.requires.count;
-      unread_is = j.unread_is;
+      unfetched = 0;
+      none_fetched = λ merges. refl;
+      unread_is =
+          (let few = c.end_actors-unread.ensures.few in
+          let sum = sat_none c.end_actors-unread.result.unread c.end_workers-unfetched.result c.saturating_add.result
+          (c.end_workers-unfetched.ensures.alone (workers ∙ c.run_beside.ensures.workers.count ∙ ap length c.as_mut_slice-hands.ensures.value ∙ c.add_workers.ensures.count ∙ none)) (omega (arith, few)) c.saturating_add.ensures in
+          omega (arith, sum, j.unread_is));
       history = c.close-chain.ensures.history;
       basis = c.close-chain.ensures.basis;
       places = c.close-chain.ensures.places;
@@ -111,22 +138,32 @@ returns-clause-beside g c =
     let actors = ap length (written_all c.add_actors.new.actors.len c.run_beside.new.actors (drop (length c.run_beside.new.actors) c.add_actors.new.actors.items) guests) in
     let hands : c.add_workers.new.workers.len ≡ length c.run_beside.new.workers = c.add_workers.new.workers.ok.0 ∙ ap length (sym c.as_mut_slice-hands.ensures.value) ∙ sym c.run_beside.ensures.workers.count in
     let workers = ap length (written_all c.add_workers.new.workers.len c.run_beside.new.workers (drop (length c.run_beside.new.workers) c.add_workers.new.workers.items) hands) in
-    let wide = c.end_workers.ensures.joined first names lines told short j.guests (wider_joined disk first lock names lines c.end_actors-unread.new.first told short j.guests j.joined) in
+    let wide = c.end_workers-unfetched.ensures.joined first names lines told short j.guests (wider_joined disk first lock names lines c.end_actors-unread.new.first told short j.guests j.joined) in
     let n_is = actors ∙ c.run_beside.ensures.guests.count ∙ ap length c.as_mut_slice-guests.ensures.value ∙ c.add_actors.ensures.count ∙ c.requires.count in
     let m_is = workers ∙ c.run_beside.ensures.workers.count ∙ ap length c.as_mut_slice-hands.ensures.value ∙ c.add_workers.ensures.count in
-    let bounds = few_turns disk lock _ c.in-Ok-new.made.1 c.add_actors.new.first c.add_workers.new.first c.end_actors-unread.new.first c.end_workers.new.first _ _ _ _ (greatest_from 0 lines) c.close-chain.result.chain.events
-    c.in-Ok-new.ensures.ok c.add_actors.ensures.seat c.add_workers.ensures.seat j.first_ticket j.drawn c.end_workers.ensures.first_ticket c.end_workers.ensures.drawn n_is (omega (arith, m_is, c.requires.workers))
+    let bounds = few_turns disk lock _ c.in-Ok-new.made.1 c.add_actors.new.first c.add_workers.new.first c.end_actors-unread.new.first c.end_workers-unfetched.new.first _ _ _ _ (greatest_from 0 lines) c.close-chain.result.chain.events
+    c.in-Ok-new.ensures.ok c.add_actors.ensures.seat c.add_workers.ensures.seat j.first_ticket j.drawn c.end_workers-unfetched.ensures.first_ticket c.end_workers-unfetched.ensures.drawn n_is (omega (arith, m_is, c.requires.workers))
     c.close-chain.ensures.refused c.close-chain.ensures.worked in
     IsShared.was_shared (record {
       lock = lock;
-      seat = c.end_workers.new.first;
+      seat = c.end_workers-unfetched.new.first;
       guests = j.guests;
-      joined = subst (λ f. AreJoined disk f true lock names lines c.end_workers.new.first told short j.guests) (ap (λ v. v.first) c.of-was.ensures) wide;
+      joined = subst (λ f. AreJoined disk f true lock names lines c.end_workers-unfetched.new.first told short j.guests) (ap (λ v. v.first) c.of-was.ensures) wide;
       count = j.count_is ∙ actors ∙ c.run_beside.ensures.guests.count ∙ ap length c.as_mut_slice-guests.ensures.value ∙ c.add_actors.ensures.count ∙ c.requires.count;
-      unread_is = j.unread_is;
+      unfetched = c.saturating_add.result - length (all_unread j.guests);
+      none_fetched = λ never. absurd (false_true (sym never));
+      unread_is =
+          (let few = c.end_actors-unread.ensures.few in
+          let least = sat_least c.end_actors-unread.result.unread c.end_workers-unfetched.result c.saturating_add.result (omega (arith, few)) c.saturating_add.ensures in
+          omega (arith, least, j.unread_is));
       history = c.close-chain.ensures.history;
       basis = c.close-chain.ensures.basis;
       places = c.close-chain.ensures.places;
       refusals = bounds.0;
       few = bounds.1;
     })
+
+pub returns-clause-back : goal.returns-clause-back
+returns-clause-back g c =
+    c.end_workers-unfetched.ensures.back ∙ ap (λ b. b || nat_lt 0 c.end_workers-unfetched.result) c.end_actors-unread.ensures.back
+    ∙ sym (sat_some c.end_actors-unread.result.unread c.end_workers-unfetched.result c.end_workers-unfetched.result c.saturating_add.result refl c.saturating_add.ensures)

@@ -1,7 +1,8 @@
 use Rattle.std.proofs.Common.{◌≡◌, ◌++◌, ◌∷◌, [], List, ap, refl, sym, subst, true, ◌∙◌}
 use Rattle.store_model.specs.Disk.{Sealed}
 use Rattle.store_model.specs.Folder.{RoseWhere}
-use Rattle.serve_session.specs.Back.{any_failed, has_failed}
+use Rattle.serve_session.specs.Back.{any_failed}
+use Rattle.read_plan.specs.Reading.{has_failed}
 use Rattle.vhdx_app.proofs.Handing.{none_left, popped, rose_more, rose_none}
 use Rattle.vhdx_app.proofs.giving.give_back_each.Goals as goal
 

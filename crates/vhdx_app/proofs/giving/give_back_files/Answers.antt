@@ -1,7 +1,7 @@
+use Rattle.read_plan.specs.Reading.{has_failed}
 use Rattle.std.proofs.Common.{◌≡◌, ◌≢◌, ◌++◌, ◌∷◌, [], List, ap, map, nat_lt, refl, sym, subst, true, ◌∙◌}
 use Rattle.store_model.specs.Disk.{Sealed}
 use Rattle.store_model.specs.Folder.{RoseWhere}
-use Rattle.serve_session.specs.Back.{has_failed}
 use Rattle.vhdx_app.proofs.Handing.{none_left, popped_of, rose_failed, rose_more, rose_none}
 use Rattle.vhdx_app.proofs.giving.give_back_files.Goals as goal
 

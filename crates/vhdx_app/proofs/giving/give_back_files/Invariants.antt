@@ -1,7 +1,7 @@
+use Rattle.read_plan.specs.Reading.{has_failed}
 use Rattle.std.proofs.Common.{◌≡◌, ◌++◌, List, length, map, true}
 use Rattle.store_model.specs.Disk.{Sealed}
 use Rattle.store_model.specs.Folder.{RoseWhere}
-use Rattle.serve_session.specs.Back.{has_failed}
 use Rattle.vhdx_app.proofs.giving.give_back_files.Given as goal
 
 -- those that were taken have come back

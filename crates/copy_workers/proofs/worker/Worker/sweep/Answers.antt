@@ -12,6 +12,8 @@ loop-init g c = record {
   next = tt;
   finite = tt;
   free = c.requires.own;
+  source = c.requires.source;
+  failed = c.requires.failed;
   swept = none_swept c.args.claims.now.limit c.args.self.now c.requires.own.1;
   counter = c.requires.counter;
   family = refl;
@@ -20,13 +22,15 @@ loop-init g c = record {
 pub loop-preserved : goal.loop-preserved
 loop-preserved g c =
     let i = c.loop.invariant in
-    let d = c.deliver.ensures in
+    let d = c.copy.ensures in
     let claimed = c.in-Some-claim.ensures.some.1 in
     record {
       next = tt;
       finite = tt;
       free = (d.worked.keeps.lock ∙ i.free.0, d.worked.keeps.free);
-      swept = swept_on c.args.claims.now.limit c.in-Some-claim.stripe c.args.self.now c.loop.self c.deliver.new.self i.swept c.in-Some-claim.ensures.some.0 (ap (λ s. s.numbers) (d.claim ∙ claimed)) d.worked d.swept;
+      swept = swept_on c.args.claims.now.limit c.in-Some-claim.stripe c.args.self.now c.loop.self c.copy.new.self i.swept c.in-Some-claim.ensures.some.0 (ap (λ s. s.numbers) (d.claim ∙ claimed)) d.worked d.left d.counted;
+      source = d.source;
+      failed = d.failed;
       counter = ap (λ s. s.counter) (d.claim ∙ claimed) ∙ i.counter;
       family = ap (λ s. s.family) (d.claim ∙ claimed) ∙ i.family;
     }
@@ -42,12 +46,12 @@ returns-clause-worked g c =
           let none = subst (λ o. IfNone o (w.claim.new.seat ≡ record (c.loop.self.claim) { is_closed = true })) w.in_default.is w.claim.ensures.none in
           let claim : mid.claim ≡ w.claim.new.seat = ap (λ s. s.claim) w.self-is in
           let seat : mid.seat ≡ c.loop.self.seat = ap (λ s. s.seat) w.self-is in
-          (swept_same limit old c.loop.self mid c.loop.invariant.swept (ap (λ s. s.numbers) claim ∙ ap (λ s. s.numbers) none) seat, subst (λ s. HasNoRepeats s.numbers) (sym claim) w.claim.ensures.once)
+          (swept_same limit old c.loop.self mid c.loop.invariant.swept (ap (λ s. s.numbers) claim ∙ ap (λ s. s.numbers) none) seat (ap (λ s. s.unfetched) w.self-is), subst (λ s. HasNoRepeats s.numbers) (sym claim) w.claim.ensures.once)
     ] in
     swept_all limit old mid c.finish.new.self swept.0 swept.1 c.finish.ensures.worked
 
-pub returns-clause-swept : goal.returns-clause-swept
-returns-clause-swept g c =
+pub returns-clause-left : goal.returns-clause-left
+returns-clause-left g c =
     let limit = c.args.claims.now.limit in
     let old = c.args.self.now in
     let mid = c.match-next.self in
@@ -57,6 +61,6 @@ returns-clause-swept g c =
           let none = subst (λ o. IfNone o (w.claim.new.seat ≡ record (c.loop.self.claim) { is_closed = true })) w.in_default.is w.claim.ensures.none in
           let claim : mid.claim ≡ w.claim.new.seat = ap (λ s. s.claim) w.self-is in
           let seat : mid.seat ≡ c.loop.self.seat = ap (λ s. s.seat) w.self-is in
-          (swept_same limit old c.loop.self mid c.loop.invariant.swept (ap (λ s. s.numbers) claim ∙ ap (λ s. s.numbers) none) seat, subst (λ s. HasNoRepeats s.numbers) (sym claim) w.claim.ensures.once)
+          (swept_same limit old c.loop.self mid c.loop.invariant.swept (ap (λ s. s.numbers) claim ∙ ap (λ s. s.numbers) none) seat (ap (λ s. s.unfetched) w.self-is), subst (λ s. HasNoRepeats s.numbers) (sym claim) w.claim.ensures.once)
     ] in
-    swept_then limit old mid c.finish.new.self swept.0 c.finish.ensures.worked (ap (λ s. s.numbers) c.finish.ensures.claim)
+    swept_then limit old mid c.finish.new.self swept.0 c.finish.ensures.worked (ap (λ s. s.claim.numbers) c.finish.ensures.only) (ap (λ s. s.unfetched) c.finish.ensures.only)

@@ -1,5 +1,6 @@
 use Rattle.std.proofs.Common.{◌≡◌}
 use Rattle.shared_chain.specs.Seats.{IsFree}
+use Rattle.copy_workers.specs.Sources.{HasSource, HaveFailed}
 use Rattle.copy_workers.proofs.Claimed.{Swept}
 use Rattle.copy_workers.proofs.worker.Worker.sweep.Given as goal
 
@@ -9,6 +10,8 @@ invariant-loop g l = record {
   next : (goal.iterator-loop g).can_next l.iterator';
   finite : (goal.iterator-loop g).is_finite l.iterator';
   free : IsFree l.lock l.self.seat;
+  source : HasSource g.S.Store.disk l.self.seat.basis l.self.reads;
+  failed : HaveFailed l.self.reads l.self.unfetched;
   swept : Swept l.claims.limit l.fn.self l.self;
   counter : l.self.claim.counter ≡ l.claims;
   family : l.self.claim.family ≡ l.fn.self.claim.family;
