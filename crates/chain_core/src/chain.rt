@@ -676,11 +676,7 @@ impl<S: Store, R: Recorder> Chain<S, R> {
 
     /// What readers read the source of its merge by, outside the chain, with room of its own for so many pages of the file's tables in memory: none
     /// where no merge is under way, or it is of the leaf, or its source is in a session.
-    pub fn sealed_source(
-        &self,
-        alloc: Global,
-        pages: u32,
-    ) -> Result<Option<SealedSource>, NoRoom>
+    pub fn sealed_source(&self, alloc: Global, pages: u32) -> Result<Option<SealedSource>, NoRoom>
         requires pages { 0 < pages }
         requires sound { IsSound (seen S.disk R.noted R.told self.now) }
         requires whole { self.now.broken ≡ None }
