@@ -2,8 +2,9 @@
 """Lists the words that the promise of `run` rests on, from the clauses of `run` through the imports of specs/.
 
     docs/definitions.py           prints the words by file, and how many lines of specs/ they take
-    docs/definitions.py --write   writes that list into docs/DEFINITIONS.md, between its two markers
-    docs/definitions.py --check   fails where the list there is another one, or the guide above it names a word that isn't reached
+    docs/definitions.py --write   writes that list into docs/DEFINITIONS.md, between its two markers, and the definitions that matter
+                                  first, as they stand in specs/, between two others
+    docs/definitions.py --check   fails where either is another one there, or the guide names a word that isn't reached
 """
 import pathlib
 import re
@@ -13,6 +14,22 @@ TOP = pathlib.Path(__file__).resolve().parent.parent
 GUIDE = TOP / "docs" / "DEFINITIONS.md"
 PROGRAM = TOP / "crates" / "vhdx_app" / "src" / "program.rt"
 BEGIN, END = "<!-- list: begin -->", "<!-- list: end -->"
+TEXT_BEGIN, TEXT_END = "<!-- first: begin -->", "<!-- first: end -->"
+# The definitions that matter first, in reading order: what each says, and its words.
+FIRST = [
+    ("What a call does to the disk, a list of sectors of z bytes, and what it answers.", ["guest_model.specs.Calls.apply", "guest_model.specs.Calls.reply"]),
+    ("The disk behind a history of calls.", ["guest_model.specs.History.replay"]),
+    ("Which sectors of it a crash may leave otherwise: those written or trimmed since its last flush.", ["guest_model.specs.History.is_dirty"]),
+    ("What a file with this header stands for: its bytes with what its log holds unapplied.", ["vhdx_format.specs.SettledFiles.Settles"]),
+    ("What a file has of each sector: by its block's state nothing, zeros, or bytes of its own.", ["vhdx_format.specs.Layers.sector_by_state"]),
+    ("The files to which a leaf's name leads.", ["chain_model.specs.Files.IsLinked", "chain_model.specs.Members.IsChainOf"]),
+    ("The disk of a chain: each sector as the first file says that has it, from the leaf on.",
+     ["chain_model.specs.Layers.through", "chain_model.specs.Layers.flat", "chain_model.specs.Members.disk_of"]),
+    ("What a crash may leave of a file, change by change.", ["store_model.specs.File.IsImageAfter"]),
+    ("What each such image of a folder is opened to: the disk of the first calls of the history, outside what is dirty or being written.",
+     ["steps_command.specs.Crashes.EachImageOpens", "steps_command.specs.Crashes.OpensToFirst"]),
+    ("What all guests are told is one history's.", ["serve_session.specs.Served.AreServed"]),
+]
 KINDS = ("abbrev pub ", "unfoldable pub ", "foldable pub ", "pub record ", "pub data ", "abbrev ", "unfoldable ", "record ", "data ", "pub ")
 NAME = re.compile(r"[^\s(){}\[\],.:;λ→×⊎]+")
 USE = re.compile(r"^(?:pub |unfoldable |ghost )*use Rattle\.([\w.«»]+?)(?:\.\{([^}]*)\}| as (\w+))?;?$")
@@ -157,6 +174,21 @@ def listing(found):
     return head, rows
 
 
+def first_texts():
+    """The definitions that matter first, whole, with what each says and where it stands."""
+    blocks = []
+    for number, (said, words) in enumerate(FIRST, 1):
+        files, lines = [], []
+        for place in words:
+            path, word = place.rsplit(".", 1)
+            file = f"`crates/{file_of(path).relative_to(TOP / 'crates')}`"
+            files += [file] if file not in files else []
+            lines += ["    "] if lines else []
+            lines += ["    " + line for line in module(path).words[word] if not line.startswith("--")]
+        blocks.append(f"{number}. {said} ({', '.join(files)})\n\n" + "\n".join(line.rstrip() for line in lines))
+    return "\n\n".join(blocks)
+
+
 CRATES = [line.split(":")[0].split()[0] for line in (TOP / "crates.txt").read_text().split("\n") if ":" in line and not line.startswith("#")]
 
 
@@ -170,10 +202,17 @@ def main():
     guide = GUIDE.read_text()
     before, rest = guide.split(BEGIN)
     old, after = rest.split(END)
+    firsts = first_texts()
+    head_part, rest_part = before.split(TEXT_BEGIN)
+    old_firsts, tail_part = rest_part.split(TEXT_END)
     if "--write" in sys.argv:
+        before = head_part + TEXT_BEGIN + "\n" + firsts + "\n" + TEXT_END + tail_part
         GUIDE.write_text(before + BEGIN + "\n" + text + "\n" + END + after)
         return 0
     status = 0
+    if old_firsts.strip() != firsts.strip():
+        print("the first definitions in docs/DEFINITIONS.md aren't those of specs/: run docs/definitions.py --write")
+        status = 1
     if old.strip() != text.strip():
         print("the list in docs/DEFINITIONS.md isn't that of the imports: run docs/definitions.py --write")
         status = 1

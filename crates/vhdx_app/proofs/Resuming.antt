@@ -31,16 +31,16 @@ use Rattle.link_rules.proofs.Alike.{images_alike, long_enough}
 use Rattle.link_rules.proofs.Chained.{names_same}
 use Rattle.link_rules.proofs.EachChain.{chains_are_linked}
 use Rattle.link_rules.proofs.OneLinking.{one_linking}
-use Rattle.vhdx_app.specs.Crashes.{OpensToFirst}
-use Rattle.vhdx_app.specs.Folders.{files_of}
-use Rattle.vhdx_app.specs.Printed.{RefusesLeaf, unlinked}
-use Rattle.vhdx_app.specs.Refusals.{Refusal}
+use Rattle.steps_command.specs.Crashes.{OpensToFirst}
+use Rattle.command_base.specs.Folders.{files_of}
+use Rattle.command_base.specs.Printed.{RefusesLeaf, unlinked}
+use Rattle.command_base.specs.Refusals.{Refusal}
 use Rattle.vhdx_app.specs.Resuming.{CanResume, IsRunOver, OpeningsResume, ResumedRunsGoOn, ResumesFirst, ResumesWithin, RunsResume, ServicesResume, restarted}
-use Rattle.vhdx_app.specs.Steps.{way_by}
-use Rattle.vhdx_app.specs.Worlds.{World}
+use Rattle.steps_command.specs.Steps.{way_by}
+use Rattle.command_base.specs.Worlds.{World}
 use Rattle.script_session.specs.Histories.{Break}
 use Rattle.script_session.specs.Running.{open_by}
-use Rattle.vhdx_app.proofs.OneAnswer.{not_two}
+use Rattle.command_base.proofs.OneAnswer.{not_two}
 
 -- ---- the files that a restart finds are those of the image
 

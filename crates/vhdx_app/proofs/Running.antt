@@ -11,27 +11,28 @@ use Rattle.make_file.specs.Makes.{outside}
 use Rattle.store_model.specs.Cause.{Rose}
 use Rattle.store_model.specs.Disk.{WhereTold}
 use Rattle.store_model.specs.Folder.{Hosted}
-use Rattle.vhdx_app.specs.Commands.{Ended, MakeEnded}
+use Rattle.command_base.specs.Commands.{Ended, MakeEnded}
 use Rattle.link_rules.specs.Folders.{AllIdle, contents}
 use Rattle.link_rules.specs.Touches.{IsOnWay, TouchesSafely}
 use Rattle.link_rules.proofs.Safe.{none_safely}
-use Rattle.vhdx_app.specs.Folders.{IsReplayedIn, OnlyFollows}
+use Rattle.command_base.specs.Folders.{IsReplayedIn, OnlyFollows}
 use Rattle.printing.specs.Sent.{Sent, cut, whole}
-use Rattle.vhdx_app.specs.Runs.{AskMerge, Ends, HasMerge, FollowsFirst, IsMerging, IsRun, IsRunAlone, Runs, StartsNoThread, no_memory, serving, usage}
+use Rattle.command_base.specs.Ends.{Ends, HasMerge}
+use Rattle.vhdx_app.specs.Runs.{AskMerge, FollowsFirst, IsMerging, IsRun, IsRunAlone, Runs, StartsNoThread, no_memory, serving, usage}
 use Rattle.script.specs.declared.form.ScriptKind.TheVariants as kinds
-use Rattle.vhdx_app.specs.Serves as serves
-use Rattle.vhdx_app.specs.Steps as steps
-use Rattle.vhdx_app.specs.Worlds.{World, world}
+use Rattle.serve_command.specs.Serves as serves
+use Rattle.steps_command.specs.Steps as steps
+use Rattle.command_base.specs.Worlds.{World, world}
 use Rattle.printing.specs.declared.status.Status.{Status}
 use Rattle.printing.specs.declared.status.Status.TheVariants.{Done, Refused, Usage, Fault, NoMemory}
 use Rattle.named_file.proofs.Touched.{still_repaired, still_safely}
-use Rattle.vhdx_app.proofs.Checked.{looks_none, no_memory_found}
-use Rattle.vhdx_app.proofs.Home.{StaysHome, home_added, home_followed, home_still}
-use Rattle.vhdx_app.proofs.Left.{follows_none}
-use Rattle.vhdx_app.proofs.Mended.{no_memory_not_refused}
-use Rattle.vhdx_app.proofs.Made.{adds_none, looks_still, still_making}
-use Rattle.vhdx_app.proofs.Said.{asked, asked_none, no_memory_shown}
-use Rattle.vhdx_app.proofs.Stepped.{none_taken, unread_runs}
+use Rattle.folder_commands.proofs.Checked.{looks_none, no_memory_found}
+use Rattle.command_base.proofs.Home.{StaysHome, home_added, home_followed, home_still}
+use Rattle.command_base.proofs.Left.{follows_none}
+use Rattle.folder_commands.proofs.Mended.{no_memory_not_refused}
+use Rattle.folder_commands.proofs.Made.{adds_none, looks_still, still_making}
+use Rattle.command_base.proofs.Said.{asked, asked_none, no_memory_shown}
+use Rattle.steps_command.proofs.Stepped.{none_taken, unread_runs}
 
 module _ (words : List (List ℕ)) (told : Option Request) (h : MatchOption told (AsksNothing words) (λ r. Asks words (plain r))) where
   -- the words have one wish, and it is the one that was told

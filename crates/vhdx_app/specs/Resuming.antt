@@ -19,13 +19,13 @@ use Rattle.script.specs.declared.form.ScriptKind.{ScriptKind}
 use Rattle.script_session.specs.Histories.{Break}
 use Rattle.script_session.specs.Running.{open_by, open_last}
 use Rattle.printing.specs.declared.status.Status.{Status}
-use Rattle.vhdx_app.specs.Crashes.{IsCleanFolderImage}
-use Rattle.vhdx_app.specs.Folders.{files_of}
-use Rattle.vhdx_app.specs.Printed.{RefusesLeaf}
-use Rattle.vhdx_app.specs.Refusals.{Refusal}
-use Rattle.vhdx_app.specs.Serves.{ServesOver}
-use Rattle.vhdx_app.specs.Steps.{Opened, RunsOver, way_by}
-use Rattle.vhdx_app.specs.Worlds.{World}
+use Rattle.steps_command.specs.Crashes.{IsCleanFolderImage}
+use Rattle.command_base.specs.Folders.{files_of}
+use Rattle.command_base.specs.Printed.{RefusesLeaf}
+use Rattle.command_base.specs.Refusals.{Refusal}
+use Rattle.serve_command.specs.Serves.{ServesOver}
+use Rattle.steps_command.specs.Steps.{Opened, RunsOver, way_by}
+use Rattle.command_base.specs.Worlds.{World}
 use Rattle.chain_model.specs.Members.{LeadsBy, Way}
 
 -- the folder as a restart finds it: the files that a crash left, to which nothing was done yet

@@ -3,19 +3,18 @@ use Rattle.std.specs.Prelude.{◌≡◌, ◌≢◌, ◌⊎◌, ⊤, ℕ, List, O
 use Rattle.command_line.specs.Requests.{File as NewFile, Wish, check, dump, help, info, make, repair, serve, steps, version}
 use Rattle.command_line.specs.Words.{Asks, AsksNothing, help_text, version_text}
 use Rattle.make_file.specs.Makes.{Outside, outside}
-use Rattle.store_model.specs.Cause.{Rose}
-use Rattle.store_model.specs.Disk.{WhereTold}
-use Rattle.link_rules.specs.Folders.{AllIdle, contents}
+use Rattle.link_rules.specs.Folders.{contents}
 use Rattle.link_rules.specs.Touches.{IsOnWay, TouchesSafely}
-use Rattle.vhdx_app.specs.Folders.{AllHome, IsReplayedIn, OnlyFollows}
-use Rattle.vhdx_app.specs.Making.{AddsOnly, LooksAt, MakesSafely}
+use Rattle.command_base.specs.Ends.{Ends, HasMerge}
+use Rattle.command_base.specs.Folders.{IsReplayedIn, OnlyFollows}
+use Rattle.command_base.specs.Making.{AddsOnly, LooksAt, MakesSafely}
 use Rattle.printing.specs.Sent.{Sent}
-use Rattle.vhdx_app.specs.Printed.{IsDumpText, IsInfoText, IsMakeText, IsOwnText, Prints}
-use Rattle.vhdx_app.specs.Checks.{RunsCheck}
-use Rattle.vhdx_app.specs.Repairs.{RunsRepair}
-use Rattle.vhdx_app.specs.Serves.{RunsServe}
-use Rattle.vhdx_app.specs.Steps.{RunsSteps}
-use Rattle.vhdx_app.specs.Worlds.{World}
+use Rattle.command_base.specs.Printed.{IsDumpText, IsInfoText, IsMakeText, IsOwnText, Prints}
+use Rattle.command_base.specs.Checks.{RunsCheck}
+use Rattle.folder_commands.specs.Repairs.{RunsRepair}
+use Rattle.serve_command.specs.Serves.{RunsServe}
+use Rattle.steps_command.specs.Steps.{RunsSteps}
+use Rattle.command_base.specs.Worlds.{World}
 use Rattle.vhdx_app.specs.declared.program.ServeWish.{ServeWish}
 use Rattle.printing.specs.declared.status.Status.{Status}
 use Rattle.printing.specs.declared.status.Status.TheVariants.{Done, Refused, Usage, Fault, NoMemory}
@@ -72,11 +71,6 @@ pub data RunsNothing (before now : World) (status : Status) : Type 0 where
   no_memory : OnlyPrints before now → Sent before.written now.written before.sink_faults now.sink_faults NoMemory (codes "no memory\n") status
       → RunsNothing before now status
 
--- a merge is asked for
-abbrev pub HasMerge : Option (List ℕ) → Type 0
-HasMerge None = ⊥
-HasMerge (Some name) = ⊤
-
 abbrev pub IsMerging : Wish → Type 0
 IsMerging (steps leaf merge read_only) = HasMerge merge
 IsMerging (serve leaf workers merge) = HasMerge merge
@@ -84,16 +78,6 @@ IsMerging other = ⊥
 
 abbrev pub AskMerge : List (List ℕ) → Type 0
 AskMerge words = (wish : Wish) × Asks words wish × IsMerging wish
-
--- However it ends: a fault is answered only where a count rose, the host's, the source's or the sink's, and none is passed over. No file is
--- away, and nothing of any is unsynced but after a fault, and where memory ran out and a merge was to start.
-pub record Ends (merges : Type 0) (before now : World) (status : Status) : Type 0 where
-  pub rose : status ≡ Fault
-      → Rose before.host.faults now.host.faults ⊎ (Rose before.source_faults now.source_faults ⊎ Rose before.sink_faults now.sink_faults)
-  pub quiet : status ≢ Fault
-      → (now.host.faults ≡ before.host.faults) × (now.source_faults ≡ before.source_faults) × (now.sink_faults ≡ before.sink_faults)
-  pub home : WhereTold before.host.folder (λ folder. WhereTold now.host.folder AllHome)
-  pub idle : status ≢ Fault → (status ≡ NoMemory → ¬ merges) → WhereTold before.host.folder (λ folder. WhereTold now.host.folder AllIdle)
 
 -- ---- the promise
 

@@ -2,10 +2,10 @@ use Rattle.std.proofs.Common.{Some, ap, refl, ◌∙◌}
 use Rattle.std.specs.Prelude.{option_map}
 use Rattle.command_line.specs.Words.{help_text, version_text}
 use Rattle.command_line.specs.declared.request.Request.TheVariants.{Check, Dump, Info, Make, Help, Repair, Serve, Steps, Version}
-use Rattle.vhdx_app.specs.Worlds.{World, world}
+use Rattle.command_base.specs.Worlds.{World, world}
 use Rattle.printing.specs.declared.status.Status.TheVariants.{Done}
 use Rattle.vhdx_app.proofs.Running.{command_ends, made_ends, follows_first, followed_ends, merge_ends, no_memory_alone, none_alone, sent_ends, serve_alone, told_alone, usage_ends}
-use Rattle.vhdx_app.proofs.Home.{home_looked, home_repaired}
+use Rattle.command_base.proofs.Home.{home_looked, home_repaired}
 use Rattle.printing.proofs.Saying.{text_sent}
 use Rattle.vhdx_app.proofs.program.run_alone.Goals as goal
 

@@ -1,0 +1,11 @@
+pub mod Causes
+pub mod Checks
+pub mod Commands
+pub mod Dump
+pub mod Ends
+pub mod Folders
+pub mod Info
+pub mod Making
+pub mod Printed
+pub mod Refusals
+pub mod Worlds

@@ -1,0 +1,4 @@
+pub mod Handing
+pub mod ServedOver
+pub mod ServedRuns
+pub mod Told

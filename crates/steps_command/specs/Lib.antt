@@ -1,0 +1,4 @@
+pub mod Crashes
+pub mod Sessions
+pub mod Starts
+pub mod Steps

@@ -1,6 +1,0 @@
-use Rattle.std.proofs.Common.{refl}
-use Rattle.printing.specs.Sent.{cut}
-use Rattle.vhdx_app.proofs.refusing.name_line.Goals as goal
-
-pub returns-in-Err : goal.returns-in-Err
-returns-in-Err g c = cut refl c.in-Err.ensures.cut.0 c.in-Err.ensures.cut.1 c.in-Err.ensures.rose
