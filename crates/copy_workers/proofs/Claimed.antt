@@ -1,5 +1,5 @@
 -- What a worker claims in a sweep.
-use Rattle.std.proofs.Common.{◌≡◌, ◌⊎◌, inl, inr, ◌+◌, ◌<◌, ◌≤◌, ◌==◌, ◌++◌, ◌∷◌, ℕ, zero, suc, Bool, true, false, List, [], length, refl, sym, ap, subst, ◌∙◌, arith, eqb-true, length-append}
+use Rattle.std.proofs.Common.{◌≡◌, ◌⊎◌, inl, inr, ◌+◌, ◌*◌, ◌<◌, ◌≤◌, ◌==◌, ◌++◌, ◌∷◌, ℕ, zero, suc, Bool, true, false, List, [], length, refl, sym, ap, subst, ◌∙◌, arith, eqb-true, length-append}
 use Rattle.std.specs.Prelude.{if◌then◌else◌, None}
 use Rattle.std.specs.List.{AllByRecursion}
 use Rattle.std.proofs.lemmas.Bool.{eqb-false}
@@ -12,9 +12,10 @@ use Rattle.shared_chain.specs.Bases.{Contains, HasStripe}
 use Rattle.shared_chain.specs.Laws.{contains_itself}
 use Rattle.shared_chain.specs.Seats.{HasWorked, KeepsSeat}
 use Rattle.turn_lock.specs.Seats.{Known}
+use Rattle.turn_lock.proofs.Fronts.{starts-length}
 use Rattle.copy_workers.specs.Sweeps.{AreLeft, IsLeft}
 use Rattle.copy_workers.specs.declared.worker.Worker.{Worker}
-use Rattle.copy_workers.proofs.Turns.{none_worked, swept_later, worked_twice}
+use Rattle.copy_workers.proofs.Turns.{none_worked, swept_later, worked_most, worked_twice}
 
 -- ---- numbers below a limit, each at most once
 
@@ -91,16 +92,16 @@ stripe_parts stripe (x ∷ xs) ys (inr h) = go (stripe_parts stripe xs ys h)
 
 module _ {S T : Type 0} where
   -- so it is of a stripe whatever comes behind it
-  left_later : (stripe : ℕ) (a b c d : Known Step (Basis S T)) (n m : ℕ) → Contains b.basis a.basis → IsLeft stripe b c n → KeepsSeat c d → (0 < n → 0 < m) → IsLeft stripe a d m
-  left_later stripe a b c d n m knows (inl swept) keeps more = inl (swept_later stripe a b c d knows swept keeps)
-  left_later stripe a b c d n m knows (inr some) keeps more = inr (more some)
+  left_later : (stripe : ℕ) (a b c d : Known Step (Basis S T)) (n m : ℕ) → Contains b.basis a.basis → length a.seen ≤ length b.seen → IsLeft stripe b c n → KeepsSeat c d → (0 < n → 0 < m) → IsLeft stripe a d m
+  left_later stripe a b c d n m knows grown (inl swept) keeps more = inl (swept_later stripe a b c d knows grown swept keeps)
+  left_later stripe a b c d n m knows grown (inr some) keeps more = inr (more some)
 
-  -- a turn was taken at most for each number that was claimed
+  -- four turns were taken at most for each number that was claimed
   pub record Swept (limit : ℕ) (old new : Worker S T) : Type 0 where
     pub gained : List ℕ
     pub is : new.claim.numbers ≡ old.claim.numbers ++ gained
     pub low : AllByRecursion (λ k. k < limit) gained
-    pub worked : HasWorked (length gained) old.seat new.seat
+    pub worked : HasWorked (4 * length gained) old.seat new.seat
     pub left : AreLeft old.claim.numbers new.claim.numbers old.seat new.seat new.unfetched
 
   pub none_swept : (limit : ℕ) (w : Worker S T) → w.seat.turn ≡ None → Swept limit w w
@@ -111,18 +112,19 @@ module _ {S T : Type 0} where
     gained = s.gained;
     is = numbers ∙ s.is;
     low = s.low;
-    worked = subst (HasWorked (length s.gained) old.seat) (sym seat) s.worked;
+    worked = subst (HasWorked (4 * length s.gained) old.seat) (sym seat) s.worked;
     left = subst (λ ns. AreLeft old.claim.numbers ns old.seat new.seat new.unfetched) (sym numbers)
         (subst (λ n. AreLeft old.claim.numbers mid.claim.numbers old.seat new.seat n) (sym count) (subst (λ t. AreLeft old.claim.numbers mid.claim.numbers old.seat t mid.unfetched) (sym seat) s.left));
   }
 
   -- one more number
-  pub swept_on : (limit k : ℕ) (old mid new : Worker S T) → Swept limit old mid → k < limit → new.claim.numbers ≡ mid.claim.numbers ++ k ∷ [] → HasWorked 1 mid.seat new.seat → IsLeft k mid.seat new.seat new.unfetched → (0 < mid.unfetched → 0 < new.unfetched) → Swept limit old new
+  pub swept_on : (limit k : ℕ) (old mid new : Worker S T) → Swept limit old mid → k < limit → new.claim.numbers ≡ mid.claim.numbers ++ k ∷ [] → HasWorked 4 mid.seat new.seat → IsLeft k mid.seat new.seat new.unfetched → (0 < mid.unfetched → 0 < new.unfetched) → Swept limit old new
   swept_on limit k old mid new s less is w now more = record {
     gained = s.gained ++ k ∷ [];
     is = is ∙ ap (λ xs. xs ++ k ∷ []) s.is ∙ append_assoc old.claim.numbers s.gained (k ∷ []);
     low = below_push limit k s.gained s.low less;
-    worked = subst (λ n. HasWorked n old.seat new.seat) (sym (length-append s.gained (k ∷ []))) (worked_twice (length s.gained) 1 old.seat mid.seat new.seat s.worked w);
+    worked = subst (λ n. HasWorked (4 * n) old.seat new.seat) (sym (length-append s.gained (k ∷ [])))
+        (worked_most (4 * length s.gained + 4) (4 * (length s.gained + 1)) old.seat new.seat (omega arith) (worked_twice (4 * length s.gained) 4 old.seat mid.seat new.seat s.worked w));
     left = record { each = λ stripe h. by_number stripe (stripe_parts stripe mid.claim.numbers (k ∷ []) (subst (HasStripe stripe) is h)) };
   }
     where
@@ -131,15 +133,15 @@ module _ {S T : Type 0} where
         where
           earlier : HasStripe stripe old.claim.numbers ⊎ IsLeft stripe old.seat mid.seat mid.unfetched → HasStripe stripe old.claim.numbers ⊎ IsLeft stripe old.seat new.seat new.unfetched
           earlier (inl own) = inl own
-          earlier (inr done) = inr (left_later stripe old.seat old.seat mid.seat new.seat mid.unfetched new.unfetched (contains_itself old.seat.basis) done w.keeps more)
+          earlier (inr done) = inr (left_later stripe old.seat old.seat mid.seat new.seat mid.unfetched new.unfetched (contains_itself old.seat.basis) (omega arith) done w.keeps more)
       by_number stripe (inr (inl e)) =
-          inr (left_later stripe old.seat mid.seat new.seat new.seat new.unfetched new.unfetched s.worked.keeps.basis (subst (λ n. IsLeft n mid.seat new.seat new.unfetched) (sym e) now) (none_worked new.seat 0 w.keeps.free).keeps (λ some. some))
+          inr (left_later stripe old.seat mid.seat new.seat new.seat new.unfetched new.unfetched s.worked.keeps.basis (starts-length mid.seat.seen old.seat.seen s.worked.keeps.seen) (subst (λ n. IsLeft n mid.seat new.seat new.unfetched) (sym e) now) (none_worked new.seat 0 w.keeps.free).keeps (λ some. some))
       by_number stripe (inr (inr never)) = absurd never
 
   -- and the turn that finishes
-  pub swept_all : (limit : ℕ) (old mid new : Worker S T) → Swept limit old mid → HasNoRepeats mid.claim.numbers → HasWorked 1 mid.seat new.seat → HasWorked (limit + 1) old.seat new.seat
+  pub swept_all : (limit : ℕ) (old mid new : Worker S T) → Swept limit old mid → HasNoRepeats mid.claim.numbers → HasWorked 1 mid.seat new.seat → HasWorked (4 * limit + 1) old.seat new.seat
   swept_all limit old mid new s once w =
-      let all = worked_twice (length s.gained) 1 old.seat mid.seat new.seat s.worked w in
+      let all = worked_twice (4 * length s.gained) 1 old.seat mid.seat new.seat s.worked w in
       let few = few_numbers limit old.claim.numbers s.gained s.low (subst HasNoRepeats s.is once) in
       record { keeps = all.keeps; drawn = omega (arith, all.drawn, few); own = all.own }
 
@@ -148,4 +150,4 @@ module _ {S T : Type 0} where
     where
       go : (stripe : ℕ) → HasStripe stripe old.claim.numbers ⊎ IsLeft stripe old.seat mid.seat mid.unfetched → HasStripe stripe old.claim.numbers ⊎ IsLeft stripe old.seat new.seat new.unfetched
       go stripe (inl own) = inl own
-      go stripe (inr done) = inr (left_later stripe old.seat old.seat mid.seat new.seat mid.unfetched new.unfetched (contains_itself old.seat.basis) done w.keeps (λ some. omega (arith, some, count)))
+      go stripe (inr done) = inr (left_later stripe old.seat old.seat mid.seat new.seat mid.unfetched new.unfetched (contains_itself old.seat.basis) (omega arith) done w.keeps (λ some. omega (arith, some, count)))

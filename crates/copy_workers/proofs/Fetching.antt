@@ -1,6 +1,6 @@
 -- A worker fetches stripes of the source by a reader of it.
-use Rattle.std.proofs.Common.{◌≡◌, ◌∙◌, ◌<◌, ◌+◌, ◌-◌, ◌^◌, ◌≤◌, ℕ, true, false, List, length, map, set, get_or, slice_index, Option, Some, None, refl, sym, ap, subst, arith}
-use Rattle.std.specs.Prelude.{⊤, All, Err, IfErr, IfSome, Ok, OnOk, Result, min, nat_lt, option_map, slice_index_or}
+use Rattle.std.proofs.Common.{◌≡◌, ◌∙◌, ◌<◌, ◌+◌, ◌-◌, ◌^◌, ◌≤◌, ℕ, true, false, List, [], length, map, set, get_or, slice_index, Option, Some, None, refl, sym, ap, subst, arith}
+use Rattle.std.specs.Prelude.{⊤, All, Err, IfErr, IfSome, Ok, OnOk, Result, is_some, min, nat_lt, option_map, slice_index_or}
 use Rattle.std.proofs.Math.Nat.{le-min}
 use Rattle.std.proofs.lemmas.List.{get_or-map, get_or-set_same, length-map, length-set, map-set, set-get_or}
 use Rattle.std.proofs.lemmas.Simd.{map-map}
@@ -19,17 +19,23 @@ use Rattle.read_plan.specs.Reading.{ReaderFailed, has_failed}
 use Rattle.read_plan.proofs.Failing.{has_now, some_lt}
 use Rattle.sealed_layer.specs.Planned.{files_in}
 use Rattle.sealed_layer.specs.Sealed.{HoldsSealed}
-use Rattle.chain_core.specs.Copying.{FitsDisk}
+use Rattle.chain_core.specs.Copying.{FitsDisk, Takes}
+use Rattle.chain_core.specs.Merging.{IsTrueOf}
+use Rattle.chain_core.specs.States.{sector_of}
+use Rattle.chain_core.specs.declared.layers.Retiring.{Retiring}
 use Rattle.chain_core.specs.Sealed.{IsSealedSource}
 use Rattle.chain_core.specs.declared.chain.Chain.{Chain}
 use Rattle.chain_core.specs.declared.layers.Layers.{Layers}
 use Rattle.chain_core.specs.declared.sealing.SealedSource.{SealedSource}
 use Rattle.shared_chain.specs.declared.basis.Basis.{Basis}
-use Rattle.shared_chain.specs.Fetched.{IsFetched}
+use Rattle.shared_chain.specs.declared.basis.Step.{Step}
+use Rattle.shared_chain.specs.Stamped.{stamp_behind}
+use Rattle.turn_lock.specs.Seats.{Known}
+use Rattle.turn_lock.proofs.Fronts.{starts-nothing}
 use Rattle.shared_chain.specs.Planned.{IsReaderFor}
 use Rattle.copy_workers.proofs.Sealed.{same_self}
 use Rattle.copy_workers.specs.Readings.{Reading}
-use Rattle.copy_workers.specs.Sources.{AreSameIn, AreSameSources, CanFetch, CanReadStripe, Fetches, HasFetched, HasSource, IsPlaced, IsSameAt, IsSameSource, ReadsSource, TakesBy, TakesFrom, reader_at}
+use Rattle.copy_workers.specs.Sources.{AreSameIn, AreSameSources, CanFetch, CanReadStripe, Fetches, HasFetched, HasSource, IsHeld, IsPlaced, IsSameAt, IsSameSource, ReadsSource, TakesBy, TakesFrom, reader_at}
 use Rattle.copy_workers.specs.declared.source.Source.{Source}
 
 -- what a reader tells that tells what the file has
@@ -84,28 +90,30 @@ module _ {S T : Type 0} (disk : S → Disk) where
           source = source_on r.first.layers (disk r.first.store) (reader_at readers s one) s.read t.read r.source (same.same one) (r.tells one);
         }
 
-    -- what was read of a stripe is a piece of the session
-    fetched : (stripe : ℕ) (piece : Piece) → (piece.filled ≡ true → TakesBy readers s stripe piece) → HasFetched disk basis stripe piece
-    fetched stripe piece takes filled =
-        let t = takes filled in
-        let one = reader_of s.read.file (disk r.first.store) in (
-          t.stripe_is,
-          subst (λ o. IfSome o (λ first. IsFetched disk first piece)) (sym r.began)
-              (record {
-                filled = filled;
-                fits = subst (λ (g : Geometry). FitsDisk g piece) r.source.geometry t.fits;
-                stamp = t.stamp;
-                alone = r.source.alone;
-                is_true = r.source.finds (piece_of piece) t.stamp
-                    (λ trace told layer h.
-                    subst (λ (g : Geometry). IsTaken g.sector layer (piece_of piece)) r.source.geometry
-                    (t.taken one layer (files_in trace s.read.file) (told_so s.read.file (disk r.first.store) (reader_at readers s one).content trace (r.tells one) told) h));
-              }),
-        )
+    -- what was read of a stripe is a piece of the session, in which the leaf isn't merged
+    held : (seat : Known Step (Basis S T)) (stripe : ℕ) (piece : Piece) → piece.filled ≡ true → TakesBy readers s stripe piece → IsHeld disk seat r.first piece
+    held seat stripe piece filled t =
+        let one = reader_of s.read.file (disk r.first.store) in
+        let taken : Takes r.first.layers (disk r.first.store) (piece_of piece) = r.source.finds (piece_of piece) t.stamp
+        (λ trace told layer h.
+        subst (λ (g : Geometry). IsTaken g.sector layer (piece_of piece)) r.source.geometry
+        (t.taken one layer (files_in trace s.read.file) (told_so s.read.file (disk r.first.store) (reader_at readers s one).content trace (r.tells one) told) h)) in
+        record {
+          before = [];
+          begins = starts-nothing seat.seen;
+          recent = λ some. absurd (let never : false ≡ true = sym (ap (λ (o : Option Retiring). is_some o) r.source.alone) ∙ some in cc);
+          fetched = record {
+            filled = filled;
+            fits = subst (λ (g : Geometry). FitsDisk g piece) r.source.geometry t.fits;
+            stamp = t.stamp ∙ ap (λ o. stamp_behind o [] piece.stripe) (sym r.source.alone);
+            is_true = λ trace told from serving empty. subst (λ h. IsTrueOf (sector_of from) h from.rest (piece_of piece)) empty (taken trace told from serving);
+          };
+        }
 
-  -- nothing was
-  pub none_fetched : (basis : Basis S T) (stripe : ℕ) (piece : Piece) → piece.filled ≡ false → HasFetched disk basis stripe piece
-  none_fetched basis stripe piece none filled = let never : false ≡ true = sym none ∙ filled in cc
+    fetched : (seat : Known Step (Basis S T)) → seat.basis ≡ basis → (stripe : ℕ) (piece : Piece) → (piece.filled ≡ true → TakesBy readers s stripe piece) → HasFetched disk seat stripe piece
+    fetched seat same stripe piece takes filled =
+        let t = takes filled in
+        (t.stripe_is, subst (λ o. IfSome o (λ first. IsHeld disk seat first piece)) (sym (ap (λ (b : Basis S T). b.first) same ∙ r.began)) (held seat stripe piece filled t))
 
   can_from : (basis : Basis S T) (readers : List Sealed) (source : Option Source) → IfSome source (ReadsSource disk basis readers) → IfSome source (CanFetch readers)
   can_from basis readers None h = tt
@@ -124,13 +132,13 @@ module _ {S T : Type 0} (disk : S → Disk) where
   pub source_kept : (basis : Basis S T) (old new : Reading) → HasSource disk basis old → AreSameSources old new → HasSource disk basis new
   source_kept basis old new h same = kept_from basis old.readers new.readers old.source new.source h same
 
-  fetched_from : (basis : Basis S T) (readers : List Sealed) (source : Option Source) (stripe : ℕ) (piece : Piece) → IfSome source (ReadsSource disk basis readers) → (piece.filled ≡ true → TakesFrom readers source stripe piece) → HasFetched disk basis stripe piece
-  fetched_from basis readers None stripe piece h takes filled = absurd (takes filled)
-  fetched_from basis readers (Some s) stripe piece h takes filled = fetched basis readers s h stripe piece takes filled
+  fetched_from : (seat : Known Step (Basis S T)) (readers : List Sealed) (source : Option Source) (stripe : ℕ) (piece : Piece) → IfSome source (ReadsSource disk seat.basis readers) → (piece.filled ≡ true → TakesFrom readers source stripe piece) → HasFetched disk seat stripe piece
+  fetched_from seat readers None stripe piece h takes filled = absurd (takes filled)
+  fetched_from seat readers (Some s) stripe piece h takes filled = fetched seat.basis readers s h seat refl stripe piece takes filled
 
   -- what they fetched of a stripe is a piece of the session
-  pub fetched_by : (basis : Basis S T) (r : Reading) (stripe : ℕ) (piece : Piece) → HasSource disk basis r → Fetches stripe r piece → HasFetched disk basis stripe piece
-  fetched_by basis r stripe piece h takes = fetched_from basis r.readers r.source stripe piece h takes
+  pub fetched_by : (seat : Known Step (Basis S T)) (r : Reading) (stripe : ℕ) (piece : Piece) → HasSource disk seat.basis r → Fetches stripe r piece → HasFetched disk seat stripe piece
+  fetched_by seat r stripe piece h takes = fetched_from seat r.readers r.source stripe piece h takes
 
   later_from : (old new : Basis S T) (readers : List Sealed) (source : Option Source) → new.first ≡ old.first → IfSome source (ReadsSource disk old readers) → IfSome source (ReadsSource disk new readers)
   later_from old new readers None same h = tt

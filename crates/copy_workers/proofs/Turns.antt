@@ -1,6 +1,6 @@
 -- A worker's turn, from its beginning to its end.
-use Rattle.std.proofs.Common.{◌≡◌, ◌⊎◌, ◌+◌, ◌-◌, ◌<◌, ◌≤◌, ◌==◌, ◌++◌, ◌∷◌, ℕ, Bool, true, false, List, [], length, inl, inr, ap₂, Some, None, Result, Ok, Err, refl, sym, ap, subst, ◌∙◌, arith, length-append, take_at}
-use Rattle.std.specs.Prelude.{◌||◌, IfErr, Option, if◌then◌else◌, nat_lt}
+use Rattle.std.proofs.Common.{◌≡◌, ◌≢◌, ◌⊎◌, ◌+◌, ◌-◌, ◌<◌, ◌≤◌, ◌==◌, ◌++◌, ◌∷◌, ℕ, Bool, true, false, List, [], length, inl, inr, ap₂, Some, None, Result, Ok, Err, refl, sym, ap, subst, ◌∙◌, arith, length-append, take_at}
+use Rattle.std.specs.Prelude.{◌||◌, IfErr, IfSome, OnOk, Option, if◌then◌else◌, nat_lt}
 use Rattle.std.proofs.lemmas.Bool.{eqb-true, eq-eqb, lt-ltb, ltb-false, ltb-true}
 use Rattle.std.proofs.lemmas.List.{append-nil, length-map}
 use Rattle.store_model.specs.Disk.{Disk}
@@ -19,16 +19,23 @@ use Rattle.merge_core.specs.Copied.{marks_of}
 use Rattle.merge_core.specs.declared.marks.Marks.{Marks}
 use Rattle.shared_chain.specs.declared.basis.Note.TheVariants as notes
 use Rattle.shared_chain.specs.Bases.{Contains, HasStripe, basis_of, marked_below}
+use Rattle.shared_chain.specs.Notes.{HasNote}
 use Rattle.shared_chain.specs.Laws.{contains_itself, contains_through}
-use Rattle.shared_chain.specs.Merging.{IsStepped, MergeStep, StopsCopy, as_answer, copied_behind, copies, ends, finished_behind, finishes, most_events}
+use Rattle.shared_chain.specs.Merging.{IsStepped, MergeStep, StopsFetch, StopsPut, as_answer, copied_behind, copies, ends, fetches, finished_behind, finishes, most_events}
+use Rattle.merge_core.specs.declared.piece.Piece.{Piece}
+use Rattle.guest_model.specs.History.{History}
+use Rattle.shared_chain.specs.Fetched.{IsFetched, WasFetched}
+use Rattle.shared_chain.specs.Stamped.{stamp_behind}
+use Rattle.shared_chain.proofs.Fetched.{changed_since, done_starts, starts_steps}
 use Rattle.shared_chain.proofs.Marked.{marked_has, marked_more}
-use Rattle.shared_chain.specs.Seats.{HasWorked, IsSwept, KeepsSeat, MergeBreaksAt, StopsTurn}
+use Rattle.copy_workers.specs.Sources.{HasFetched, IsHeld}
+use Rattle.shared_chain.specs.Seats.{ChangesAt, HasWorked, IsSwept, KeepsSeat, MergeBreaksAt, StopsTurn}
 use Rattle.shared_chain.specs.Shared.{Shared}
 use Rattle.shared_chain.specs.Steps.{broke_after, done_steps, first_breach, merge_breach, steps_of}
 use Rattle.turn_lock.specs.Histories.{StartsWith}
 use Rattle.turn_lock.specs.Seats.{HasTurn, Known, MayUnlock, Out, after_turn, with_refusal}
 use Rattle.turn_lock.specs.Steps.{places_after}
-use Rattle.turn_lock.proofs.Fronts.{starts-itself, starts-through}
+use Rattle.turn_lock.proofs.Fronts.{starts-itself, starts-length, starts-through}
 use Rattle.turn_lock.proofs.Using.{may_unlock-entry, may_unlock-same, turn_ended}
 
 -- no mark is taken back, nor that it was finished
@@ -43,6 +50,7 @@ still_marked (copies stripe) (Ok done) marks t m = go (nat_lt stripe marks.strip
         either false = m
     go false = m
 still_marked (copies stripe) (Err x) marks t m = m
+still_marked (fetches stripe) answer marks t m = m
 still_marked finishes answer marks t m = m
 still_marked ends answer marks t m = m
 
@@ -50,6 +58,22 @@ still_finished : (step : MergeStep) (answer : Result (Unit {0}) ChainRefusal) (f
 still_finished finishes (Ok done) finished e = refl
 still_finished finishes (Err x) finished e = e
 still_finished ends answer finished e = refl
+still_finished (fetches stripe) (Ok done) finished e = e
+still_finished (fetches stripe) (Err EmptyRange) finished e = e
+still_finished (fetches stripe) (Err (OutOfRange a b c)) finished e = e
+still_finished (fetches stripe) (Err (TooLong a b)) finished e = e
+still_finished (fetches stripe) (Err ReadOnly) finished e = e
+still_finished (fetches stripe) (Err (Broken file count)) finished e = e
+still_finished (fetches stripe) (Err (Spent t)) finished e = e
+still_finished (fetches stripe) (Err (FileFull next)) finished e = e
+still_finished (fetches stripe) (Err (ReadFault file count)) finished e = e
+still_finished (fetches stripe) (Err NoMerge) finished e = refl
+still_finished (fetches stripe) (Err (Stale taken now)) finished e = e
+still_finished (fetches stripe) (Err (NotYet s)) finished e = e
+still_finished (fetches stripe) (Err (Abandoned file count)) finished e = e
+still_finished (fetches stripe) (Err (NoStripe s n)) finished e = e
+still_finished (fetches stripe) (Err NoPiece) finished e = e
+still_finished (fetches stripe) (Err NoRoom) finished e = e
 still_finished (copies stripe) (Ok done) finished e = e
 still_finished (copies stripe) (Err EmptyRange) finished e = e
 still_finished (copies stripe) (Err (OutOfRange a b c)) finished e = e
@@ -216,47 +240,129 @@ module _ {S T : Type 0} where
 
   -- ---- a stripe
 
-  -- the stripe of a turn is copied, or what stopped that shows
-  pub has_swept : (disk : S → Disk) (stripe : ℕ) (answer : Result (Unit {0}) ChainRefusal) (before last : Known Step (Basis S T)) (old new : Shared (Chain S KeepAll T)) → IsStepped disk (copies stripe) old new answer → IfErr answer (StopsCopy disk stripe old new)
-      → Contains (basis_of disk old) before.basis → last.basis ≡ basis_of disk new → IsSwept stripe before last
-  has_swept disk stripe answer before last old new k stops knows is = subst (λ (b : Basis S T). IsSweptBy b) (sym is) (go answer refl)
+  -- what stopped a fetch of it shows, behind the turn
+  stops_turn : (disk : S → Disk) (stripe : ℕ) (step : MergeStep) (answer : Result (Unit {0}) ChainRefusal) (before last : Known Step (Basis S T)) (old new : Shared (Chain S KeepAll T)) → IsStepped disk step old new answer → finished_behind step (Err NoMerge) old.finished ≡ true
+      → Contains (basis_of disk old) before.basis → last.basis ≡ basis_of disk new → (x : ChainRefusal) → answer ≡ Err x → StopsFetch disk stripe old new x → StopsTurn stripe before last x
+  stops_turn disk stripe step answer before last old new k none knows is = go
     where
-      IsSweptBy : Basis S T → Type 0
-      IsSweptBy b = HasStripe stripe b.copied ⊎ (b.stripes ≤ stripe) ⊎ ((x : ChainRefusal) × StopsTurn stripe before (record last { basis = b }) x)
+      here : (P : Basis S T → Type 0) → P (basis_of disk new) → P last.basis
+      here P h = subst P (sym is) h
 
-      stopped : (x : ChainRefusal) → answer ≡ Err x → StopsCopy disk stripe old new x → StopsTurn stripe before (record last { basis = basis_of disk new }) x
-      stopped NoMerge e h = k.finished ∙ ap (λ r. finished_behind (copies stripe) r old.finished) e
-      stopped (NoStripe s n) e h = h.1
-      stopped (Spent t) e h = (h.0, inr h.1)
-      stopped (FileFull next) e h = h
-      stopped (ReadFault file count) e h = (h.0, λ was. h.1 (knows.notes (notes.ReadFailed file count) was))
-      stopped (Broken file count) e h = h
+      go : (x : ChainRefusal) → answer ≡ Err x → StopsFetch disk stripe old new x → StopsTurn stripe before last x
+      go NoMerge e h = here (λ b. b.finished ≡ true) (k.finished ∙ ap (λ r. finished_behind step r old.finished) e ∙ none)
+      go (NoStripe s n) e h = h.1
+      go (Spent t) e h = (h.0, inr (here (λ b. t ≤ b.events) h.1))
+      go (FileFull next) e h = absurd h
+      go (ReadFault file count) e h = (here (λ b. HasNote b.notes (notes.ReadFailed file count)) h.0, λ was. h.1 (knows.notes (notes.ReadFailed file count) was))
+      go (Broken file count) e h = here (λ b. HasNote b.notes (notes.ChangeFailed file count)) h
+      go EmptyRange e h = absurd h
+      go (OutOfRange a b c) e h = absurd h
+      go (TooLong a b) e h = absurd h
+      go ReadOnly e h = absurd h
+      go (Stale taken now) e h = absurd h
+      go (NotYet s) e h = absurd h
+      go (Abandoned file count) e h = absurd h
+      go NoPiece e h = absurd h
+      go NoRoom e h = absurd h
+
+  pub fetch_stops : (disk : S → Disk) (stripe : ℕ) (answer : Result (Unit {0}) ChainRefusal) (before last : Known Step (Basis S T)) (old new : Shared (Chain S KeepAll T)) → IsStepped disk (fetches stripe) old new answer → IfErr answer (StopsFetch disk stripe old new)
+      → Contains (basis_of disk old) before.basis → last.basis ≡ basis_of disk new → IfErr answer (StopsTurn stripe before last)
+  fetch_stops disk stripe answer before last old new k stops knows is = go answer refl
+    where
+      go : (r : Result (Unit {0}) ChainRefusal) → answer ≡ r → IfErr r (StopsTurn stripe before last)
+      go (Ok done) e = tt
+      go (Err x) e = stops_turn disk stripe (fetches stripe) answer before last old new k refl knows is x e (subst (λ r. IfErr r (StopsFetch disk stripe old new)) e stops)
+
+  -- what was fetched in a turn is a piece behind all that the seat has seen
+  pub has_fetched : (disk : S → Disk) (stripe : ℕ) (answer : Result (Unit {0}) ChainRefusal) (last : Known Step (Basis S T)) (new : Shared (Chain S KeepAll T)) (piece : Piece) → OnOk answer (new.broke ≡ None) → OnOk answer (piece.stripe ≡ stripe) → OnOk answer (IsFetched disk new.first new.chain.recorder piece)
+      → last.seen ≡ told_of new → last.basis ≡ basis_of disk new → OnOk answer (HasFetched disk last stripe piece)
+  has_fetched disk stripe (Err x) last new piece whole is_of fetched seen is = tt
+  has_fetched disk stripe (Ok done) last new piece whole is_of fetched seen is = λ filled.
+      let seen_is : last.seen ≡ done_steps new.chain.recorder = seen ∙ ap (λ b. steps_of new.chain.recorder b) whole ∙ append-nil (done_steps new.chain.recorder) in (
+        is_of,
+        subst (λ (b : Basis S T). IfSome b.first (λ first. IsHeld disk last first piece)) (sym is)
+            (record {
+              before = new.chain.recorder;
+              begins = subst (λ xs. StartsWith xs (done_steps new.chain.recorder)) (sym seen_is) (starts-itself (done_steps new.chain.recorder));
+              recent = λ some. ap length seen_is ∙ length-map new.chain.recorder (λ e. Done e);
+              fetched = fetched;
+            }),
+      )
+
+  pub has_filled : (disk : S → Disk) (answer : Result (Unit {0}) ChainRefusal) (first : Chain S KeepAll T) (h : History) (piece : Piece) → OnOk answer (IsFetched disk first h piece) → OnOk answer (piece.filled ≡ true)
+  has_filled disk (Ok done) first h piece fetched = fetched.filled
+  has_filled disk (Err x) first h piece fetched = tt
+
+  -- what was held when the turn began was fetched behind steps of the chain
+  pub was_fetched : (disk : S → Disk) (before : Known Step (Basis S T)) (old : Shared (Chain S KeepAll T)) (piece : Piece) → Contains (basis_of disk old) before.basis → StartsWith (told_of old) before.seen → IfSome before.basis.first (λ first. IsHeld disk before first piece)
+      → IsHeld disk before old.first piece × WasFetched disk (told_of old) old.first piece
+  was_fetched disk before old piece knows seen held =
+      let is = subst (λ o. IfSome o (λ first. IsHeld disk before first piece)) (sym knows.first) held in
+      (is, record { before = is.before; begins = starts-through (told_of old) before.seen (done_steps is.before) seen is.begins; fetched = is.fetched })
+
+  -- a stale piece shows that a call changed its stripe
+  stale_shows : (disk : S → Disk) (before last : Known Step (Basis S T)) (old new : Shared (Chain S KeepAll T)) (piece : Piece) (taken now : ℕ) → new.first ≡ old.first → new.chain.recorder ≡ old.chain.recorder → IsHeld disk before old.first piece → StartsWith (told_of old) before.seen → last.seen ≡ told_of new
+      → (taken ≡ piece.stamp) × (now ≡ stamp_behind new.first.layers.retiring new.chain.recorder piece.stripe) × (taken ≢ now) → ChangesAt last.seen piece.stripe now × (length before.seen < now)
+  stale_shows disk before last old new piece taken now first history held earlier seen h =
+      let begins : StartsWith old.chain.recorder held.before = done_starts old.chain.recorder held.before old.broke (starts-through (told_of old) before.seen (done_steps held.before) earlier held.begins) in
+      let now_is : now ≡ stamp_behind old.first.layers.retiring old.chain.recorder piece.stripe = h.1 ∙ ap₂ (λ (f : Chain S KeepAll T) (k : History). stamp_behind f.layers.retiring k piece.stripe) first history in
+      let since = changed_since disk old.first held.before old.chain.recorder piece now held.fetched begins now_is (λ same. h.2 (h.0 ∙ same)) in
+      let changed = since.1 in (
+        record {
+          before = changed.before;
+          call = changed.call;
+          begins = subst (λ xs. StartsWith xs (done_steps (changed.before ++ changed.call ∷ []))) (sym seen)
+              (starts_steps new.chain.recorder (changed.before ++ changed.call ∷ []) new.broke (subst (λ k. StartsWith k (changed.before ++ changed.call ∷ [])) (sym history) changed.begins));
+          place_is = changed.place_is;
+          touched = changed.touched;
+        },
+        (let size = held.recent since.0 in let later = changed.later in omega (arith, size, later)),
+      )
+
+  -- the stripe of a put is copied, or what stopped that shows
+  pub has_swept : (disk : S → Disk) (piece : Piece) (answer : Result (Unit {0}) ChainRefusal) (before last : Known Step (Basis S T)) (old new : Shared (Chain S KeepAll T)) → IsStepped disk (copies piece.stripe) old new answer → IfErr answer (StopsPut disk piece old new)
+      → Contains (basis_of disk old) before.basis → IsHeld disk before old.first piece → StartsWith (told_of old) before.seen → last.seen ≡ told_of new → last.basis ≡ basis_of disk new → IsSwept piece.stripe before last
+  has_swept disk piece answer before last old new k stops knows held earlier seen is = go answer refl
+    where
+      here : (P : Basis S T → Type 0) → P (basis_of disk new) → P last.basis
+      here P h = subst P (sym is) h
+
+      as_fetch : (x : ChainRefusal) → answer ≡ Err x → StopsFetch disk piece.stripe old new x → StopsTurn piece.stripe before last x
+      as_fetch = stops_turn disk piece.stripe (copies piece.stripe) answer before last old new k refl knows is
+
+      stopped : (x : ChainRefusal) → answer ≡ Err x → StopsPut disk piece old new x → StopsTurn piece.stripe before last x
+      stopped (FileFull next) e h = here (λ b. HasNote b.notes (notes.Full next)) h
+      stopped (Stale taken now) e h = stale_shows disk before last old new piece taken now k.first k.history held earlier seen h
+      stopped NoMerge e h = as_fetch NoMerge e h
+      stopped (NoStripe s n) e h = as_fetch (NoStripe s n) e h
+      stopped (Spent t) e h = as_fetch (Spent t) e h
+      stopped (ReadFault file count) e h = as_fetch (ReadFault file count) e h
+      stopped (Broken file count) e h = as_fetch (Broken file count) e h
       stopped EmptyRange e h = absurd h
       stopped (OutOfRange a b c) e h = absurd h
       stopped (TooLong a b) e h = absurd h
       stopped ReadOnly e h = absurd h
-      stopped (Stale taken now) e h = absurd h
       stopped (NotYet s) e h = absurd h
       stopped (Abandoned file count) e h = absurd h
       stopped NoPiece e h = absurd h
       stopped NoRoom e h = absurd h
 
-      by_place : (b : Bool) → nat_lt stripe new.copied.stripes ≡ b → answer ≡ Ok tt → IsSweptBy (basis_of disk new)
+      by_place : (b : Bool) → nat_lt piece.stripe new.copied.stripes ≡ b → answer ≡ Ok tt → IsSwept piece.stripe before last
       by_place true less e =
-          let low : stripe < new.copied.stripes = ltb-true stripe new.copied.stripes less in
-          let marked : marks_of new.copied stripe ≡ true = k.copied stripe ∙ ap (λ r. copied_behind (copies stripe) r old.copied stripe) e ∙ marked_now stripe old.copied (subst (λ n. stripe < n) k.stripes low) in
-          inl (marked_has (marks_of new.copied) new.copied.stripes stripe low marked)
-      by_place false past e = inr (inl (let high = ltb-false stripe new.copied.stripes past in omega (arith, high)))
+          let low : piece.stripe < new.copied.stripes = ltb-true piece.stripe new.copied.stripes less in
+          let marked : marks_of new.copied piece.stripe ≡ true = k.copied piece.stripe ∙ ap (λ r. copied_behind (copies piece.stripe) r old.copied piece.stripe) e ∙ marked_now piece.stripe old.copied (subst (λ n. piece.stripe < n) k.stripes low) in
+          inl (here (λ b. HasStripe piece.stripe b.copied) (marked_has (marks_of new.copied) new.copied.stripes piece.stripe low marked))
+      by_place false past e = inr (inl (here (λ b. b.stripes ≤ piece.stripe) (let high = ltb-false piece.stripe new.copied.stripes past in omega (arith, high))))
 
-      go : (r : Result (Unit {0}) ChainRefusal) → answer ≡ r → IsSweptBy (basis_of disk new)
-      go (Ok done) e = by_place (nat_lt stripe new.copied.stripes) refl e
-      go (Err x) e = inr (inr (x, stopped x e (subst (λ r. IfErr r (StopsCopy disk stripe old new)) e stops)))
+      go : (r : Result (Unit {0}) ChainRefusal) → answer ≡ r → IsSwept piece.stripe before last
+      go (Ok done) e = by_place (nat_lt piece.stripe new.copied.stripes) refl e
+      go (Err x) e = inr (inr (x, stopped x e (subst (λ r. IfErr r (StopsPut disk piece old new)) e stops)))
 
   -- so it stays whatever comes behind it
-  pub swept_later : (stripe : ℕ) (a b c d : Known Step (Basis S T)) → Contains b.basis a.basis → IsSwept stripe b c → KeepsSeat c d → IsSwept stripe a d
-  swept_later stripe a b c d knows (inl h) keeps = inl (keeps.basis.copied stripe h)
-  swept_later stripe a b c d knows (inr (inl h)) keeps = inr (inl (omega (arith, h, keeps.basis.stripes)))
-  swept_later stripe a b c d knows (inr (inr h)) keeps = inr (inr (h.0, go h.0 h.1))
+  pub swept_later : (stripe : ℕ) (a b c d : Known Step (Basis S T)) → Contains b.basis a.basis → length a.seen ≤ length b.seen → IsSwept stripe b c → KeepsSeat c d → IsSwept stripe a d
+  swept_later stripe a b c d knows grown (inl h) keeps = inl (keeps.basis.copied stripe h)
+  swept_later stripe a b c d knows grown (inr (inl h)) keeps = inr (inl (omega (arith, h, keeps.basis.stripes)))
+  swept_later stripe a b c d knows grown (inr (inr h)) keeps = inr (inr (h.0, go h.0 h.1))
     where
       go : (x : ChainRefusal) → StopsTurn stripe b c x → StopsTurn stripe a d x
       go NoMerge h = keeps.basis.finished h
@@ -273,7 +379,10 @@ module _ {S T : Type 0} where
       go (OutOfRange x y z) h = absurd h
       go (TooLong x y) h = absurd h
       go ReadOnly h = absurd h
-      go (Stale taken now) h = absurd h
+      go (Stale taken now) h = (
+        record { before = h.0.before; call = h.0.call; begins = starts-through d.seen c.seen (done_steps (h.0.before ++ h.0.call ∷ [])) keeps.seen h.0.begins; place_is = h.0.place_is; touched = h.0.touched },
+        (let later = h.1 in omega (arith, grown, later)),
+      )
       go (NotYet s) h = absurd h
       go (Abandoned file count) h = absurd h
       go NoPiece h = absurd h
@@ -295,6 +404,14 @@ module _ {S T : Type 0} where
     drawn = omega arith;
     own = λ p some. inl some;
   }
+
+  -- more turns at most
+  pub worked_most : (m n : ℕ) (a b : Known Step (Basis S T)) → m ≤ n → HasWorked m a b → HasWorked n a b
+  worked_most m n a b less w = record { keeps = w.keeps; drawn = (let few = w.drawn in omega (arith, few, less)); own = w.own }
+
+  -- what stands of a stripe behind turns stands behind turns before them too
+  pub swept_through : (stripe : ℕ) (a b c : Known Step (Basis S T)) → KeepsSeat a b → IsSwept stripe b c → c.turn ≡ None → IsSwept stripe a c
+  swept_through stripe a b c keeps swept free = swept_later stripe a b c c keeps.basis (starts-length b.seen a.seen keeps.seen) swept (none_worked c 0 free).keeps
 
   pub worked_twice : (m n : ℕ) (a b c : Known Step (Basis S T)) → HasWorked m a b → HasWorked n b c → HasWorked (m + n) a c
   worked_twice m n a b c one more = record {

@@ -1,6 +1,7 @@
 -- What a worker reads the source of a merge by, outside the chain.
-use Rattle.std.specs.Prelude.{◌≡◌, ◌<◌, ⊤, ℕ, true, Option, Some, None, List, length, nat_lt, slice_index_or, IfSome}
+use Rattle.std.specs.Prelude.{◌≡◌, ◌<◌, ⊤, ℕ, true, is_some, Option, Some, None, List, length, nat_lt, slice_index_or, IfSome}
 use Rattle.store_model.specs.Disk.{Disk, Sealed, WhereTold, reader_of}
+use Rattle.guest_model.specs.History.{History}
 use Rattle.guest_model.specs.declared.recorder.KeepAll.{KeepAll}
 use Rattle.chain_model.specs.Layers as chain
 use Rattle.chain_model.specs.Stripes.{stripe_count}
@@ -14,7 +15,11 @@ use Rattle.chain_core.specs.Sealed.{IsSealedSource}
 use Rattle.chain_core.specs.declared.chain.Chain.{Chain}
 use Rattle.chain_core.specs.declared.sealing.SealedSource.{SealedSource}
 use Rattle.shared_chain.specs.declared.basis.Basis.{Basis}
+use Rattle.shared_chain.specs.declared.basis.Step.{Step}
 use Rattle.shared_chain.specs.Fetched.{IsFetched}
+use Rattle.shared_chain.specs.Steps.{done_steps}
+use Rattle.turn_lock.specs.Histories.{StartsWith}
+use Rattle.turn_lock.specs.Seats.{Known}
 use Rattle.copy_workers.specs.Readings.{Reading}
 use Rattle.copy_workers.specs.declared.source.Source.{Source}
 
@@ -105,6 +110,13 @@ module _ {S T : Type 0} (disk : S → Disk) where
   abbrev pub HasSource : Basis S T → Reading → Type 0
   HasSource basis r = IfSome r.source (ReadsSource basis r.readers)
 
-  -- What was fetched of a stripe, if anything was, is a piece of it in the session of which a seat knows.
-  abbrev pub HasFetched : Basis S T → ℕ → Piece → Type 0
-  HasFetched basis stripe piece = piece.filled ≡ true → (piece.stripe ≡ stripe) × IfSome basis.first (λ first. IsFetched disk first piece)
+  -- A piece was fetched in the session that began with this chain, behind calls that a seat has seen: behind all of them, where the leaf is merged.
+  pub record IsHeld (seat : Known Step (Basis S T)) (first : Chain S KeepAll T) (piece : Piece) : Type 0 where
+    pub before : History
+    pub begins : StartsWith seat.seen (done_steps before)
+    pub recent : is_some first.layers.retiring ≡ true → length seat.seen ≡ length before
+    pub fetched : IsFetched disk first before piece
+
+  -- What was fetched of a stripe, if anything was, is such a piece of it in the session of which a seat knows.
+  abbrev pub HasFetched : Known Step (Basis S T) → ℕ → Piece → Type 0
+  HasFetched seat stripe piece = piece.filled ≡ true → (piece.stripe ≡ stripe) × IfSome seat.basis.first (λ first. IsHeld seat first piece)

@@ -1,16 +1,14 @@
 //! A worker of a merge.
 
-ghost use Rattle.std.specs.Prelude.{◌≡◌, ◌+◌, ◌<◌, All, IfErr, IfSome, OnOk, Some, true};
+ghost use Rattle.std.specs.Prelude.{◌≡◌, ◌+◌, ◌*◌, ◌<◌, All, IfErr, IfSome, OnOk, Some, true};
 ghost use Rattle.chain_core.specs.declared.chain.Chain.{Chain};
 ghost use Rattle.chain_core.specs.Sealed.{IsSealedSource};
 ghost use Rattle.copy_workers.specs.Sources.{HasFetched, HasSource, HaveFailed};
 ghost use Rattle.copy_workers.specs.Sweeps.{AreLeft, IsLeft};
 ghost use Rattle.guest_model.specs.declared.recorder.KeepAll.{KeepAll};
 ghost use Rattle.read_plan.specs.Reading.{ReaderFailed};
-ghost use Rattle.shared_chain.specs.Fetched.{IsFetched};
-ghost use Rattle.shared_chain.specs.Merging.{IsStepped, StopsCopy, copies};
 ghost use Rattle.shared_chain.specs.Planned.{IsReaderFor};
-ghost use Rattle.shared_chain.specs.Seats.{HasWorked, IsFree, IsSwept};
+ghost use Rattle.shared_chain.specs.Seats.{HasWorked, IsFree, IsSwept, StopsTurn};
 
 use crate::source::SourceReaders;
 use chain_core::SealedSource;
@@ -62,7 +60,7 @@ impl<S: Store> Worker<S> {
     fn fetch(&mut self, stripe: u32) -> Result<(), ReadFault>
         requires source { HasSource S.disk self.old.seat.basis self.old.reads }
         ensures source { HasSource S.disk self.new.seat.basis self.new.reads }
-        ensures fetched { OnOk result (HasFetched S.disk self.new.seat.basis stripe self.new.piece) }
+        ensures fetched { OnOk result (HasFetched S.disk self.new.seat stripe self.new.piece) }
         ensures stays { OnOk result (self.new.reads.readers ≡ self.old.reads.readers) }
         ensures err { IfErr result (ReaderFailed self.old.reads.readers self.new.reads.readers) }
         ensures only { self.new ≡ record self.old { piece = self.new.piece; reads = self.new.reads } }
@@ -71,26 +69,106 @@ impl<S: Store> Worker<S> {
         self.reads.fetch(stripe, &mut self.piece)
     }
 
-    // Copies a stripe, in a turn of its own: puts what was fetched of it, or fetches it there.
-    fn deliver<T: Wait>(
+    // Fetches a stripe from the chain, in a turn of its own.
+    fn fetch_live<T: Wait>(
         &mut self,
         rt: &T,
         lock: &TurnLock<SharedChain<S>>,
         stripe: u32,
     ) -> Result<(), ChainRefusal>
         requires own { IsFree lock.now self.old.seat }
-        requires fetched { HasFetched S.disk self.old.seat.basis stripe self.old.piece }
         ensures worked { HasWorked 1 self.old.seat self.new.seat }
-        ensures swept { IsSwept stripe self.old.seat self.new.seat }
+        ensures stopped { IfErr result (StopsTurn stripe self.old.seat self.new.seat) }
+        ensures filled { OnOk result (self.new.piece.filled ≡ true) }
+        ensures fetched { OnOk result (HasFetched S.disk self.new.seat stripe self.new.piece) }
         ensures only { self.new ≡ record self.old { seat = self.new.seat; piece = self.new.piece } }
     {
         let mut held = match lock.lock(rt, &mut self.seat) {
             Ok(held) => held,
             Err(spent) => return Err(ChainRefusal::Spent { t: spent.ticket }),
         };
-        let answer = copy_in_turn(held.value(), stripe, &mut self.piece);
+        let answer = held.value().fetch_stripe(stripe, &mut self.piece);
         lock.unlock(&mut self.seat, held);
         answer
+    }
+
+    // Puts what was fetched, in a turn of its own.
+    fn put<T: Wait>(&mut self, rt: &T, lock: &TurnLock<SharedChain<S>>) -> Result<(), ChainRefusal>
+        requires own { IsFree lock.now self.old.seat }
+        requires filled { self.old.piece.filled ≡ true }
+        requires fetched { HasFetched S.disk self.old.seat self.old.piece.stripe self.old.piece }
+        ensures worked { HasWorked 1 self.old.seat self.new.seat }
+        ensures swept { IsSwept self.old.piece.stripe self.old.seat self.new.seat }
+        ensures only { self.new ≡ record self.old { seat = self.new.seat; piece = self.new.piece } }
+    {
+        let mut held = match lock.lock(rt, &mut self.seat) {
+            Ok(held) => held,
+            Err(spent) => return Err(ChainRefusal::Spent { t: spent.ticket }),
+        };
+        let answer = held.value().put_stripe(&mut self.piece);
+        lock.unlock(&mut self.seat, held);
+        answer
+    }
+
+    // Fetches a stripe from the chain and puts it, each in a turn of its own: guests may have theirs between.
+    fn move_live<T: Wait, G: Gate>(
+        &mut self,
+        rt: &T,
+        lock: &TurnLock<SharedChain<S>>,
+        gate: &G,
+        stripe: u32,
+    ) -> Result<(), ChainRefusal>
+        requires own { IsFree lock.now self.old.seat }
+        ensures worked { HasWorked 2 self.old.seat self.new.seat }
+        ensures swept { IsSwept stripe self.old.seat self.new.seat }
+        ensures only { self.new ≡ record self.old { seat = self.new.seat; piece = self.new.piece } }
+    {
+        if let Err(refusal) = self.fetch_live(rt, lock, stripe) {
+            return Err(refusal);
+        }
+        gate.at(rt, 2);
+        self.put(rt, lock)
+    }
+
+    // Puts what was fetched of a stripe by a reader; where nothing was, it is fetched from the chain.
+    fn move_stripe<T: Wait, G: Gate>(
+        &mut self,
+        rt: &T,
+        lock: &TurnLock<SharedChain<S>>,
+        gate: &G,
+        stripe: u32,
+    ) -> Result<(), ChainRefusal>
+        requires own { IsFree lock.now self.old.seat }
+        requires fetched { HasFetched S.disk self.old.seat stripe self.old.piece }
+        ensures worked { HasWorked 2 self.old.seat self.new.seat }
+        ensures swept { IsSwept stripe self.old.seat self.new.seat }
+        ensures only { self.new ≡ record self.old { seat = self.new.seat; piece = self.new.piece } }
+    {
+        if !self.piece.is_filled() {
+            return self.move_live(rt, lock, gate, stripe);
+        }
+        gate.at(rt, 2);
+        self.put(rt, lock)
+    }
+
+    // Copies a stripe. Where a guest changed it between the fetch and the put, it is fetched and put once more; where one did again, it is left.
+    fn deliver<T: Wait, G: Gate>(
+        &mut self,
+        rt: &T,
+        lock: &TurnLock<SharedChain<S>>,
+        gate: &G,
+        stripe: u32,
+    ) -> Result<(), ChainRefusal>
+        requires own { IsFree lock.now self.old.seat }
+        requires fetched { HasFetched S.disk self.old.seat stripe self.old.piece }
+        ensures worked { HasWorked 4 self.old.seat self.new.seat }
+        ensures swept { IsSwept stripe self.old.seat self.new.seat }
+        ensures only { self.new ≡ record self.old { seat = self.new.seat; piece = self.new.piece } }
+    {
+        match self.move_stripe(rt, lock, gate, stripe) {
+            Err(ChainRefusal::Stale { .. }) => self.move_live(rt, lock, gate, stripe),
+            answer => answer,
+        }
     }
 
     // Fetches a stripe and copies it; one that can't be fetched is left, and counted.
@@ -106,16 +184,14 @@ impl<S: Store> Worker<S> {
         requires failed { HaveFailed self.old.reads self.old.unfetched }
         ensures source { HasSource S.disk self.new.seat.basis self.new.reads }
         ensures failed { HaveFailed self.new.reads self.new.unfetched }
-        ensures worked { HasWorked 1 self.old.seat self.new.seat }
+        ensures worked { HasWorked 4 self.old.seat self.new.seat }
         ensures left { IsLeft stripe self.old.seat self.new.seat self.new.unfetched }
         ensures counted { 0 < self.old.unfetched → 0 < self.new.unfetched }
         ensures claim { self.new.claim ≡ self.old.claim }
     {
-        let fetched = self.fetch(stripe);
-        gate.at(rt, 2);
-        match fetched {
+        match self.fetch(stripe) {
             Ok(()) => {
-                let _ = self.deliver(rt, lock, stripe);
+                let _ = self.deliver(rt, lock, gate, stripe);
             }
             Err(_) => self.unfetched = self.unfetched.saturating_add(1),
         }
@@ -140,10 +216,10 @@ impl<S: Store> Worker<S> {
         answer
     }
 
-    /// Claims stripes until none is left, and copies each once: by a reader it fetches it with no turn, and puts it in one; else it does both in one.
-    /// A stripe that is refused is left. Then it finishes the merge, and answers what that answered. It draws a ticket for each stripe that it
-    /// claims at most, and one to finish. Of each of these that the chain keeps in mind a turn has answered then that it was copied, or what
-    /// stopped that shows, or a reader failed.
+    /// Claims stripes until none is left, and copies each: by a reader it fetches it with no turn, and puts it in one; else it fetches it in a turn
+    /// too, and where a guest changed it before the put, once more. A stripe that is refused is left. Then it finishes the merge, and answers what
+    /// that answered. It draws four tickets for each stripe that it claims at most, and one to finish. Of each of these that the chain keeps in
+    /// mind a turn has answered then that it was copied, or what stopped that shows, or a reader failed.
     pub fn sweep<T: Wait, G: Gate>(
         &mut self,
         rt: &T,
@@ -155,7 +231,7 @@ impl<S: Store> Worker<S> {
         requires counter { self.old.claim.counter ≡ claims.now }
         requires source { HasSource S.disk self.old.seat.basis self.old.reads }
         requires failed { HaveFailed self.old.reads self.old.unfetched }
-        ensures worked { HasWorked (claims.now.limit + 1) self.old.seat self.new.seat }
+        ensures worked { HasWorked (4 * claims.now.limit + 1) self.old.seat self.new.seat }
         ensures left { AreLeft self.old.claim.numbers self.new.claim.numbers self.old.seat self.new.seat self.new.unfetched }
         ensures failed { HaveFailed self.new.reads self.new.unfetched }
         ensures closed { self.new.claim.is_closed ≡ true }
@@ -186,22 +262,5 @@ impl<S: Store> Worker<S> {
             unfetched,
         } = self;
         (seat, claim, reads.into_readers(), unfetched)
-    }
-}
-
-// Puts what was fetched of a stripe; where nothing was it is fetched here.
-fn copy_in_turn<S: Store>(
-    chain: &mut SharedChain<S>,
-    stripe: u32,
-    piece: &mut Piece,
-) -> Result<(), ChainRefusal>
-    requires fetched { piece.old.filled ≡ true → (piece.old.stripe ≡ stripe) × IsFetched S.disk chain.old.first piece.old }
-    ensures stepped { IsStepped S.disk (copies stripe) chain.old chain.new result }
-    ensures stopped { IfErr result (StopsCopy S.disk stripe chain.old chain.new) }
-{
-    if piece.is_filled() {
-        chain.put_stripe(piece)
-    } else {
-        chain.copy_stripe(stripe, piece)
     }
 }

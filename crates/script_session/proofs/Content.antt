@@ -72,7 +72,7 @@ module _ (number : ℕ) (call : Call) (old new : Session) where
 -- ---- steps of a merge
 
 -- where content isn't told
-fetch_untold : (stripe : ℕ) (answer : Result ℕ ChainRefusal) (old new : Session) (left : Piece) → old.disk.told ≡ None → AnswersFetch stripe answer old new left → new.disk.told ≡ None
+pub fetch_untold : (stripe : ℕ) (answer : Result ℕ ChainRefusal) (old new : Session) (left : Piece) → old.disk.told ≡ None → AnswersFetch stripe answer old new left → new.disk.told ≡ None
 fetch_untold stripe answer old new left none h = go (fetch_refused stripe old) refl
   where
     go : (o : Option ChainRefusal) → fetch_refused stripe old ≡ o → new.disk.told ≡ None

@@ -20,11 +20,11 @@ use Rattle.chain_core.specs.declared.layers.Layers.{Layers}
 use Rattle.chain_core.specs.States.{IsServing, LeavesOthers, State, dirty_now, disk_now, sector_of}
 use Rattle.script_session.specs.Histories.{Grows, IsEndTold, IsLater}
 use Rattle.script_session.specs.MergeSteps.{AnswersFetch, AnswersFinish, AnswersPut, AnswersTurn, IsUnchanged, fetched_and, not_fetched}
-use Rattle.script_session.specs.StepsLeft.{FinishesLeave, IsFullAt, IsLeft, PutsLeave, TurnsLeave}
+use Rattle.script_session.specs.StepsLeft.{FetchesLeave, FinishesLeave, IsFullAt, IsLeft, PutsLeave, TurnsLeave, unstamped}
 use Rattle.script_session.specs.Told.{Told}
 use Rattle.std.proofs.lemmas.Option.{same_Some}
 use Rattle.store_model.specs.Disk.{WhereBothTold}
-use Rattle.script_session.proofs.Content.{finish_untold, put_untold, turn_untold}
+use Rattle.script_session.proofs.Content.{fetch_untold, finish_untold, put_untold, turn_untold}
 use Rattle.script_session.proofs.LeftFiles.{later_itself, later_put}
 use Rattle.script_session.proofs.Lengths.{end_later, free_by, grows_none, grows_on, long_later, moments_grow}
 use Rattle.script_session.proofs.Moving.{ok_reached, parts_none}
@@ -267,6 +267,16 @@ module _ (v : State) (old : Session) (trace : Trace) (seen : old.disk.told ≡ S
     put_left (Ok done) h = put_ok h
     put_left (Err x) h = put_err x h
 
+-- ---- a fetch, alone
+
+fetch_leaves : (stripe : ℕ) (answer : Result ℕ ChainRefusal) (old new : Session) (piece : Piece) (v : State) (trace : Trace) → old.disk.told ≡ Some trace → old.broken ≡ None → IsServing old.layers v trace → AnswersFetch stripe answer old new piece → Leaves v (unstamped answer) new trace
+fetch_leaves stripe (Ok stamp) old new piece v trace seen whole serving h =
+    let f = fetch_ok v old trace seen whole serving stripe stamp new piece h in
+    record { now = f.now; seen = f.seen; is_left = stays_left v (Ok tt) new trace f.now f.grows f.whole f.serving tt }
+fetch_leaves stripe (Err x) old new piece v trace seen whole serving h =
+    let f = fetch_err v old trace seen whole serving stripe x new piece h in
+    record { now = f.now; seen = f.seen; is_left = stays_left v (Err x) new trace f.now f.grows f.whole f.serving f.free }
+
 -- ---- a turn of a copy
 
 -- what stands behind the second of two steps stands behind both
@@ -406,6 +416,12 @@ each_state answer old new None None h = tt
 each_state answer old new None (Some b) h = absurd h
 each_state answer old new (Some a) None h = absurd h
 each_state answer old new (Some a) (Some b) h = λ v serving. h v serving tt
+
+pub fetches_leave : FetchesLeave
+fetches_leave stripe answer old new piece whole h =
+    each_state (unstamped answer) old new old.disk.told new.disk.told
+    (where_both (λ v. ⊤) (unstamped answer) old new (λ none. fetch_untold stripe answer old new piece none h) (λ trace seen. fetch_tells stripe answer old new piece trace seen h)
+    (λ v trace seen serving any. fetch_leaves stripe answer old new piece v trace seen whole serving h))
 
 pub puts_leave : PutsLeave
 puts_leave piece answer old new whole h =

@@ -293,11 +293,16 @@ is_under_way (plain others) = false
 is_under_way (merging above source target below m) = true
 is_under_way (retiring target below first before) = true
 
--- what the source of a merge had when that began, which isn't the leaf
-abbrev pub source_began : Rest → Option SectorLayer
+-- the source of a merge: whether it is the leaf, and what it had when the merge began
+pub record MergeSource : Type 0 where
+  pub of_leaf : Bool
+  pub began : SectorLayer
+
+-- that of the merge under way
+abbrev pub source_began : Rest → Option MergeSource
 source_began (plain others) = None
-source_began (merging above source target below m) = Some m.first
-source_began (retiring target below first before) = None
+source_began (merging above source target below m) = Some (record { of_leaf = false; began = m.first })
+source_began (retiring target below first before) = Some (record { of_leaf = true; began = first })
 
 -- It goes on over the same leaf, with the same retired leaves behind its name, and may change the same files.
 pub record GoesOn (v later : State) : Type 0 where
@@ -332,7 +337,7 @@ pub record IsLater (v : State) (h : History) (later : State) : Type 0 where
   pub goes : GoesOn v later ⊎ HasRetired v later
   -- while the merge is under way the chain has the same files
   pub whole : is_under_way later.rest ≡ true → (is_under_way v.rest ≡ true) × (all_names later ≡ all_names v)
-  -- and a merge of another source than the leaf is the one that was
+  -- and the merge's source is the one that it was, with what it had when the merge began
   pub source : is_some (source_began later.rest) ≡ true → source_began later.rest ≡ source_began v.rest
 
 -- The session of a chain over this drive, with the state's history, which its recorder has if it tells it.

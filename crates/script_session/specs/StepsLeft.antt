@@ -1,5 +1,5 @@
 -- What a step of a merge leaves of a state that its session serves.
-use Rattle.std.specs.Prelude.{◌≡◌, ◌+◌, ◌^◌, ◌<◌, ℕ, Bool, false, None, Result, Err, Some, IfErr, IfSome}
+use Rattle.std.specs.Prelude.{◌≡◌, ◌+◌, ◌^◌, ◌<◌, ℕ, Bool, false, None, Result, Ok, Err, Some, IfErr, IfSome}
 use Rattle.store_model.specs.Disk.{WhereBothTold}
 use Rattle.store_model.specs.Trace.{Trace}
 use Rattle.guest_model.specs.declared.refusal.ChainRefusal.{ChainRefusal}
@@ -10,7 +10,7 @@ use Rattle.chain_core.specs.Merging.{IsTruePiece}
 use Rattle.chain_core.specs.Sessions.{Session}
 use Rattle.chain_core.specs.States.{IsServing, LeavesOthers, State, dirty_now, disk_now, sector_of}
 use Rattle.script_session.specs.Histories.{Grows, IsEndTold, IsLater, IsSoLong}
-use Rattle.script_session.specs.MergeSteps.{AnswersFinish, AnswersPut, AnswersTurn}
+use Rattle.script_session.specs.MergeSteps.{AnswersFetch, AnswersFinish, AnswersPut, AnswersTurn}
 
 -- a file that may be changed is so long, within 1,024 MB of the greatest place that a block may have
 abbrev pub IsFullAt : (ℕ → Bool) → Trace → ℕ → Type 0
@@ -35,6 +35,17 @@ abbrev pub TurnsLeave : Type 0
 TurnsLeave =
     (stripe : ℕ) (answer : Result (Unit {0}) ChainRefusal) (old new : Session) → old.broken ≡ None → AnswersTurn stripe answer old new
     → WhereBothTold (λ trace now. (v : State) → IsServing old.layers v trace → IsLeft v answer new trace now) old.disk.told new.disk.told
+
+-- what a fetch was answered, but for the stamp
+abbrev pub unstamped : Result ℕ ChainRefusal → Result (Unit {0}) ChainRefusal
+unstamped (Ok stamp) = Ok tt
+unstamped (Err x) = Err x
+
+-- So it is of a fetch.
+abbrev pub FetchesLeave : Type 0
+FetchesLeave =
+    (stripe : ℕ) (answer : Result ℕ ChainRefusal) (old new : Session) (piece : Piece) → old.broken ≡ None → AnswersFetch stripe answer old new piece
+    → WhereBothTold (λ trace now. (v : State) → IsServing old.layers v trace → IsLeft v (unstamped answer) new trace now) old.disk.told new.disk.told
 
 -- So it is of a put, for a state that the session serves of which the piece is true.
 abbrev pub PutsLeave : Type 0

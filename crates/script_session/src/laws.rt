@@ -2,7 +2,7 @@
 
 ghost use Rattle.script_session.specs.Faults.{LinesCountFaults};
 ghost use Rattle.script_session.specs.Histories.{LinesTellHistory};
-ghost use Rattle.script_session.specs.StepsLeft.{FinishesLeave, PutsLeave, TurnsLeave};
+ghost use Rattle.script_session.specs.StepsLeft.{FetchesLeave, FinishesLeave, PutsLeave, TurnsLeave};
 
 /// Lines that were answered one after the other were told the history's disk, each at its place; and behind them the session
 /// stands with that history.
@@ -19,6 +19,11 @@ pub fn lines_count_faults()
 /// A turn of a copy leaves a later state of what its session serves, with the same history; or it broke the session.
 pub fn turns_leave()
     ensures { TurnsLeave }
+{}
+
+/// So does a fetch.
+pub fn fetches_leave()
+    ensures { FetchesLeave }
 {}
 
 /// So does a put of a piece that is true.

@@ -8,7 +8,9 @@ mod lines;
 mod merge_steps;
 mod session;
 
-pub use laws::{finishes_leave, lines_count_faults, lines_tell_history, puts_leave, turns_leave};
+pub use laws::{
+    fetches_leave, finishes_leave, lines_count_faults, lines_tell_history, puts_leave, turns_leave,
+};
 pub use lines::{LinesRun, run_lines, sector_room};
-pub use merge_steps::{copy, finish, move_stripe, put};
+pub use merge_steps::{copy, fetch, finish, put};
 pub use session::{ScriptRun, run_leaf_merge, run_merge, run_script};

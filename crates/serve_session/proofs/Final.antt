@@ -126,8 +126,8 @@ module _ {S T : Type 0} (disk : S → Disk) where
 
   -- no turn was refused, and few events there were
   pub few_turns : (lock : TableId) (basis : Basis S T) (made a b j k : Known Step (Basis S T)) (splits others n m most events : ℕ) → made ≡ first_seat lock 0 basis → a ≡ with_splits made splits → b ≡ with_splits a others
-      → j.first_ticket ≡ b.first_ticket → j.drawn ≤ b.drawn + 2 ^ 20 * n → k.first_ticket ≡ j.first_ticket → k.drawn ≤ j.drawn + 2 ^ 32 * m → n ≡ min most 64 → m ≤ 64
-      → IfSome k.first_ticket (λ t. k.refusals ≡ t + k.drawn - 2 ^ 63) → IfSome k.first_ticket (λ t. events ≤ 2 * (t + k.drawn)) → (k.refusals ≡ 0) × (events ≤ 2 ^ 40)
+      → j.first_ticket ≡ b.first_ticket → j.drawn ≤ b.drawn + 2 ^ 20 * n → k.first_ticket ≡ j.first_ticket → k.drawn ≤ j.drawn + 2 ^ 34 * m → n ≡ min most 64 → m ≤ 64
+      → IfSome k.first_ticket (λ t. k.refusals ≡ t + k.drawn - 2 ^ 63) → IfSome k.first_ticket (λ t. events ≤ 2 * (t + k.drawn)) → (k.refusals ≡ 0) × (events ≤ 2 ^ 42)
   few_turns lock basis made a b j k splits others n m most events is a_is b_is j_first j_drawn k_first k_drawn guests workers refused worked =
       let first : k.first_ticket ≡ Some 0 =
       k_first ∙ j_first ∙ ap (λ (s : Known Step (Basis S T)). s.first_ticket) b_is ∙ ap (λ (s : Known Step (Basis S T)). s.first_ticket) a_is ∙ ap (λ (s : Known Step (Basis S T)). s.first_ticket) is in

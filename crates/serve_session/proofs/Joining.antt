@@ -74,7 +74,7 @@ module _ {S T : Type 0} where
       }
 
   -- and have none of their own once they took them but one that broke the session
-  pub all_done : (disk : S → Disk) (lock : TableId) (seat : Known Step (Basis S T)) (claims : Counter) (turns : ℕ) (old new : List (Worker S T)) → turns ≤ 2 ^ 32 → seat.lock ≡ lock → All (IsFreshWorker disk seat claims) old → WorksEach turns old new
+  pub all_done : (disk : S → Disk) (lock : TableId) (seat : Known Step (Basis S T)) (claims : Counter) (turns : ℕ) (old new : List (Worker S T)) → turns ≤ 2 ^ 34 → seat.lock ≡ lock → All (IsFreshWorker disk seat claims) old → WorksEach turns old new
       → All (HasDone lock) new
   all_done disk lock seat claims turns old new few of_lock fresh works i d within =
       let before : i < length old = omega (arith, within, works.count) in

@@ -78,11 +78,11 @@ module _ {S T : Type 0} where
     pub each : (i : ℕ) (d : Worker S T) → i < length old → HasWorked turns (slice_index_or old i d).seat (slice_index_or new i d).seat
     pub failed : (i : ℕ) (d : Worker S T) → i < length old → HaveFailed (slice_index_or new i d).reads (slice_index_or new i d).unfetched
 
-  -- it has ended its turns, and nothing is its own but where a step of the merge broke the session; it drew fewer than 2^33 tickets
+  -- it has ended its turns, and nothing is its own but where a step of the merge broke the session; it drew 2^34 tickets at most
   pub record HasDone (lock : TableId) (worker : Worker S T) : Type 0 where
     pub free : IsFree lock worker.seat
     pub owns : (p : ℕ) → 0 < times p worker.seat.mine → MergeBreaksAt worker.seat.seen p
-    pub drawn : worker.seat.drawn ≤ 2 ^ 32
+    pub drawn : worker.seat.drawn ≤ 2 ^ 34
     pub failed : HaveFailed worker.reads worker.unfetched
 
   -- what guests were told stands of a seat into which those of a merge's workers were joined

@@ -65,7 +65,7 @@ pub record WasShared {S T : Type 0} (disk : S → Disk) (merges : Bool) (old : S
   pub basis : Contains (basis_of disk new) seat.basis
   pub places : (p : ℕ) → times p seat.mine ≡ once_between p 1 (length seat.seen + 1)
   pub refusals : seat.refusals ≡ 0
-  pub few : new.chain.events ≤ 2 ^ 40
+  pub few : new.chain.events ≤ 2 ^ 42
 
 -- or memory ran out before a call was made
 pub data IsShared {S T : Type 0} (disk : S → Disk) (merges : Bool) (old : Shared (Chain S KeepAll T)) (names : List (List ℕ)) (lines : List Line) (new : Shared (Chain S KeepAll T)) (told : List (List ToldCall)) (short : Bool) (unread : ℕ) : Type 0 where

@@ -275,7 +275,7 @@ where
     requires workers { All (CanWork S.disk lock.now claims.now) workers.old }
     requires few { length lines.now ≤ 2 ^ 20 }
     ensures guests { RunsEach S.disk lock.now (map N.text names.now) lines.now actors.old actors.new }
-    ensures workers { WorksEach (claims.now.limit + 1) workers.old workers.new }
+    ensures workers { WorksEach (4 * claims.now.limit + 1) workers.old workers.new }
 {
     beside(
         rt,
@@ -308,7 +308,7 @@ fn end_workers<S: Store>(
     ensures free { IsFree lock.now first.new }
     ensures same { length workers.old.items ≡ 0 → first.new ≡ first.old }
     ensures first_ticket { first.new.first_ticket ≡ first.old.first_ticket }
-    ensures drawn { first.new.drawn ≤ first.old.drawn + 2 ^ 32 * length workers.old.items }
+    ensures drawn { first.new.drawn ≤ first.old.drawn + 2 ^ 34 * length workers.old.items }
     ensures none { workers.new.items ≡ [] }
 {
     let mut unfetched: u64 = 0;

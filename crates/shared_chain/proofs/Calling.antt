@@ -1,14 +1,12 @@
 -- All that a call of a shared chain leaves.
 use Rattle.std.proofs.Common.{Bool, List, ◌≡◌, ◌++◌, ◌∷◌, ℕ, [], Option, Some, None, Result, Ok, Err, refl, sym, ap, subst, ◌∙◌, arith}
 use Rattle.std.specs.Prelude.{IfSome, OnOk, is_some}
-use Rattle.store_model.specs.Disk.{Disk, WhereTold}
+use Rattle.store_model.specs.Disk.{Disk}
 use Rattle.guest_model.specs.declared.call.Call.{Call}
 use Rattle.guest_model.specs.declared.call.Caller.{Caller}
 use Rattle.guest_model.specs.declared.call.Entry.{Entry}
-use Rattle.guest_model.specs.declared.call.Reply.{Reply}
 use Rattle.guest_model.specs.declared.recorder.KeepAll.{KeepAll}
 use Rattle.guest_model.specs.declared.refusal.ChainRefusal.{ChainRefusal}
-use Rattle.guest_model.specs.Calls.{reply}
 use Rattle.guest_model.specs.History.{History}
 use Rattle.chain_core.specs.declared.chain.Chain.{Chain}
 use Rattle.chain_core.specs.Answering.{AnswersTold, HasRoom, IsNoted, Notes}
@@ -16,14 +14,14 @@ use Rattle.chain_core.specs.Copying.{MergeFollows}
 use Rattle.chain_core.specs.Refusing.{counted, misplaced, refused}
 use Rattle.script_session.proofs.Moving.{counted_high}
 use Rattle.chain_core.specs.Sessions.{IsSound, Session, leaf_number}
-use Rattle.chain_core.specs.States.{IsServing, State, disk_now, entry}
+use Rattle.chain_core.specs.States.{entry}
 use Rattle.layer_session.proofs.Equal.{ok_err, some_same}
 use Rattle.store_model.specs.declared.fault.StoreFault.{StoreFault}
 use Rattle.shared_chain.specs.declared.basis.Breach.{Breach}
 use Rattle.shared_chain.specs.Faults.{fault_after}
 use Rattle.shared_chain.specs.Steps.{breach_of, broke_after}
 use Rattle.script_session.specs.Answers.{HasCauseOf}
-use Rattle.shared_chain.specs.Answers.{Answered, IsBroke, IsCalled, IsCausedIn, IsEntered, RepliesBehind}
+use Rattle.shared_chain.specs.Answers.{Answered, IsBroke, IsCalled, IsCausedIn, IsEntered}
 use Rattle.merge_core.specs.Copied.{marks_of}
 use Rattle.merge_core.specs.declared.marks.Marks.{Marks}
 use Rattle.shared_chain.specs.Bases.{marked_below, notes_in}

@@ -1,5 +1,5 @@
 -- Behind a turn that was done the stripe has its mark.
-use Rattle.std.proofs.Common.{◌≡◌, ◌==◌, ◌||◌, ℕ, Bool, true, false, Option, Some, None, Result, Ok, Err, refl, sym, ap, subst, ◌∙◌}
+use Rattle.std.proofs.Common.{◌≡◌, ◌||◌, ℕ, Bool, true, false, Option, Some, None, Result, Ok, Err, refl, sym, ap, subst, ◌∙◌}
 use Rattle.std.specs.Prelude.{MatchOption, OnOk, if◌then◌else◌, is_some}
 use Rattle.std.proofs.lemmas.Bool.{eq-eqb}
 use Rattle.chain_model.specs.Merges.{with_mark}
@@ -8,7 +8,7 @@ use Rattle.guest_model.specs.declared.refusal.ChainRefusal.TheVariants.{NoMerge}
 use Rattle.merge_core.specs.Copied.{marks_of}
 use Rattle.merge_core.specs.declared.marks.Marks.{Marks}
 use Rattle.merge_core.specs.declared.piece.Piece.{Piece}
-use Rattle.chain_core.specs.Copying.{HasMarked, IfStopped, IsMarked, IsMarkedToo, MarksIn, MarksToo, no_merge, no_stripe, put_refused, stale, stamp_of, unfilled}
+use Rattle.chain_core.specs.Copying.{HasMarked, IfStopped, MarksIn, MarksToo, no_merge, no_stripe, put_refused, stale, stamp_of, unfilled}
 use Rattle.chain_core.specs.Refusing.{or_else, unfit}
 use Rattle.chain_core.specs.Sessions.{Session, has_merge, marks_in}
 use Rattle.chain_core.specs.declared.layers.Layers.{Layers}

@@ -15,10 +15,7 @@ use Rattle.guest_model.specs.Calls.{Disk as GuestDisk, reply}
 use Rattle.guest_model.specs.History.{History, replay}
 use Rattle.chain_core.specs.Answering.{HasBroken, IsDone, IsRefused, fault_of}
 use Rattle.chain_core.specs.Answering as chain
-use Rattle.chain_core.specs.Copying.{MergeFollows, Touches}
 use Rattle.chain_core.specs.Refusing.{counted, refused}
-use Rattle.chain_core.specs.declared.layers.Layers.{Layers}
-use Rattle.chain_core.specs.declared.layers.Retiring.{Retiring}
 use Rattle.chain_core.specs.Sessions.{IsSound, Session}
 use Rattle.vx_base.specs.declared.parts.Geometry.{Geometry}
 use Rattle.chain_core.specs.States.{IsNextPlace, IsServing, NextIn, Rest, State, dirty_now, disk_now, entry, merging, plain, retiring, sector_of, with_entry}
@@ -28,7 +25,7 @@ use Rattle.script_session.proofs.LeftFiles.{later_itself}
 use Rattle.script_session.proofs.Lengths.{moments_grow}
 use Rattle.shared_chain.specs.Answers.{Answered, IsEntered}
 use Rattle.shared_chain.specs.declared.basis.Breach.{Breach}
-use Rattle.shared_chain.specs.Faults.{AreCounted, fault_after}
+use Rattle.shared_chain.specs.Faults.{fault_after}
 use Rattle.shared_chain.specs.Homes.{ComesTo, Follows, HasStopped, IsHome}
 use Rattle.shared_chain.specs.Notes.{full_after}
 use Rattle.shared_chain.specs.Steps.{breach_of, broke_after, first_breach}
@@ -38,6 +35,7 @@ use Rattle.shared_chain.proofs.Filling.{far, long_after, second_told}
 use Rattle.shared_chain.proofs.Later.{later_entry, later_through}
 use Rattle.shared_chain.proofs.Reaching.{IsReached, reached}
 use Rattle.shared_chain.proofs.Refusals.{early, not_early}
+use Rattle.shared_chain.proofs.Stamped.{stamps_begin, stamps_call}
 
 -- ---- small steps
 
@@ -66,7 +64,7 @@ begins s sound whole = record {
   sound = sound;
   geometry = refl;
   session = refl;
-  retiring = λ none. none;
+  stamps = stamps_begin s.layers;
   breaks = sym (ap (λ (o : Option StoreFault). is_some o) whole);
   counted = fresh_counted s None whole tt;
   follows = go s.disk.told;
@@ -157,7 +155,7 @@ home_counted first s h full broke fault n home sound = record {
   sound = sound;
   geometry = home.geometry;
   session = home.session;
-  retiring = home.retiring;
+  stamps = home.stamps;
   breaks = home.breaks;
   counted = home.counted;
   follows = go first.disk.told s.disk.told home.follows;
@@ -203,16 +201,6 @@ broke_with old new broke b answer none = go answer
 pub told_last : (broken fault : Option StoreFault) (P : StoreFault → Type 0) → IfSome broken (λ f. (fault ≡ Some f) × P f) → (f : StoreFault) → broken ≡ Some f → fault ≡ Some f
 told_last broken fault P h f is = (subst (λ o. IfSome o (λ f. (fault ≡ Some f) × P f)) is h).0
 
--- a call doesn't begin a merge of the leaf
-touched_none : (z : ℕ) (call : Call) (place : ℕ) (r q : Option Retiring) → Touches z call place r q → r ≡ None → q ≡ None
-touched_none z call place None None h none = refl
-touched_none z call place None (Some q) h none = absurd h
-touched_none z call place (Some r) q h none = absurd (some_none none)
-
-follows_alone : (call : Call) (old new : Layers) (answer : Result ℕ ChainRefusal) → MergeFollows call old new answer → old.retiring ≡ None → new.retiring ≡ None
-follows_alone call old new (Ok place) h none = touched_none old.geometry.sector call place old.retiring new.retiring h.1 none
-follows_alone call old new (Err refusal) h none = h.1 ∙ none
-
 module _ (first old new : Session) (h h' : History) (full : Option ℕ) (broke : Option Breach) (fault : Option StoreFault) (who : Caller) (call : Call) (answer : Result ℕ ChainRefusal) (home : IsHome first old h full broke fault) (a : Answered who call old new answer)
     (many : old.noted ≡ length h) (entered : IsEntered (entry who call) h h' answer) where
   abbrev After : Result ℕ ChainRefusal → Session → History → Type 0
@@ -243,7 +231,7 @@ module _ (first old new : Session) (h h' : History) (full : Option ℕ) (broke :
             sound = a.sound;
             geometry = a.geometry ∙ home.geometry;
             session = a.session ∙ home.session;
-            retiring = λ none. follows_alone call old.layers new.layers answer a.merge (home.retiring none);
+            stamps = stamps_call first.layers old.layers new.layers h h' (entry who call) home.sound.sector answer entered a.merge home.stamps;
             breaks = broke_with old new broke (breach_of who call) answer none is_reached;
             counted = counted_after call first.disk old new fault answer home.sound is a.cause home.counted;
             follows = both_join _ _ _ first.disk.told old.disk.told new.disk.told

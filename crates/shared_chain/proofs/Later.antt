@@ -1,15 +1,9 @@
 -- States that a session comes to, one after the other.
-use Rattle.std.proofs.Common.{◌≡◌, ◌++◌, ◌∷◌, ℕ, Bool, true, false, [], Option, Some, None, inl, refl, sym, ap₂, ◌∙◌}
-use Rattle.std.specs.Prelude.{◌||◌, is_some}
-use Rattle.store_model.specs.Trace.{Trace}
+use Rattle.std.proofs.Common.{◌≡◌, ◌++◌, ◌∷◌, ℕ, Bool, true, false, [], inl, refl, sym, ◌∙◌}
 use Rattle.guest_model.specs.declared.call.Entry.{Entry}
 use Rattle.guest_model.specs.History.{History}
-use Rattle.chain_core.specs.Sessions.{has_merge}
-use Rattle.chain_core.specs.declared.layers.Layers.{Layers}
-use Rattle.chain_core.specs.declared.layers.Retiring.{Retiring}
-use Rattle.chain_core.specs.declared.layers.Underway.{Underway}
-use Rattle.chain_core.specs.States.{IsCourse, IsRetiring, IsServing, Rest, State, merging, plain, retiring, sector_of, with_entry}
-use Rattle.script_session.specs.Histories.{IsLater, is_under_way}
+use Rattle.chain_core.specs.States.{State, with_entry}
+use Rattle.script_session.specs.Histories.{IsLater}
 use Rattle.script_session.proofs.LeftFiles.{later_itself, later_same, later_writes}
 use Rattle.script_session.proofs.Telling.{names_entry, numbers_entry}
 

@@ -7,6 +7,7 @@ mod Filling
 mod Homing
 mod Stepping
 mod Merged
+mod Unmoved
 mod Rest
 mod Copied
 mod Planning
@@ -15,4 +16,5 @@ mod Ended
 pub mod Breaking
 mod Counting
 pub mod Marked
-mod Fetched
+pub mod Stamped
+pub mod Fetched

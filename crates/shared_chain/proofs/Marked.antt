@@ -1,5 +1,5 @@
 -- Lists of stripes that have marks.
-use Rattle.std.proofs.Common.{◌≡◌, ◌<◌, ◌==◌, ◌∷◌, ℕ, zero, suc, Bool, true, false, List, inl, inr, refl, sym, ap, subst, ◌∙◌, arith, eqb-true}
+use Rattle.std.proofs.Common.{◌≡◌, ◌<◌, ◌==◌, ◌∷◌, ℕ, zero, suc, Bool, true, false, inl, inr, refl, sym, subst, ◌∙◌, arith, eqb-true}
 use Rattle.std.specs.Prelude.{if◌then◌else◌}
 use Rattle.std.proofs.lemmas.Bool.{eqb-false}
 use Rattle.layer_session.proofs.Equal.{true_false}

@@ -1,9 +1,8 @@
 -- What is missing of a merge is copied, and it is finished.
-use Rattle.std.proofs.Common.{◌≡◌, ◌≢◌, ◌+◌, ◌<◌, ◌≤◌, ◌^◌, ◌⊎◌, ℕ, Bool, true, false, [], Option, Some, None, Result, Ok, Err, inl, inr, refl, sym, ap, ap₂, subst, ◌∙◌, ◌*◌, ◌==◌, arith, ltb-false, ltb-true}
+use Rattle.std.proofs.Common.{◌≡◌, ◌≢◌, ◌+◌, ◌<◌, ◌≤◌, ◌^◌, ◌⊎◌, ℕ, Bool, true, false, [], Option, Some, None, Result, Ok, Err, inl, refl, sym, ap, ap₂, subst, ◌∙◌, ◌*◌, ◌==◌, arith, ltb-false, ltb-true}
 use Rattle.std.specs.Prelude.{⊤, ◌||◌, IfErr, IfSome, OnOk, if◌then◌else◌, is_some, nat_lt}
 use Rattle.std.proofs.lemmas.Bool.{eqb-false, lt-ltb}
-use Rattle.store_model.specs.Disk.{Disk, WhereBothTold, WhereTold}
-use Rattle.store_model.specs.Trace.{Trace}
+use Rattle.store_model.specs.Disk.{Disk, WhereTold}
 use Rattle.store_model.specs.declared.fault.StoreFault.{StoreFault}
 use Rattle.guest_model.specs.declared.recorder.KeepAll.{KeepAll}
 use Rattle.guest_model.specs.declared.refusal.ChainRefusal.{ChainRefusal}
@@ -28,51 +27,47 @@ use Rattle.chain_core.specs.Sessions.{HasNoMerge, IsSound, KeepsMerge, Session, 
 use Rattle.chain_core.specs.States.{IsServing, State}
 use Rattle.layer_session.proofs.Equal.{none_some, ok_err, some_none, some_same, true_false}
 use Rattle.script_session.specs.MergeSteps.{AnswersCopy, AnswersFetch, AnswersFinish, AnswersPut, AnswersTurn, AnswersTurns, EndsCopy, IsNext, IsUnchanged, KeepsHistory, all_moved, fetched_and, no_turn, not_fetched, one_more, one_refused}
-use Rattle.script_session.specs.StepsLeft.{IsFullAt, IsLeft}
+use Rattle.script_session.specs.StepsLeft.{IsFullAt}
 use Rattle.script_session.proofs.Copying.{never_stale}
 use Rattle.script_session.proofs.Moving.{ok_reached, parts_none}
 use Rattle.script_session.proofs.Room.{each_stripe}
 use Rattle.script_session.proofs.Telling.{both_told}
 use Rattle.script_session.proofs.Turns.{sound_of, turn_events}
 use Rattle.shared_chain.specs.declared.basis.Breach.{Breach}
-use Rattle.shared_chain.specs.declared.basis.Note.{Note}
 use Rattle.shared_chain.specs.declared.basis.Note.TheVariants as notes
 use Rattle.shared_chain.specs.Bases.{notes_in, notes_of}
 use Rattle.shared_chain.specs.Ends.{EndsMerge, copy_stopped, finish_done, finish_stopped, none_found, none_left}
 use Rattle.shared_chain.specs.Faults.{fault_after}
 use Rattle.shared_chain.specs.Homes.{Follows, IsHome, session_of}
-use Rattle.shared_chain.specs.Merging.{IsMerged, IsStepped, MergeStep, StopsCopy, StopsEnd, as_answer, copied_behind, ends, finished_behind, most_events}
+use Rattle.shared_chain.specs.Merging.{IsMerged, IsStepped, MergeStep, StopsEnd, as_answer, copied_behind, ends, finished_behind, most_events}
 use Rattle.shared_chain.specs.Notes.{HasNote, NotesBy, full_after, noted_in}
 use Rattle.shared_chain.specs.Shared.{Shared}
 use Rattle.shared_chain.specs.Steps.{broke_after, merge_breach}
-use Rattle.shared_chain.proofs.Breaking.{none_broke}
-use Rattle.shared_chain.proofs.Causing.{at_end, noted_reads}
-use Rattle.shared_chain.proofs.Filling.{second_told}
 use Rattle.shared_chain.proofs.Noting.{IsChange, Stays, noted}
 use Rattle.shared_chain.proofs.Stepping.{IsAptFrom, IsQuiet, StepOf, finish_quiet, finish_step, home_quiet, home_step, keeps_both, quiet_change, same_err, step_change, turn_step}
 
 -- ---- what one or more steps carry on
 
-pub record Carries (first old new : Session) (answer : Result (Unit {0}) ChainRefusal) : Type 0 where
+pub record Carries (h : History) (first old new : Session) (answer : Result (Unit {0}) ChainRefusal) : Type 0 where
   pub keeps : KeepsHistory old new
   pub later : old.events ≤ new.events
   pub change : IsChange (as_answer answer) old.disk new.disk old.broken new.broken
-  pub home : (h : History) (full : Option ℕ) (broke : Option Breach) (fault : Option StoreFault) → IsHome first old h full broke fault
+  pub home : (full : Option ℕ) (broke : Option Breach) (fault : Option StoreFault) → IsHome first old h full broke fault
       → IsHome first new h (full_after full (as_answer answer)) (broke_after broke merge_breach (as_answer answer)) (fault_after fault (as_answer answer))
 
-pub carries_apt : (Apt : State → Type 0) (first old new : Session) (answer : Result (Unit {0}) ChainRefusal) → IsSound new → StepOf Apt old new answer → ((h : History) → IsAptFrom Apt first h) → Carries first old new answer
-carries_apt Apt first old new answer sound s apt = record {
+pub carries_apt : (h : History) (Apt : State → Type 0) (first old new : Session) (answer : Result (Unit {0}) ChainRefusal) → IsSound new → StepOf Apt old new answer → IsAptFrom Apt first h → Carries h first old new answer
+carries_apt h Apt first old new answer sound s apt = record {
   keeps = s.keeps;
   later = s.later;
   change = step_change old new answer s;
-  home = λ h full broke fault home. home_step first old new h full broke fault answer sound s (apt h) home;
+  home = λ full broke fault home. home_step first old new h full broke fault answer sound s apt home;
 }
 
-pub carries_step : (first old new : Session) (answer : Result (Unit {0}) ChainRefusal) → IsSound new → StepOf (λ v. ⊤) old new answer → Carries first old new answer
-carries_step first old new answer sound s = carries_apt (λ v. ⊤) first old new answer sound s (λ h t told from to serving empty comes. tt)
+pub carries_step : (h : History) (first old new : Session) (answer : Result (Unit {0}) ChainRefusal) → IsSound new → StepOf (λ v. ⊤) old new answer → Carries h first old new answer
+carries_step h first old new answer sound s = carries_apt h (λ v. ⊤) first old new answer sound s (λ t told from to serving empty comes. tt)
 
-carries_none : (first old : Session) → Carries first old old (Ok tt)
-carries_none first old = record { keeps = record { noted = refl; told = refl; geometry = refl; session = refl }; later = omega arith; change = (refl, refl, refl); home = λ h full broke fault home. home }
+carries_none : (h : History) (first old : Session) → Carries h first old old (Ok tt)
+carries_none h first old = record { keeps = record { noted = refl; told = refl; geometry = refl; session = refl }; later = omega arith; change = (refl, refl, refl); home = λ full broke fault home. home }
 
 change_behind : (a b c : Disk) (x y z : Option StoreFault) (answer : Result ℕ ChainRefusal) → Stays a b x y → IsChange answer b c y z → IsChange answer a c x z
 change_behind a b c x y z answer s = go answer
@@ -103,59 +98,59 @@ change_behind a b c x y z answer s = go answer
     go (Err NoPiece) t = stays t
     go (Err NoRoom) t = stays t
 
-carries_then : (first old mid new : Session) (answer : Result (Unit {0}) ChainRefusal) → Carries first old mid (Ok tt) → Carries first mid new answer → Carries first old new answer
-carries_then first old mid new answer a b = record {
+carries_then : (h : History) (first old mid new : Session) (answer : Result (Unit {0}) ChainRefusal) → Carries h first old mid (Ok tt) → Carries h first mid new answer → Carries h first old new answer
+carries_then h first old mid new answer a b = record {
   keeps = keeps_both old mid new a.keeps b.keeps;
   later = omega (arith, a.later, b.later);
   change = change_behind old.disk mid.disk new.disk old.broken mid.broken new.broken (as_answer answer) a.change b.change;
-  home = λ h full broke fault home. b.home h full broke fault (a.home h full broke fault home);
+  home = λ full broke fault home. b.home full broke fault (a.home full broke fault home);
 }
 
-carries_turns : (first old : Session) (slot : Piece) (new : Session) (left : Piece) → AnswersTurns old slot new left → IsSound new → Carries first old new (Ok tt)
-carries_turns first old slot _ _ no_turn sound = carries_none first old
-carries_turns first old slot new left (one_more stripe mid _ held _ turns next turn empty) sound =
-    carries_then first old mid new (Ok tt) (carries_turns first old slot mid held turns (sound_of stripe (Ok tt) mid new turn)) (carries_step first mid new (Ok tt) sound (turn_step stripe (Ok tt) mid new turn))
+carries_turns : (h : History) (first old : Session) (slot : Piece) (new : Session) (left : Piece) → AnswersTurns old slot new left → IsSound new → Carries h first old new (Ok tt)
+carries_turns h first old slot _ _ no_turn sound = carries_none h first old
+carries_turns h first old slot new left (one_more stripe mid _ held _ turns next turn empty) sound =
+    carries_then h first old mid new (Ok tt) (carries_turns h first old slot mid held turns (sound_of stripe (Ok tt) mid new turn)) (carries_step h first mid new (Ok tt) sound (turn_step stripe (Ok tt) mid new turn))
 
-ends_carry : (first old : Session) (slot : Piece) (answer : Result (Unit {0}) ChainRefusal) (new : Session) (left : Piece) → EndsCopy old slot answer new left → IsSound new → Carries first old new answer
-ends_carry first old slot _ _ _ (all_moved new left turns sound missing) s = carries_turns first old slot new left turns sound
-ends_carry first old slot _ new left (one_refused e stripe mid _ held _ turns next turn empty) sound =
-    carries_then first old mid new (Err e) (carries_turns first old slot mid held turns (sound_of stripe (Err e) mid new turn)) (carries_step first mid new (Err e) sound (turn_step stripe (Err e) mid new turn))
+ends_carry : (h : History) (first old : Session) (slot : Piece) (answer : Result (Unit {0}) ChainRefusal) (new : Session) (left : Piece) → EndsCopy old slot answer new left → IsSound new → Carries h first old new answer
+ends_carry h first old slot _ _ _ (all_moved new left turns sound missing) s = carries_turns h first old slot new left turns sound
+ends_carry h first old slot _ new left (one_refused e stripe mid _ held _ turns next turn empty) sound =
+    carries_then h first old mid new (Err e) (carries_turns h first old slot mid held turns (sound_of stripe (Err e) mid new turn)) (carries_step h first mid new (Err e) sound (turn_step stripe (Err e) mid new turn))
 
 unchanged_self : (s : Session) → IsUnchanged s s
 unchanged_self s = refl
 
-copy_carries : (first old : Session) (slot : Piece) (answer : Result (Unit {0}) ChainRefusal) (new : Session) (left : Piece) → AnswersCopy answer old slot new left → IsSound new → Carries first old new answer
-copy_carries first old slot answer new left h sound = go (merge_refused old) refl
+copy_carries : (h : History) (first old : Session) (slot : Piece) (answer : Result (Unit {0}) ChainRefusal) (new : Session) (left : Piece) → AnswersCopy answer old slot new left → IsSound new → Carries h first old new answer
+copy_carries h first old slot answer new left a sound = go (merge_refused old) refl
   where
-    go : (o : Option ChainRefusal) → merge_refused old ≡ o → Carries first old new answer
-    go None is = ends_carry first old slot answer new left (h.turns is) sound
+    go : (o : Option ChainRefusal) → merge_refused old ≡ o → Carries h first old new answer
+    go None is = ends_carry h first old slot answer new left (a.turns is) sound
     go (Some e) is =
-        let early = subst (λ o. IfStopped {T = Unit {0}} o answer ((new ≡ old) × (left ≡ slot))) is h.early in
+        let early = subst (λ o. IfStopped {T = Unit {0}} o answer ((new ≡ old) × (left ≡ slot))) is a.early in
         let q = finish_quiet old e is in
-        subst (Carries first old new) (sym early.0)
-        (subst (λ s. Carries first old s (Err e)) (sym early.1.0)
+        subst (Carries h first old new) (sym early.0)
+        (subst (λ s. Carries h first old s (Err e)) (sym early.1.0)
         (record {
           keeps = record { noted = refl; told = refl; geometry = refl; session = refl };
           later = omega arith;
           change = quiet_change old.disk old.disk old.broken old.broken e refl refl q;
-          home = λ k full broke fault home. home_quiet first old old k full broke fault home home.sound (unchanged_self old) e q;
+          home = λ full broke fault home. home_quiet first old old h full broke fault home home.sound (unchanged_self old) e q;
         }))
 
-pub end_carries : (first old : Session) (slot : Piece) (new : Session) (answer : Result (Unit {0}) ChainRefusal) → EndsMerge old slot new answer → IsSound new → Carries first old new answer
-end_carries first old slot new _ (none_found left h) sound =
-    let c = copy_carries first old slot (Err NoMerge) new left h sound in record { keeps = c.keeps; later = c.later; change = c.change; home = c.home }
-end_carries first old slot new _ (none_left mid left s h f) sound =
-    let c = carries_then first old mid new (Err NoMerge) (copy_carries first old slot (Ok tt) mid left h s) (carries_step first mid new (Err NoMerge) sound (finish_step (Err NoMerge) mid new f)) in
+pub end_carries : (h : History) (first old : Session) (slot : Piece) (new : Session) (answer : Result (Unit {0}) ChainRefusal) → EndsMerge old slot new answer → IsSound new → Carries h first old new answer
+end_carries h first old slot new _ (none_found left a) sound =
+    let c = copy_carries h first old slot (Err NoMerge) new left a sound in record { keeps = c.keeps; later = c.later; change = c.change; home = c.home }
+end_carries h first old slot new _ (none_left mid left s a f) sound =
+    let c = carries_then h first old mid new (Err NoMerge) (copy_carries h first old slot (Ok tt) mid left a s) (carries_step h first mid new (Err NoMerge) sound (finish_step (Err NoMerge) mid new f)) in
     record { keeps = c.keeps; later = c.later; change = c.change; home = c.home }
-end_carries first old slot new _ (copy_stopped left x other h) sound = copy_carries first old slot (Err x) new left h sound
-end_carries first old slot new _ (finish_done mid left s h f) sound = carries_then first old mid new (Ok tt) (copy_carries first old slot (Ok tt) mid left h s) (carries_step first mid new (Ok tt) sound (finish_step (Ok tt) mid new f))
-end_carries first old slot new _ (finish_stopped mid left x other s h f) sound =
-    carries_then first old mid new (Err x) (copy_carries first old slot (Ok tt) mid left h s) (carries_step first mid new (Err x) sound (finish_step (Err x) mid new f))
+end_carries h first old slot new _ (copy_stopped left x other a) sound = copy_carries h first old slot (Err x) new left a sound
+end_carries h first old slot new _ (finish_done mid left s a f) sound = carries_then h first old mid new (Ok tt) (copy_carries h first old slot (Ok tt) mid left a s) (carries_step h first mid new (Ok tt) sound (finish_step (Ok tt) mid new f))
+end_carries h first old slot new _ (finish_stopped mid left x other s a f) sound =
+    carries_then h first old mid new (Err x) (copy_carries h first old slot (Ok tt) mid left a s) (carries_step h first mid new (Err x) sound (finish_step (Err x) mid new f))
 
 -- ---- what a step leaves of the shared chain
 
 module _ {S T : Type 0} (disk : S → Disk) (old new first : Chain S KeepAll T) (answer : Result (Unit {0}) ChainRefusal) (full full' : Option ℕ) (broke broke' : Option Breach) (fault fault' : Option StoreFault) (copied copied' : Marks) (finished finished' : Bool) (full_is : full' ≡ full_after full (as_answer answer))
-    (broke_is : broke' ≡ broke_after broke merge_breach (as_answer answer)) (fault_is : fault' ≡ fault_after fault (as_answer answer)) (c : Carries (session_of disk first) (session_of disk old) (session_of disk new) answer) where
+    (broke_is : broke' ≡ broke_after broke merge_breach (as_answer answer)) (fault_is : fault' ≡ fault_after fault (as_answer answer)) (c : Carries old.recorder (session_of disk first) (session_of disk old) (session_of disk new) answer) where
   abbrev was : Shared (Chain S KeepAll T)
   was = record { chain = old; first = first; full = full; broke = broke; fault = fault; copied = copied; finished = finished }
 
@@ -193,11 +188,11 @@ module _ {S T : Type 0} (disk : S → Disk) (old new first : Chain S KeepAll T) 
       (subst (λ f. IsHome (session_of disk first) (session_of disk new) old.recorder full' broke' f) (sym fault_is)
       (subst (λ b. IsHome (session_of disk first) (session_of disk new) old.recorder full' b (fault_after fault (as_answer answer))) (sym broke_is)
       (subst (λ n. IsHome (session_of disk first) (session_of disk new) old.recorder n (broke_after broke merge_breach (as_answer answer)) (fault_after fault (as_answer answer))) (sym full_is)
-      (c.home old.recorder full broke fault home))))
+      (c.home full broke fault home))))
 
 -- ---- none is under way
 
-has_none : (layers : Layers) → no_merge layers ≡ Some NoMerge → HasNoMerge layers
+pub has_none : (layers : Layers) → no_merge layers ≡ Some NoMerge → HasNoMerge layers
 has_none layers = go layers.merge layers.retiring
   where
     go : (o : Option Underway) (r : Option Retiring) → ◌≡◌ {A = Option ChainRefusal} (if is_some o || is_some r then None else Some NoMerge) (Some NoMerge) → (o ≡ None) × (r ≡ None)
@@ -274,6 +269,15 @@ early_ends s new later x grown still none is = go s.broken refl
         unfit_ends s.events s.broken new x grown still
         (ap (unfit s.events) broken ∙ unfit_first s.events f later x (ap (λ o. or_else (unfit s.events o) later) (sym broken) ∙ is))
 
+-- where it is none the session isn't broken
+pub whole_by : (events : ℕ) (broken : Option StoreFault) → unfit events broken ≡ None → broken ≡ None
+whole_by events broken = go (nat_lt events (2 ^ 63)) broken
+  where
+    go : (b : Bool) (o : Option StoreFault) → (if b then broken_by o else Some (Spent events)) ≡ None → o ≡ None
+    go false o is = absurd (some_none is)
+    go true None is = refl
+    go true (Some f) is = absurd (some_none is)
+
 -- or there is no merge
 other_ends : (s new : Session) (x : ChainRefusal) → x ≢ NoMerge → s.events ≤ new.events → new.broken ≡ s.broken → merge_refused s ≡ Some x → EndsBy new x
 other_ends s new x other grown still is = go (unfit s.events s.broken) refl
@@ -309,7 +313,7 @@ next_fits stripe s sound whole next = go (kept_marks s.layers) refl next.missing
         ∙ ap (λ b. if b then None else Some (NoStripe stripe (stripe_count s.layers.geometry.sector s.layers.geometry.sectors))) (lt-ltb stripe (stripe_count s.layers.geometry.sector s.layers.geometry.sectors) (subst (λ n. stripe < n) each low.there))
 
 -- a stripe is one of a merge that is under way
-stripe_has : (stripe : ℕ) (layers : Layers) → no_stripe stripe layers ≡ None → has_merge layers ≡ true
+pub stripe_has : (stripe : ℕ) (layers : Layers) → no_stripe stripe layers ≡ None → has_merge layers ≡ true
 stripe_has stripe layers is = go (has_merge layers) refl
   where
     go : (b : Bool) → has_merge layers ≡ b → has_merge layers ≡ true
@@ -401,78 +405,6 @@ fetch_stops stripe old new left x next h = go (fetch_refused stripe old) refl
 turn_stops : (stripe : ℕ) (answer : Result (Unit {0}) ChainRefusal) (x : ChainRefusal) (old new : Session) → answer ≡ Err x → IsNext stripe old → AnswersTurn stripe answer old new → EndsBy new x
 turn_stops stripe _ x _ _ is next (not_fetched e old new left h) = subst (EndsBy new) (same_err {T = Unit {0}} e x is) (fetch_stops stripe old new left e next h)
 turn_stops stripe _ x _ _ is next (fetched_and answer stamp old mid new piece h p) = put_stops stripe stamp old mid new piece x h (subst (λ r. AnswersPut piece r mid new) is p)
-
--- what stops a turn of a copy, by the session before it and behind it
-pub data TurnEnds (stripe : ℕ) (old new : Session) : ChainRefusal → Type 0 where
-  turn_spent : (t : ℕ) → 2 ^ 63 ≤ t → t ≤ new.events → TurnEnds stripe old new (Spent t)
-  turn_broken : (file count : ℕ) → TurnEnds stripe old new (Broken file count)
-  turn_read : (file count : ℕ) → TurnEnds stripe old new (ReadFault file count)
-  turn_full : (next : ℕ) → TurnEnds stripe old new (FileFull next)
-  turn_none : HasNoMerge new.layers → TurnEnds stripe old new NoMerge
-  turn_past : (s n : ℕ) → s ≡ stripe → n ≤ stripe → n ≡ stripe_count new.layers.geometry.sector new.layers.geometry.sectors → TurnEnds stripe old new (NoStripe s n)
-
-no_merge_is : (layers : Layers) → has_merge layers ≡ false → HasNoMerge layers
-no_merge_is layers is = has_none layers (ap (λ b. if b then None else Some NoMerge) is)
-
-turn_early : (stripe : ℕ) (old new : Session) (e : ChainRefusal) → IsUnchanged old new → old.events ≤ new.events → fetch_refused stripe old ≡ Some e → TurnEnds stripe old new e
-turn_early stripe old new e same grown is = go (nat_lt old.events (2 ^ 63)) refl old.broken (has_merge old.layers) refl (nat_lt stripe (stripe_count old.layers.geometry.sector old.layers.geometry.sectors)) refl is
-  where
-    layers_are : new.layers ≡ old.layers
-    layers_are = ap (λ (s : Session). s.layers) same
-
-    go : (few : Bool) → nat_lt old.events (2 ^ 63) ≡ few → (broken : Option StoreFault) → (merge : Bool) → has_merge old.layers ≡ merge → (below : Bool) → nat_lt stripe (stripe_count old.layers.geometry.sector old.layers.geometry.sectors) ≡ below
-        → or_else (if few then broken_by broken else Some (Spent old.events)) (if merge then (if below then None else Some (NoStripe stripe (stripe_count old.layers.geometry.sector old.layers.geometry.sectors))) else Some NoMerge) ≡ Some e → TurnEnds stripe old new e
-    go false few broken merge m below b is = subst (TurnEnds stripe old new) (some_same {x = Spent old.events} {y = e} is) (turn_spent old.events (let high = ltb-false old.events (2 ^ 63) few in omega (arith, high)) grown)
-    go true few (Some f) merge m below b is = subst (TurnEnds stripe old new) (some_same {x = Broken f.file f.count} {y = e} is) (turn_broken f.file f.count)
-    go true few None false m below b is = subst (TurnEnds stripe old new) (some_same {x = NoMerge} {y = e} is) (turn_none (subst HasNoMerge (sym layers_are) (no_merge_is old.layers m)))
-    go true few None true m true b is = absurd (none_some is)
-    go true few None true m false b is =
-        let n = stripe_count old.layers.geometry.sector old.layers.geometry.sectors in
-        subst (TurnEnds stripe old new) (some_same {x = NoStripe stripe n} {y = e} is)
-        (turn_past stripe n refl (let high = ltb-false stripe n b in omega (arith, high)) (ap (λ (l : Layers). stripe_count l.geometry.sector l.geometry.sectors) (sym layers_are)))
-
--- what ends a copy ends a turn of it
-of_end : (stripe : ℕ) (old new : Session) (x : ChainRefusal) → EndsBy new x → TurnEnds stripe old new x
-of_end stripe old new _ (by_spent t high low) = turn_spent t high low
-of_end stripe old new _ (by_broken file count is) = turn_broken file count
-of_end stripe old new _ (by_read file count has) = turn_read file count
-of_end stripe old new _ (by_full next has) = turn_full next
-
-pub turn_refused : (stripe : ℕ) (answer : Result (Unit {0}) ChainRefusal) (x : ChainRefusal) (old new : Session) → answer ≡ Err x → AnswersTurn stripe answer old new → TurnEnds stripe old new x
-turn_refused stripe _ x _ _ is (not_fetched e old new left h) = subst (TurnEnds stripe old new) (same_err {T = Unit {0}} e x is) (go (fetch_refused stripe old) refl)
-  where
-    go : (o : Option ChainRefusal) → fetch_refused stripe old ≡ o → TurnEnds stripe old new e
-    go (Some f) first =
-        let early = subst (λ o. IfStopped {T = ℕ} o (Err e) (IsUnchanged old new)) first h.early in
-        subst (TurnEnds stripe old new) (sym (same_err {T = ℕ} e f early.0)) (turn_early stripe old new f early.1 h.later first)
-    go None fit = of_end stripe old new e (fetch_ends left old new e (still_has stripe (Err e) old new left h fit) (h.cause fit))
-turn_refused stripe _ x _ _ is (fetched_and answer stamp old mid new piece h p) = of_end stripe old new x (put_stops stripe stamp old mid new piece x h (subst (λ r. AnswersPut piece r mid new) is p))
-
--- what refuses a put of a piece that was fetched outside is what refuses a fetch of its stripe
-put_as_fetch : (piece : Piece) (s : Session) → piece.filled ≡ true → piece.stamp ≡ 0 → s.layers.retiring ≡ None → put_refused piece s ≡ fetch_refused piece.stripe s
-put_as_fetch piece s filled stamp alone =
-    ap (or_else (unfit s.events s.broken))
-    (ap₂ (λ (a b : Option ChainRefusal). or_else (no_merge s.layers) (or_else a (or_else (no_stripe piece.stripe s.layers) b))) (ap (λ b. if b then None else Some NoPiece) filled)
-    (ap₂ stale stamp (ap (λ o. stamp_in o piece.stripe) alone) ∙ never_stale 0) ∙ ap (or_else (no_merge s.layers)) (or_none (no_stripe piece.stripe s.layers)) ∙ twice (has_merge s.layers))
-  where
-    twice : (b : Bool) → or_else (if b then None else Some NoMerge) (if b then past_stripes piece.stripe (stripe_count s.layers.geometry.sector s.layers.geometry.sectors) else Some NoMerge)
-        ≡ (if b then past_stripes piece.stripe (stripe_count s.layers.geometry.sector s.layers.geometry.sectors) else Some NoMerge)
-    twice true = refl
-    twice false = refl
-
-pub put_stopped : (piece : Piece) (answer : Result (Unit {0}) ChainRefusal) (x : ChainRefusal) (old new : Session) → piece.filled ≡ true → piece.stamp ≡ 0 → old.layers.retiring ≡ None → answer ≡ Err x → AnswersPut piece answer old new → TurnEnds piece.stripe old new x
-put_stopped piece answer x old new filled stamp alone is p = go (put_refused piece old) refl
-  where
-    same : put_refused piece old ≡ fetch_refused piece.stripe old
-    same = put_as_fetch piece old filled stamp alone
-
-    go : (o : Option ChainRefusal) → put_refused piece old ≡ o → TurnEnds piece.stripe old new x
-    go (Some e) first =
-        let early = subst (λ o. IfStopped {T = Unit {0}} o answer (IsUnchanged old new)) first p.early in
-        subst (TurnEnds piece.stripe old new) (sym (same_err {T = Unit {0}} x e (sym is ∙ early.0))) (turn_early piece.stripe old new e early.1 p.later (sym same ∙ first))
-    go None fit =
-        let has = stripe_has piece.stripe old.layers (parts_none (unfit old.events old.broken) (no_stripe piece.stripe old.layers) (sym same ∙ fit)).1 in
-        of_end piece.stripe old new x (put_ends piece old new x has (subst (PutCause piece old new) is (p.cause fit)))
 
 -- ---- a copy
 
@@ -705,7 +637,7 @@ module _ (first : Session) (h : History) (full : Option ℕ) (broke : Option Bre
   copy_near : (answer : Result (Unit {0}) ChainRefusal) (old : Session) (slot : Piece) (new : Session) (left : Piece) (next : ℕ) → answer ≡ Err (FileFull next) → IsHome first old h full broke fault → EndsCopy old slot answer new left → IsNear next
   copy_near _ old slot _ _ next is home (all_moved new left turns sound missing) = absurd (ok_err is)
   copy_near _ old slot new left next is home (one_refused e stripe mid _ held _ turns next_is turn empty) =
-      let there = (carries_turns first old slot mid held turns (sound_of stripe (Err e) mid new turn)).home h full broke fault home in
+      let there = (carries_turns h first old slot mid held turns (sound_of stripe (Err e) mid new turn)).home full broke fault home in
       step_near mid new next there (subst (StepOf (λ v. ⊤) mid new) is (turn_step stripe (Err e) mid new turn))
 
   end_near : (old : Session) (slot : Piece) (new : Session) (answer : Result (Unit {0}) ChainRefusal) (next : ℕ) → answer ≡ Err (FileFull next) → IsHome first old h full broke fault → EndsMerge old slot new answer → IsNear next
@@ -726,7 +658,7 @@ module _ (first : Session) (h : History) (full : Option ℕ) (broke : Option Bre
 
 module _ {S T : Type 0} (disk : S → Disk) (old new first : Chain S KeepAll T) (slot : Piece) (answer : Result (Unit {0}) ChainRefusal) (full full' : Option ℕ) (broke broke' : Option Breach) (fault fault' : Option StoreFault) (copied copied' : Marks) (finished finished' : Bool) (full_is : full' ≡ full_after full (as_answer answer))
     (broke_is : broke' ≡ broke_after broke merge_breach (as_answer answer)) (fault_is : fault' ≡ fault_after fault (as_answer answer)) (e : EndsMerge (session_of disk old) slot (session_of disk new) answer)
-    (c : Carries (session_of disk first) (session_of disk old) (session_of disk new) answer) (home : IsHome (session_of disk first) (session_of disk old) old.recorder full broke fault) (copied_is : copied' ≡ copied) (finished_is : finished' ≡ true) where
+    (c : Carries old.recorder (session_of disk first) (session_of disk old) (session_of disk new) answer) (home : IsHome (session_of disk first) (session_of disk old) old.recorder full broke fault) (copied_is : copied' ≡ copied) (finished_is : finished' ≡ true) where
   abbrev before : Shared (Chain S KeepAll T)
   before = record { chain = old; first = first; full = full; broke = broke; fault = fault; copied = copied; finished = finished }
 
@@ -755,40 +687,3 @@ module _ {S T : Type 0} (disk : S → Disk) (old new first : Chain S KeepAll T) 
 
   pub merged_as : (seen : Shared (Chain S KeepAll T)) → before ≡ seen → IsMerged disk seen after answer
   merged_as seen is = subst (λ s. IsMerged disk s after answer) is (record { stepped = is_stepped; done = end_none (session_of disk old) slot (session_of disk new) answer e; stopped = is_stopped })
-
--- ---- why a stripe isn't copied
-
-module _ {S T : Type 0} (disk : S → Disk) (old new first : Chain S KeepAll T) (answer : Result (Unit {0}) ChainRefusal) (full full' : Option ℕ) (broke broke' : Option Breach) (fault fault' : Option StoreFault) (copied copied' : Marks) (finished finished' : Bool)
-    (full_is : full' ≡ full_after full (as_answer answer)) (broke_is : broke' ≡ broke_after broke merge_breach (as_answer answer)) (fault_is : fault' ≡ fault_after fault (as_answer answer)) (c : Carries (session_of disk first) (session_of disk old) (session_of disk new) answer) where
-  abbrev earlier : Shared (Chain S KeepAll T)
-  earlier = record { chain = old; first = first; full = full; broke = broke; fault = fault; copied = copied; finished = finished }
-
-  abbrev later : Shared (Chain S KeepAll T)
-  later = record { chain = new; first = first; full = full'; broke = broke'; fault = fault'; copied = copied'; finished = finished' }
-
-  notes_now : NotesBy (as_answer answer) (notes_of disk earlier) (notes_of disk later)
-  notes_now =
-      subst (λ f. NotesBy (as_answer answer) (notes_of disk earlier) (notes_in (disk new.store) new.broken f)) (sym full_is)
-      (noted (disk old.store) (disk new.store) old.broken new.broken full (as_answer answer) c.change)
-
-  has_noted : (x : ChainRefusal) (n : Note) → answer ≡ Err x → HasNote (noted_in (Err x)) n → HasNote (notes_of disk later) n
-  has_noted x n is h = (notes_now n).1 (inl (subst (λ r. HasNote (noted_in (as_answer r)) n) (sym is) h))
-
-  stops_copy : (stripe : ℕ) (x : ChainRefusal) → answer ≡ Err x → TurnEnds stripe (session_of disk old) (session_of disk new) x → StopsCopy disk stripe earlier later x
-  stops_copy stripe _ is (turn_spent t high low) = (high, low)
-  stops_copy stripe _ is (turn_broken file count) = has_noted (Broken file count) (notes.ChangeFailed file count) is (inl (refl, refl))
-  stops_copy stripe _ is (turn_read file count) =
-      let change = subst (λ r. IsChange (as_answer r) (disk old.store) (disk new.store) old.broken new.broken) is c.change in (
-        has_noted (ReadFault file count) (notes.ReadFailed file count) is (inl (refl, omega arith)),
-        λ was. at_end ((disk old.store).failed_reads file) ((disk new.store).failed_reads file) count change.2.rose change.2.told (noted_reads (disk old.store) old.broken full file count was),
-      )
-  stops_copy stripe _ is (turn_full next) = has_noted (FileFull next) (notes.Full next) is (inl (omega arith))
-  stops_copy stripe _ is (turn_none none) = none
-  stops_copy stripe _ is (turn_past s n same past count) = (same, past, count)
-
-  pub stopped_as : (stripe : ℕ) → ((x : ChainRefusal) → answer ≡ Err x → TurnEnds stripe (session_of disk old) (session_of disk new) x) → (seen : Shared (Chain S KeepAll T)) → earlier ≡ seen → IfErr answer (StopsCopy disk stripe seen later)
-  stopped_as stripe stops seen seen_is = subst (λ s. IfErr answer (StopsCopy disk stripe s later)) seen_is (go answer refl)
-    where
-      go : (r : Result (Unit {0}) ChainRefusal) → answer ≡ r → IfErr r (StopsCopy disk stripe earlier later)
-      go (Ok done) is = tt
-      go (Err x) is = stops_copy stripe x is (stops x is)

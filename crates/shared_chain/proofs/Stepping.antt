@@ -16,19 +16,18 @@ use Rattle.merge_core.specs.declared.piece.Piece.{Piece}
 use Rattle.layer_session.specs.Calls.{Fails}
 use Rattle.layer_session.specs.declared.file.LayerFault.TheVariants as layer
 use Rattle.chain_core.specs.Answering.{fault_of}
-use Rattle.chain_core.specs.Copying.{FetchCause, IfStopped, MarksToo, PutCause, fetch_refused, merge_refused, no_merge, no_stripe, past_stripes, put_refused, stale, stamp_of, unfilled}
+use Rattle.chain_core.specs.Copying.{FetchCause, IfStopped, PutCause, fetch_refused, merge_refused, no_merge, no_stripe, past_stripes, put_refused, stale, stamp_of, unfilled}
 use Rattle.chain_core.specs.Finished.{FinishCause}
 use Rattle.chain_core.specs.Merging.{IsTruePiece}
 use Rattle.chain_core.specs.Refusing.{broken_by, or_else, unfit}
 use Rattle.chain_core.specs.Sessions.{IsSound, Session, has_merge}
 use Rattle.chain_core.specs.States.{IsServing, LeavesOthers, State, dirty_now, disk_now, sector_of}
 use Rattle.chain_core.specs.declared.layers.Layers.{Layers}
-use Rattle.chain_core.specs.declared.layers.Retiring.{Retiring}
 use Rattle.layer_session.proofs.Equal.{none_some, ok_err, some_none, some_same}
 use Rattle.script_session.specs.Histories.{IsEndTold, IsLater, IsSoLong}
 use Rattle.script_session.specs.MergeSteps.{AnswersFetch, AnswersFinish, AnswersPut, AnswersTurn, IsUnchanged, KeepsHistory, fetched_and, not_fetched}
-use Rattle.script_session.specs.StepsLeft.{IsFullAt, IsLeft}
-use Rattle.script_session.proofs.Leaving.{finishes_leave, puts_leave, turns_leave}
+use Rattle.script_session.specs.StepsLeft.{IsFullAt, IsLeft, unstamped}
+use Rattle.script_session.proofs.Leaving.{fetches_leave, finishes_leave, puts_leave, turns_leave}
 use Rattle.script_session.proofs.Lengths.{grows_none, long_later}
 use Rattle.script_session.proofs.Moving.{ok_reached}
 use Rattle.shared_chain.specs.declared.basis.Breach.{Breach}
@@ -36,13 +35,14 @@ use Rattle.shared_chain.specs.Faults.{AreCounted, fault_after}
 use Rattle.shared_chain.specs.Homes.{ComesTo, Follows, HasStopped, IsHome}
 use Rattle.shared_chain.specs.Merging.{as_answer}
 use Rattle.shared_chain.specs.Notes.{full_after}
-use Rattle.shared_chain.specs.Steps.{broke_after, first_breach, merge_breach, open_by}
+use Rattle.shared_chain.specs.Steps.{broke_after, merge_breach, open_by}
 use Rattle.shared_chain.proofs.Breaking.{none_broke, one_broke, past_wider, wider}
-use Rattle.shared_chain.proofs.Counting.{HasCounted, counted_on, same_told}
+use Rattle.shared_chain.proofs.Counting.{HasCounted, counted_on}
 use Rattle.shared_chain.proofs.Filling.{long_after, long_still}
-use Rattle.shared_chain.proofs.Homing.{broken_not_whole, home_counted, told_last, whole_not_stopped}
+use Rattle.shared_chain.proofs.Homing.{home_counted, told_last}
 use Rattle.shared_chain.proofs.Later.{later_through, written_before}
 use Rattle.shared_chain.proofs.Noting.{IsChange, Stays}
+use Rattle.shared_chain.proofs.Stamped.{MergeGoes, goes_kept, goes_marked, goes_same, goes_then, merge_over, stamps_step}
 
 -- ---- what refuses a step before the files are reached
 
@@ -217,70 +217,65 @@ behind_fetch : (old mid new : Session) (answer : Result (Unit {0}) ChainRefusal)
 behind_fetch old mid new _ disk whole still (quiet x same broken q) = quiet x (same ∙ disk) (broken ∙ still ∙ sym whole) (subst (λ o. IsQuiet o x) (still ∙ sym whole) q)
 behind_fetch old mid new answer disk whole still (reached _ none c) = reached answer whole (subst (λ d. HasCounted d new (as_answer answer)) disk c)
 
--- ---- the merge of the leaf
+-- ---- the merge, and the stamps of its stripes
 
--- what a session that broke, or one that refused, kept
-same_layers : (old new : Session) → IsUnchanged old new → old.layers.retiring ≡ None → new.layers.retiring ≡ None
-same_layers old new is none = ap (λ (s : Session). s.layers.retiring) is ∙ none
+-- a session that broke, or one that refused, kept it
+goes_unchanged : (old new : Session) → IsUnchanged old new → MergeGoes old.layers new.layers
+goes_unchanged old new is = goes_same old.layers new.layers (ap (λ (s : Session). s.layers) is)
 
-marks_none : (stripe : ℕ) (r q : Option Retiring) → MarksToo stripe r q → r ≡ None → q ≡ None
-marks_none stripe None None h none = refl
-marks_none stripe None (Some q) h none = absurd h
-marks_none stripe (Some r) q h none = absurd (some_none none)
+put_caused : (piece : Piece) (old new : Session) (answer : Result (Unit {0}) ChainRefusal) → PutCause piece old new answer → MergeGoes old.layers new.layers
+put_caused piece old new (Ok done) c = goes_marked piece.stripe old.layers new.layers c.0.0 c.0.1
+put_caused piece old new (Err EmptyRange) c = absurd c
+put_caused piece old new (Err (OutOfRange first count sectors)) c = absurd c
+put_caused piece old new (Err (TooLong count limit)) c = absurd c
+put_caused piece old new (Err ReadOnly) c = absurd c
+put_caused piece old new (Err (Broken file count)) c = goes_kept old.layers new.layers c.0
+put_caused piece old new (Err (Spent t)) c = absurd c
+put_caused piece old new (Err (FileFull next)) c = goes_kept old.layers new.layers c.0
+put_caused piece old new (Err (ReadFault file count)) c = goes_kept old.layers new.layers c.0
+put_caused piece old new (Err NoMerge) c = absurd c
+put_caused piece old new (Err (Stale taken at)) c = absurd c
+put_caused piece old new (Err (NotYet stripe)) c = absurd c
+put_caused piece old new (Err (Abandoned file count)) c = absurd c
+put_caused piece old new (Err (NoStripe stripe stripes)) c = absurd c
+put_caused piece old new (Err NoPiece) c = absurd c
+put_caused piece old new (Err NoRoom) c = absurd c
 
-put_caused : (piece : Piece) (old new : Session) (answer : Result (Unit {0}) ChainRefusal) → PutCause piece old new answer → old.layers.retiring ≡ None → new.layers.retiring ≡ None
-put_caused piece old new (Ok done) c none = marks_none piece.stripe old.layers.retiring new.layers.retiring c.0.1 none
-put_caused piece old new (Err EmptyRange) c none = absurd c
-put_caused piece old new (Err (OutOfRange first count sectors)) c none = absurd c
-put_caused piece old new (Err (TooLong count limit)) c none = absurd c
-put_caused piece old new (Err ReadOnly) c none = absurd c
-put_caused piece old new (Err (Broken file count)) c none = c.0.1 ∙ none
-put_caused piece old new (Err (Spent t)) c none = absurd c
-put_caused piece old new (Err (FileFull next)) c none = c.0.1 ∙ none
-put_caused piece old new (Err (ReadFault file count)) c none = c.0.1 ∙ none
-put_caused piece old new (Err NoMerge) c none = absurd c
-put_caused piece old new (Err (Stale taken at)) c none = absurd c
-put_caused piece old new (Err (NotYet stripe)) c none = absurd c
-put_caused piece old new (Err (Abandoned file count)) c none = absurd c
-put_caused piece old new (Err (NoStripe stripe stripes)) c none = absurd c
-put_caused piece old new (Err NoPiece) c none = absurd c
-put_caused piece old new (Err NoRoom) c none = absurd c
-
-put_alone : (piece : Piece) (answer : Result (Unit {0}) ChainRefusal) (old new : Session) → AnswersPut piece answer old new → old.layers.retiring ≡ None → new.layers.retiring ≡ None
-put_alone piece answer old new h none = go (put_refused piece old) refl
+put_goes : (piece : Piece) (answer : Result (Unit {0}) ChainRefusal) (old new : Session) → AnswersPut piece answer old new → MergeGoes old.layers new.layers
+put_goes piece answer old new h = go (put_refused piece old) refl
   where
-    go : (o : Option ChainRefusal) → put_refused piece old ≡ o → new.layers.retiring ≡ None
-    go (Some e) is = same_layers old new (subst (λ o. IfStopped {T = Unit {0}} o answer (IsUnchanged old new)) is h.early).1 none
-    go None is = put_caused piece old new answer (h.cause is) none
+    go : (o : Option ChainRefusal) → put_refused piece old ≡ o → MergeGoes old.layers new.layers
+    go (Some e) is = goes_unchanged old new (subst (λ o. IfStopped {T = Unit {0}} o answer (IsUnchanged old new)) is h.early).1
+    go None is = put_caused piece old new answer (h.cause is)
 
-turn_alone : (stripe : ℕ) (answer : Result (Unit {0}) ChainRefusal) (old new : Session) → AnswersTurn stripe answer old new → old.layers.retiring ≡ None → new.layers.retiring ≡ None
-turn_alone stripe _ _ _ (not_fetched e old new left h) none = h.merge.1 ∙ none
-turn_alone stripe _ _ _ (fetched_and answer stamp old mid new piece h p) none = put_alone piece answer mid new p (h.merge.1 ∙ none)
+turn_goes : (stripe : ℕ) (answer : Result (Unit {0}) ChainRefusal) (old new : Session) → AnswersTurn stripe answer old new → MergeGoes old.layers new.layers
+turn_goes stripe _ _ _ (not_fetched e old new left h) = goes_kept old.layers new.layers h.merge
+turn_goes stripe _ _ _ (fetched_and answer stamp old mid new piece h p) = goes_then old.layers mid.layers new.layers h.merge (put_goes piece answer mid new p)
 
-finish_caused : (old new : Session) (answer : Result (Unit {0}) ChainRefusal) → FinishCause old new answer (IsUnchanged old new) → old.layers.retiring ≡ None → new.layers.retiring ≡ None
-finish_caused old new (Ok done) c none = c.merge.1
-finish_caused old new (Err EmptyRange) c none = absurd c
-finish_caused old new (Err (OutOfRange first count sectors)) c none = absurd c
-finish_caused old new (Err (TooLong count limit)) c none = absurd c
-finish_caused old new (Err ReadOnly) c none = absurd c
-finish_caused old new (Err (Broken file count)) c none = c.merge.1 ∙ none
-finish_caused old new (Err (Spent t)) c none = absurd c
-finish_caused old new (Err (FileFull next)) c none = absurd c
-finish_caused old new (Err (ReadFault file count)) c none = absurd c
-finish_caused old new (Err NoMerge) c none = absurd c
-finish_caused old new (Err (Stale taken at)) c none = absurd c
-finish_caused old new (Err (NotYet stripe)) c none = same_layers old new c.1 none
-finish_caused old new (Err (Abandoned file count)) c none = absurd c
-finish_caused old new (Err (NoStripe stripe stripes)) c none = absurd c
-finish_caused old new (Err NoPiece) c none = absurd c
-finish_caused old new (Err NoRoom) c none = absurd c
+finish_caused : (old new : Session) (answer : Result (Unit {0}) ChainRefusal) → FinishCause old new answer (IsUnchanged old new) → MergeGoes old.layers new.layers
+finish_caused old new (Ok done) c = merge_over c.merge
+finish_caused old new (Err EmptyRange) c = absurd c
+finish_caused old new (Err (OutOfRange first count sectors)) c = absurd c
+finish_caused old new (Err (TooLong count limit)) c = absurd c
+finish_caused old new (Err ReadOnly) c = absurd c
+finish_caused old new (Err (Broken file count)) c = goes_kept old.layers new.layers c.merge
+finish_caused old new (Err (Spent t)) c = absurd c
+finish_caused old new (Err (FileFull next)) c = absurd c
+finish_caused old new (Err (ReadFault file count)) c = absurd c
+finish_caused old new (Err NoMerge) c = absurd c
+finish_caused old new (Err (Stale taken at)) c = absurd c
+finish_caused old new (Err (NotYet stripe)) c = goes_unchanged old new c.1
+finish_caused old new (Err (Abandoned file count)) c = absurd c
+finish_caused old new (Err (NoStripe stripe stripes)) c = absurd c
+finish_caused old new (Err NoPiece) c = absurd c
+finish_caused old new (Err NoRoom) c = absurd c
 
-finish_alone : (answer : Result (Unit {0}) ChainRefusal) (old new : Session) → AnswersFinish answer old new → old.layers.retiring ≡ None → new.layers.retiring ≡ None
-finish_alone answer old new h none = go (merge_refused old) refl
+finish_goes : (answer : Result (Unit {0}) ChainRefusal) (old new : Session) → AnswersFinish answer old new → MergeGoes old.layers new.layers
+finish_goes answer old new h = go (merge_refused old) refl
   where
-    go : (o : Option ChainRefusal) → merge_refused old ≡ o → new.layers.retiring ≡ None
-    go (Some e) is = same_layers old new (subst (λ o. IfStopped {T = Unit {0}} o answer (IsUnchanged old new)) is h.early).1 none
-    go None is = finish_caused old new answer (h.cause is) none
+    go : (o : Option ChainRefusal) → merge_refused old ≡ o → MergeGoes old.layers new.layers
+    go (Some e) is = goes_unchanged old new (subst (λ o. IfStopped {T = Unit {0}} o answer (IsUnchanged old new)) is h.early).1
+    go None is = finish_caused old new answer (h.cause is)
 
 -- ---- a step
 
@@ -288,7 +283,7 @@ finish_alone answer old new h none = go (merge_refused old) refl
 pub record StepOf (Apt : State → Type 0) (old new : Session) (answer : Result (Unit {0}) ChainRefusal) : Type 0 where
   pub keeps : KeepsHistory old new
   pub later : old.events ≤ new.events
-  pub alone : old.layers.retiring ≡ None → new.layers.retiring ≡ None
+  pub merge : MergeGoes old.layers new.layers
   pub broken : (fault : StoreFault) → old.broken ≡ Some fault → IsUnchanged old new × ((x : ChainRefusal) × (answer ≡ Err x) × IsQuiet old.broken x)
   pub kind : old.broken ≡ None → Kind old new answer
   pub left : old.broken ≡ None → WhereBothTold (λ trace now. (v : State) → IsServing old.layers v trace → Apt v → IsLeft v answer new trace now) old.disk.told new.disk.told
@@ -335,8 +330,34 @@ turn_step stripe answer old new h = record {
   later = turn_later stripe answer old new h;
   broken = turn_broken stripe answer old new h;
   kind = turn_kind stripe answer old new h;
-  alone = turn_alone stripe answer old new h;
+  merge = turn_goes stripe answer old new h;
   left = λ whole. of_each answer old new old.disk.told new.disk.told (turns_leave stripe answer old new whole h);
+}
+
+-- what a fetch found in a session that is broken
+fetch_broken : (stripe : ℕ) (answer : Result ℕ ChainRefusal) (old new : Session) (left : Piece) → AnswersFetch stripe answer old new left → (fault : StoreFault) → old.broken ≡ Some fault
+    → IsUnchanged old new × ((x : ChainRefusal) × (unstamped answer ≡ Err x) × IsQuiet old.broken x)
+fetch_broken stripe answer old new left h fault is =
+    let first = broken_first old.events fault (no_stripe stripe old.layers) in
+    let cause : fetch_refused stripe old ≡ Some first.0 = ap (λ o. or_else (unfit old.events o) (no_stripe stripe old.layers)) is ∙ first.1 in
+    let early = subst (λ o. IfStopped {T = ℕ} o answer (IsUnchanged old new)) cause h.early in
+    (early.1, (first.0, ap unstamped early.0, fetch_quiet stripe old first.0 cause))
+
+fetch_reached : (stripe : ℕ) (answer : Result ℕ ChainRefusal) (old new : Session) (left : Piece) → old.broken ≡ None → AnswersFetch stripe answer old new left → Kind old new (unstamped answer)
+fetch_reached stripe (Ok stamp) old new left whole h =
+    let c = h.cause (ok_reached _ (fetch_refused stripe old) stamp h.early) in
+    reached (Ok tt) whole (c.1 ∙ ap (λ t. record (old.disk) { told = t }) (ap (λ (d : Disk). d.told) (sym c.1)), c.2)
+fetch_reached stripe (Err x) old new left whole h = fetch_kind old new whole stripe x left h
+
+-- a fetch that is put in a later turn
+pub fetch_step : (stripe : ℕ) (answer : Result ℕ ChainRefusal) (old new : Session) (left : Piece) → AnswersFetch stripe answer old new left → StepOf (λ v. ⊤) old new (unstamped answer)
+fetch_step stripe answer old new left h = record {
+  keeps = h.keeps;
+  later = h.later;
+  merge = goes_kept old.layers new.layers h.merge;
+  broken = fetch_broken stripe answer old new left h;
+  kind = λ whole. fetch_reached stripe answer old new left whole h;
+  left = λ whole. of_each (unstamped answer) old new old.disk.told new.disk.told (fetches_leave stripe answer old new left whole h);
 }
 
 -- a put of a piece, of each state of which that is true
@@ -344,7 +365,7 @@ pub put_step : (piece : Piece) (answer : Result (Unit {0}) ChainRefusal) (old ne
 put_step piece answer old new h = record {
   keeps = h.keeps;
   later = h.later;
-  alone = put_alone piece answer old new h;
+  merge = put_goes piece answer old new h;
   broken = λ fault is.
       let later = or_else (no_merge old.layers) (or_else (unfilled piece) (or_else (no_stripe piece.stripe old.layers) (stale piece.stamp (stamp_of old.layers piece.stripe)))) in
       let first = broken_first old.events fault later in
@@ -365,7 +386,7 @@ finish_step answer old new h = record {
       let early = subst (λ o. IfStopped {T = Unit {0}} o answer (IsUnchanged old new)) cause h.early in
       (early.1, (first.0, early.0, finish_quiet old first.0 cause));
   kind = λ whole. finish_kind old new whole answer h;
-  alone = finish_alone answer old new h;
+  merge = finish_goes answer old new h;
   left = λ whole. of_each answer old new old.disk.told new.disk.told (finishes_leave answer old new whole h);
 }
 
@@ -550,7 +571,7 @@ module _ (first old new : Session) (h : History) (full : Option ℕ) (broke : Op
         sound = sound;
         geometry = s.keeps.geometry ∙ home.geometry;
         session = s.keeps.session ∙ home.session;
-        retiring = λ none. s.alone (home.retiring none);
+        stamps = stamps_step first.layers old.layers new.layers h s.merge home.stamps;
         breaks = breaks_on answer home is (s.kind is);
         counted = counted_step answer home is (s.kind is);
         follows = both_join _ _ _ first.disk.told old.disk.told new.disk.told

@@ -1,5 +1,5 @@
 -- How what is missing of a merge is copied and finished, in a session.
-use Rattle.std.specs.Prelude.{◌≡◌, ◌≢◌, Bool, false, true, Result, Ok, Err}
+use Rattle.std.specs.Prelude.{◌≢◌, Bool, false, true, Result, Ok, Err}
 use Rattle.guest_model.specs.declared.refusal.ChainRefusal.{ChainRefusal}
 use Rattle.guest_model.specs.declared.refusal.ChainRefusal.TheVariants.{NoMerge}
 use Rattle.merge_core.specs.declared.piece.Piece.{Piece}

@@ -12,6 +12,7 @@ use Rattle.chain_core.specs.States.{IsServing, LeavesOthers, State, dirty_now, d
 use Rattle.script_session.specs.Histories.{IsLater, IsSoLong}
 use Rattle.shared_chain.specs.declared.basis.Breach.{Breach}
 use Rattle.shared_chain.specs.Faults.{AreCounted}
+use Rattle.shared_chain.specs.Stamped.{KeepsStamps}
 use Rattle.shared_chain.specs.Steps.{open_by}
 
 -- the session of a chain whose history is kept whole
@@ -51,8 +52,8 @@ pub record IsHome (first now : Session) (h : History) (full : Option ℕ) (broke
   pub sound : IsSound now
   pub geometry : now.layers.geometry ≡ first.layers.geometry
   pub session : is_some now.layers.leaf ≡ is_some first.layers.leaf
-  -- the leaf is merged only where it was then
-  pub retiring : first.layers.retiring ≡ None → now.layers.retiring ≡ None
+  -- the leaf is merged only where it was then, and its stripes have the stamps of the history
+  pub stamps : KeepsStamps first.layers h now.layers
   pub breaks : is_some broke ≡ is_some now.broken
   pub counted : AreCounted first.disk now.disk now.broken fault
   pub follows : WhereBothTold (λ trace after. (from : State) → IsServing first.layers from trace → from.history ≡ [] → Follows from h full broke now after) first.disk.told now.disk.told

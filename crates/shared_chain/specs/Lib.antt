@@ -10,5 +10,6 @@ pub mod Planned
 pub mod Closing
 pub mod Ends
 pub mod Fetched
+pub mod Stamped
 pub mod Merging
 pub mod Seats

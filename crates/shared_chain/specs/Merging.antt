@@ -1,5 +1,5 @@
 -- What a step of a merge answers and leaves of a shared chain.
-use Rattle.std.specs.Prelude.{◌≡◌, ◌+◌, ◌-◌, ◌^◌, ◌<◌, ◌≤◌, if◌then◌else◌, nat_lt, ℕ, Bool, true, [], Option, Some, Result, Ok, Err, IfErr, MatchOption, OnOk}
+use Rattle.std.specs.Prelude.{◌≡◌, ◌≢◌, ◌+◌, ◌-◌, ◌^◌, ◌<◌, ◌≤◌, if◌then◌else◌, nat_lt, ℕ, Bool, true, [], Some, Result, Ok, Err, IfErr, MatchOption, OnOk}
 use Rattle.store_model.specs.Disk.{Disk, WhereTold}
 use Rattle.guest_model.specs.declared.recorder.KeepAll.{KeepAll}
 use Rattle.guest_model.specs.declared.refusal.ChainRefusal.{ChainRefusal}
@@ -8,6 +8,7 @@ use Rattle.chain_model.specs.Merges.{with_mark}
 use Rattle.chain_model.specs.Stripes.{stripe_count}
 use Rattle.merge_core.specs.Copied.{marks_of}
 use Rattle.merge_core.specs.declared.marks.Marks.{Marks}
+use Rattle.merge_core.specs.declared.piece.Piece.{Piece}
 use Rattle.chain_core.specs.declared.chain.Chain.{Chain}
 use Rattle.chain_core.specs.Sessions.{HasNoMerge, has_merge, kept_marks}
 use Rattle.chain_core.specs.declared.layers.Layers.{Layers}
@@ -17,6 +18,7 @@ use Rattle.shared_chain.specs.Bases.{notes_of}
 use Rattle.shared_chain.specs.Faults.{fault_after}
 use Rattle.shared_chain.specs.Notes.{HasNote, NotesBy, full_after}
 use Rattle.shared_chain.specs.Shared.{Shared}
+use Rattle.shared_chain.specs.Stamped.{stamp_behind}
 use Rattle.shared_chain.specs.Steps.{broke_after, merge_breach}
 
 -- its answer, as those of calls are noted
@@ -24,15 +26,18 @@ abbrev pub as_answer : Result (Unit {0}) ChainRefusal → Result ℕ ChainRefusa
 as_answer (Ok done) = Ok 0
 as_answer (Err x) = Err x
 
--- a step of a merge: a stripe is copied; or the merge is finished; or what is missing is copied and it is finished
+-- a step of a merge: a stripe is fetched; or what was fetched of it is put, and it is copied; or the merge is finished; or what is missing is
+-- copied and it is finished
 pub data MergeStep : Type 0 where
+  fetches : (stripe : ℕ) → MergeStep
   copies : (stripe : ℕ) → MergeStep
   finishes : MergeStep
   ends : MergeStep
 
 -- how many events it has at most
 abbrev pub most_events : MergeStep → ℕ
-most_events (copies stripe) = 2
+most_events (fetches stripe) = 1
+most_events (copies stripe) = 1
 most_events finishes = 1
 most_events ends = 2 ^ 34
 
@@ -45,6 +50,7 @@ copied_behind step answer marks t = marks_of marks t
 abbrev pub finished_behind : MergeStep → Result (Unit {0}) ChainRefusal → Bool → Bool
 finished_behind finishes (Ok done) finished = true
 finished_behind ends answer finished = true
+finished_behind (fetches stripe) (Err refusals.NoMerge) finished = true
 finished_behind (copies stripe) (Err refusals.NoMerge) finished = true
 finished_behind step answer finished = finished
 
@@ -68,16 +74,22 @@ module _ {S T : Type 0} where
     pub finished : new.finished ≡ finished_behind step answer old.finished
     pub noted : NotesBy (as_answer answer) (notes_of disk old) (notes_of disk new)
 
-  -- Why a stripe isn't copied in a turn: no merge is under way; the disk has fewer stripes; the count of events is used up; the target is full; a
-  -- read failed, which is noted anew, or whose count is at its end; or a fault has broken the session.
-  abbrev pub StopsCopy : (S → Disk) → ℕ → Shared (Chain S KeepAll T) → Shared (Chain S KeepAll T) → ChainRefusal → Type 0
-  StopsCopy disk stripe old new refusals.NoMerge = HasNoMerge new.chain.layers
-  StopsCopy disk stripe old new (refusals.NoStripe s stripes) = (s ≡ stripe) × (stripes ≤ stripe) × (stripes ≡ stripe_count new.chain.layers.geometry.sector new.chain.layers.geometry.sectors)
-  StopsCopy disk stripe old new (refusals.Spent t) = (2 ^ 63 ≤ t) × (t ≤ new.chain.events)
-  StopsCopy disk stripe old new (refusals.FileFull next) = HasNote (notes_of disk new) (notes.Full next)
-  StopsCopy disk stripe old new (refusals.ReadFault file count) = HasNote (notes_of disk new) (notes.ReadFailed file count) × (HasNote (notes_of disk old) (notes.ReadFailed file count) → 2 ^ 64 - 1 ≤ count)
-  StopsCopy disk stripe old new (refusals.Broken file count) = HasNote (notes_of disk new) (notes.ChangeFailed file count)
-  StopsCopy disk stripe old new other = ⊥
+  -- Why a stripe isn't fetched: no merge is under way; the disk has fewer stripes; the count of events is used up; a read failed, which is noted
+  -- anew, or whose count is at its end; or a fault has broken the session.
+  abbrev pub StopsFetch : (S → Disk) → ℕ → Shared (Chain S KeepAll T) → Shared (Chain S KeepAll T) → ChainRefusal → Type 0
+  StopsFetch disk stripe old new refusals.NoMerge = HasNoMerge new.chain.layers
+  StopsFetch disk stripe old new (refusals.NoStripe s stripes) = (s ≡ stripe) × (stripes ≤ stripe) × (stripes ≡ stripe_count new.chain.layers.geometry.sector new.chain.layers.geometry.sectors)
+  StopsFetch disk stripe old new (refusals.Spent t) = (2 ^ 63 ≤ t) × (t ≤ new.chain.events)
+  StopsFetch disk stripe old new (refusals.ReadFault file count) = HasNote (notes_of disk new) (notes.ReadFailed file count) × (HasNote (notes_of disk old) (notes.ReadFailed file count) → 2 ^ 64 - 1 ≤ count)
+  StopsFetch disk stripe old new (refusals.Broken file count) = HasNote (notes_of disk new) (notes.ChangeFailed file count)
+  StopsFetch disk stripe old new other = ⊥
+
+  -- Why what was fetched of a stripe isn't put: what stops a fetch of it stops that too; or the target is full; or the stripe has another stamp
+  -- now, that of the history, than the piece.
+  abbrev pub StopsPut : (S → Disk) → Piece → Shared (Chain S KeepAll T) → Shared (Chain S KeepAll T) → ChainRefusal → Type 0
+  StopsPut disk piece old new (refusals.FileFull next) = HasNote (notes_of disk new) (notes.Full next)
+  StopsPut disk piece old new (refusals.Stale taken now) = (taken ≡ piece.stamp) × (now ≡ stamp_behind new.first.layers.retiring new.chain.recorder piece.stripe) × (taken ≢ now)
+  StopsPut disk piece old new x = StopsFetch disk piece.stripe old new x
 
   -- Why a merge isn't finished at the end: the count of events is used up; a file is full, near the greatest place that a block may have, or a
   -- read failed, the merge being under way still; or a fault has broken the session.

@@ -1,7 +1,7 @@
 //! The chain that threads share.
 
 ghost use Rattle.store_model.specs.declared.fault.StoreFault.{StoreFault as Fault};
-ghost use Rattle.std.specs.Prelude.{◌≡◌, ◌%◌, ◌/◌, ℕ, [], Option, None, IfErr, IfOk, IfSome, IsErr, OnOk, false, length};
+ghost use Rattle.std.specs.Prelude.{◌≡◌, ◌%◌, ◌/◌, ℕ, [], Option, None, IfErr, IfOk, IfSome, IsErr, OnErr, OnOk, false, length};
 ghost use Rattle.guest_model.specs.declared.call.Call.TheVariants as calls;
 ghost use Rattle.chain_core.specs.Answering.{IsDurable};
 ghost use Rattle.chain_core.specs.Sessions.{HasNoMerge, IsSound, has_merge};
@@ -12,8 +12,9 @@ ghost use Rattle.shared_chain.specs.Answers.{IsCalled};
 ghost use Rattle.shared_chain.specs.Planned.{IsPlanned};
 ghost use Rattle.script_session.specs.Running.{IsEnded};
 ghost use Rattle.shared_chain.specs.Closing.{LeavesHistory};
-ghost use Rattle.shared_chain.specs.Fetched.{IsFetched};
-ghost use Rattle.shared_chain.specs.Merging.{HasMark, IsMerged, IsStepped, StopsCopy, as_answer, copied_behind, copies, finished_behind, finishes};
+ghost use Rattle.script_session.specs.StepsLeft.{unstamped};
+ghost use Rattle.shared_chain.specs.Fetched.{IsFetched, WasFetched};
+ghost use Rattle.shared_chain.specs.Merging.{HasMark, IsMerged, IsStepped, StopsFetch, StopsPut, as_answer, copied_behind, copies, fetches, finished_behind, finishes};
 ghost use Rattle.merge_core.specs.Copied.{marks_of};
 ghost use Rattle.shared_chain.specs.Steps.{broke_after, merge_breach, steps_of};
 ghost use Rattle.shared_chain.specs.Ends.{EndsMerge, is_no_merge};
@@ -23,7 +24,7 @@ use chain_core::Chain;
 use guest_model::{Caller, ChainRefusal, KeepAll};
 use merge_core::{Marks, Piece};
 use read_plan::{Plan, ReaderSet};
-use script_session::{copy, finish, move_stripe, put};
+use script_session::{copy, fetch, finish, put};
 use std::alloc::{AllocFailed, Global};
 use std::marker::Model;
 use std::snapshot::Snapshot;
@@ -148,9 +149,20 @@ fn room_for<S: Store>(
     }
 }
 
-// Whether the merge was finished, or none was found, behind the answer of the copy of a stripe.
-fn finished_by_copy(finished: bool, stripe: u32, done: Result<(), ChainRefusal>) -> bool
-    ensures { result ≡ finished_behind (copies stripe) done finished }
+// What a fetch was answered, but for the stamp.
+fn unstamped(answer: Result<u64, ChainRefusal>) -> Result<(), ChainRefusal>
+    ensures { result ≡ unstamped answer }
+{
+    match answer {
+        Ok(_) => Ok(()),
+        Err(refusal) => Err(refusal),
+    }
+}
+
+// Whether the merge was finished, or none was found, behind the answer of a fetch of a stripe, or of a put.
+fn finished_by_stripe(finished: bool, stripe: u32, done: Result<(), ChainRefusal>) -> bool
+    ensures fetch { result ≡ finished_behind (fetches stripe) done finished }
+    ensures put { result ≡ finished_behind (copies stripe) done finished }
 {
     finished || is_no_merge(done)
 }
@@ -314,16 +326,18 @@ impl<S: Store> SharedChain<S> {
         answer
     }
 
-    /// Fetches a stripe of the merge's source and puts it into the target. Whatever is answered, no piece is left.
-    pub fn copy_stripe(&mut self, stripe: u32, piece: &mut Piece) -> Result<(), ChainRefusal>
-        ensures stepped { IsStepped S.disk (copies stripe) self.old self.new result }
-        ensures stopped { IfErr result (StopsCopy S.disk stripe self.old self.new) }
-        ensures copied { OnOk result (HasMark stripe self.new.chain.layers) }
-        ensures empty { piece.new.filled ≡ false }
+    /// Fetches a stripe of the merge's source, to be put in a later turn. A fetch that is refused leaves no piece.
+    pub fn fetch_stripe(&mut self, stripe: u32, piece: &mut Piece) -> Result<(), ChainRefusal>
+        ensures stepped { IsStepped S.disk (fetches stripe) self.old self.new result }
+        ensures stopped { IfErr result (StopsFetch S.disk stripe self.old self.new) }
+        ensures whole { OnOk result (self.new.broke ≡ None) }
+        ensures stripe { OnOk result (piece.new.stripe ≡ stripe) }
+        ensures fetched { OnOk result (IsFetched S.disk self.new.first self.new.chain.recorder piece.new) }
+        ensures empty { OnErr result (piece.new.filled ≡ false) }
     {
-        let done = move_stripe(&mut *self.chain, stripe, piece);
-        mark_copied(&mut self.copied, stripe, done);
-        self.finished = finished_by_copy(self.finished, stripe, done);
+        let fetched = fetch(&mut *self.chain, stripe, piece);
+        let done = unstamped(fetched);
+        self.finished = finished_by_stripe(self.finished, stripe, done);
         let answer = as_answer(done);
         self.full = full_behind(self.full, answer);
         self.broke = broke_by_merge(self.broke, answer);
@@ -331,18 +345,19 @@ impl<S: Store> SharedChain<S> {
         done
     }
 
-    /// Puts what was fetched of the source of the merge outside the chain into the target. Whatever is answered, no piece is left.
+    /// Puts what was fetched of the source of the merge into the target: outside the chain where the source isn't the leaf, or in an earlier turn. It is
+    /// refused as stale where a call has changed the stripe since. Whatever is answered, no piece is left.
     pub fn put_stripe(&mut self, piece: &mut Piece) -> Result<(), ChainRefusal>
-        requires { IsFetched S.disk self.old.first piece.old }
+        requires { WasFetched S.disk (steps_of self.old.chain.recorder self.old.broke) self.old.first piece.old }
         ensures stepped { IsStepped S.disk (copies piece.old.stripe) self.old self.new result }
-        ensures stopped { IfErr result (StopsCopy S.disk piece.old.stripe self.old self.new) }
+        ensures stopped { IfErr result (StopsPut S.disk piece.old self.old self.new) }
         ensures copied { OnOk result (HasMark piece.old.stripe self.new.chain.layers) }
         ensures empty { piece.new.filled ≡ false }
     {
         let stripe = piece.stripe();
         let done = put(&mut *self.chain, piece);
         mark_copied(&mut self.copied, stripe, done);
-        self.finished = finished_by_copy(self.finished, stripe, done);
+        self.finished = finished_by_stripe(self.finished, stripe, done);
         let answer = as_answer(done);
         self.full = full_behind(self.full, answer);
         self.broke = broke_by_merge(self.broke, answer);

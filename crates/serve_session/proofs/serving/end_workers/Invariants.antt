@@ -21,7 +21,7 @@ invariant-loop-worker g l = record {
   back : any_failed l.back.items ≡ (any_failed l.fn.back.items || nat_lt 0 l.unfetched);
   none : taken ≡ 0 → l.unfetched ≡ 0;
   reserved : vec_capacity l.back ≡ vec_capacity l.fn.back;
-  drawn : l.first.drawn ≤ l.fn.first.drawn + 2 ^ 32 * taken;
+  drawn : l.first.drawn ≤ l.fn.first.drawn + 2 ^ 34 * taken;
 }
 
 abbrev pub decreases-loop-worker : goal.decreases-loop-worker

@@ -1,4 +1,4 @@
-use Rattle.std.proofs.Common.{◌≡◌, ◌++◌, ◌+◌, ◌-◌, ◌||◌, Some, ap, arith, drop, false, length, map, refl, sym, subst, take, true, ◌∙◌}
+use Rattle.std.proofs.Common.{◌*◌, ◌≡◌, ◌++◌, ◌+◌, ◌-◌, ◌||◌, Some, ap, arith, drop, false, length, map, refl, sym, subst, take, true, ◌∙◌}
 use Rattle.std.specs.Prelude.{All, nat_lt}
 use Rattle.serve_session.specs.Actors.{AreJoined, HasRun}
 use Rattle.serve_session.specs.Lists.{AreActors, AreFresh, CanWork, HasDone, IsFreshWorker, IsReady}
@@ -69,7 +69,7 @@ end_workers-unfetched-requires-clause-done g c =
     let whole : c.add_workers.new.workers.len ≡ length c.run_beside.new.workers = c.add_workers.new.workers.ok.0 ∙ ap length (sym c.as_mut_slice-hands.ensures.value) ∙ sym c.run_beside.ensures.workers.count in
     let all = written_all c.add_workers.new.workers.len c.run_beside.new.workers (drop (length c.run_beside.new.workers) c.add_workers.new.workers.items) whole in
     subst (All (HasDone lock)) (sym all)
-    (all_done disk lock c.add_actors.new.first c.in-Ok.claims (c.in-Ok.claims.limit + 1) c.as_mut_slice-hands.result.now c.run_beside.new.workers (omega (arith, c.in-Ok.ensures.counter.0, c.ranges.stripes.fits)) (ap (λ s. s.lock) c.add_actors.ensures.seat ∙ ap (λ s. s.lock) c.in-Ok-new.ensures.ok)
+    (all_done disk lock c.add_actors.new.first c.in-Ok.claims (4 * c.in-Ok.claims.limit + 1) c.as_mut_slice-hands.result.now c.run_beside.new.workers (omega (arith, c.in-Ok.ensures.counter.0, c.ranges.stripes.fits)) (ap (λ s. s.lock) c.add_actors.ensures.seat ∙ ap (λ s. s.lock) c.in-Ok-new.ensures.ok)
     (subst (All (IsFreshWorker disk c.add_actors.new.first c.in-Ok.claims)) (sym c.as_mut_slice-hands.ensures.value) c.add_workers.ensures.fresh) c.run_beside.ensures.workers)
 
 pub close-chain-requires-clause-all : goal.close-chain-requires-clause-all

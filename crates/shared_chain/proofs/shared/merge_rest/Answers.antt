@@ -1,4 +1,4 @@
-use Rattle.std.proofs.Common.{Err, Ok, subst, sym, ◌∙◌}
+use Rattle.std.proofs.Common.{Err, subst, sym, ◌∙◌}
 use Rattle.script_session.specs.MergeSteps.{AnswersCopy}
 use Rattle.shared_chain.specs.Homes.{session_of}
 use Rattle.shared_chain.proofs.Rest.{Rest, ends_none, ends_other, finished, stopped}

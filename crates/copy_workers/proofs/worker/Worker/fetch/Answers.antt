@@ -6,4 +6,4 @@ pub returns-clause-source : goal.returns-clause-source
 returns-clause-source g c = source_kept g.S.Store.disk c.args.self.now.seat.basis c.args.self.now.reads c.fetch.new.self c.requires.source c.fetch.ensures.same
 
 pub returns-clause-fetched : goal.returns-clause-fetched
-returns-clause-fetched g c = ok_then c.fetch.result (fetched_by g.S.Store.disk c.args.self.now.seat.basis c.args.self.now.reads c.args.stripe c.fetch.new.piece c.requires.source) c.fetch.ensures.fetched
+returns-clause-fetched g c = ok_then c.fetch.result (fetched_by g.S.Store.disk c.args.self.now.seat c.args.self.now.reads c.args.stripe c.fetch.new.piece c.requires.source) c.fetch.ensures.fetched
