@@ -62,3 +62,4 @@ pub mod SealedReady
 pub mod SealedSteps
 pub mod SealedReaders
 pub mod OfSource
+mod Skipped

@@ -18,10 +18,9 @@ use Rattle.merge_plan.specs.Merging.{GivesLocator, KeepsLinks, MergeFiles, child
 use Rattle.merge_plan.specs.declared.drawing.LogIds.{LogIds}
 use Rattle.merge_plan.specs.declared.drawing.MergeIds.{MergeIds}
 use Rattle.merge_plan.specs.declared.merge.Merge.{Merge}
-use Rattle.chain_core.specs.MergeStarting.{ServesMerge, StartsMerge, behind_first, chain_files, data_session, leaf_of, log_session, session_of, source_in, started_merge, target_place}
+use Rattle.chain_core.specs.MergeStarting.{ServesMerge, StartsMerge, behind_first, chain_files, data_session, leaf_of, log_session, session_of, source_in, target_place}
 use Rattle.chain_core.specs.Starting.{AreReadOf}
 use Rattle.merge_plan.specs.Attached.{CanStart}
-use Rattle.chain_core.specs.States.{IsServing}
 use Rattle.chain_core.specs.declared.layers.Layers.{Layers}
 use Rattle.chain_core.specs.declared.layers.Underway.{Underway}
 use Rattle.chain_core.proofs.Numbers.{from_one, up_to_last, up_to_next, up_to_second}

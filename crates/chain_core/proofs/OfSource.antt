@@ -1,21 +1,17 @@
 -- The source of a merge, as its readers read it.
-use Rattle.std.proofs.Common.{◌≡◌, ◌≢◌, ◌∙◌, ℕ, Bool, List, true, false, not, refl, sym, ap, subst}
+use Rattle.std.proofs.Common.{◌≡◌, ◌∙◌, ℕ, List, true, false, not, refl, sym, ap, subst}
 use Rattle.std.specs.Prelude.{None, Ok, Option, Some, option_map}
-use Rattle.store_model.specs.Disk.{Disk, Sealed, WhereTold, reader_of}
+use Rattle.store_model.specs.Disk.{Disk, WhereTold, reader_of}
 use Rattle.store_model.specs.File.{seen}
 use Rattle.store_model.specs.Trace.{Trace, file_of}
 use Rattle.table_pages.specs.declared.tables.TableParts.{TableParts}
 use Rattle.chain_model.specs.Images.{Placed}
-use Rattle.chain_model.specs.Layers.{Layer as SectorLayer}
-use Rattle.chain_model.specs.Merges.{Piece}
-use Rattle.merge_core.specs.Pieces.{IsTaken}
 use Rattle.layer_session.specs.ReadOnly.{IsRead}
 use Rattle.layer_session.specs.declared.file_layer.FileLayer.{FileLayer}
 use Rattle.layer_session.specs.declared.file_layer.FileLayer.TheVariants.{Read}
 use Rattle.layer_session.specs.declared.read_layer.ReadLayer.{ReadLayer}
 use Rattle.sealed_layer.specs.Planned.{files_in}
 use Rattle.sealed_layer.specs.Sealed.{HoldsSealed, IsForReaders, ReadsBytes}
-use Rattle.chain_core.specs.Copying.{Takes, number_at_source, source_number}
 use Rattle.chain_core.specs.Sealed.{IsSealedSource, reads_in, reads_source}
 use Rattle.chain_core.specs.Sessions.{AreReady}
 use Rattle.chain_core.specs.declared.layers.Layers.{Layers}

@@ -128,7 +128,7 @@ pub some_failed : (x : FileLayer) (before after : Disk) (answer : Result (Unit {
 some_failed x before after (Ok done) can failed = tt
 some_failed x before after (Err fault) can failed = (subst (λ (n : ℕ). n < before.files) (sym failed.of_file) (file_there x before can), subst (λ (n : ℕ). ReadFailed n before after fault) (sym failed.of_file) failed)
 
-source_reads : (old new : Layers) (u : Underway) (x next : FileLayer) (before after : Disk) (answer : Result (Unit {0}) StoreFault) → AreReady old before → IsAt old.below.items u.source x
+pub source_reads : (old new : Layers) (u : Underway) (x next : FileLayer) (before after : Disk) (answer : Result (Unit {0}) StoreFault) → AreReady old before → IsAt old.below.items u.source x
     → new.geometry ≡ old.geometry → new.leaf ≡ old.leaf → new.merge ≡ old.merge → new.retiring ≡ old.retiring → new.below.items ≡ set old.below.items u.source next → IsSameFile x next before → OnOk answer (after ≡ before) → IfErr answer (ReadFailed (number_of x) before after)
     → HasOnlyRead old new before after
 source_reads old new u x next before after answer ready at g l m q items same done failed =
@@ -147,7 +147,7 @@ number_of_source layers u x merge_is at =
     ∙ ap (number_at_source layers) (sym merge_is)
 
 -- a read that fails is one of its file
-whose : (layers : Layers) (u : Underway) (x : FileLayer) (before after : Disk) (answer : Result (Unit {0}) StoreFault) → layers.merge ≡ Some u → IsAt layers.below.items u.source x → IfErr answer (ReadFailed (number_of x) before after)
+pub whose : (layers : Layers) (u : Underway) (x : FileLayer) (before after : Disk) (answer : Result (Unit {0}) StoreFault) → layers.merge ≡ Some u → IsAt layers.below.items u.source x → IfErr answer (ReadFailed (number_of x) before after)
     → IfErr answer (λ fault. fault.file ≡ source_number layers)
 whose layers u x before after (Ok done) merge_is at failed = tt
 whose layers u x before after (Err fault) merge_is at failed = failed.of_file ∙ number_of_source layers u x merge_is at

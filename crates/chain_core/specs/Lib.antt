@@ -15,3 +15,4 @@ pub mod MergeStarting
 pub mod LeafStarting
 pub mod Planned
 pub mod Sealed
+pub mod Skipping

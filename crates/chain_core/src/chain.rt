@@ -48,9 +48,9 @@ const MOST_TRIMMED: u64 = 524_288;
 
 /// A chain of files in a session: its store, its history, and the layers of its files.
 pub struct Chain<S: Store, R: Recorder> {
-    store: S,
+    pub(crate) store: S,
     recorder: R,
-    layers: Layers,
+    pub(crate) layers: Layers,
     /// How many events there were.
     events: u64,
     /// The fault that broke the session.
@@ -160,7 +160,7 @@ impl<S: Store, R: Recorder> Chain<S, R> {
     }
 
     // Refuses an event where no more are counted or the session is broken.
-    fn check_fit(&self) -> Result<(), ChainRefusal>
+    pub(crate) fn check_fit(&self) -> Result<(), ChainRefusal>
         ensures ok { OnOk result (unfit self.now.events self.now.broken ≡ None) }
         ensures err { IfErr result (λ e. unfit self.now.events self.now.broken ≡ Some e) }
     {
@@ -505,7 +505,7 @@ impl<S: Store, R: Recorder> Chain<S, R> {
     }
 
     // The merge has a stripe of this number; refused where none is under way, or it has no such stripe.
-    fn find_stripe(&self, stripe: u32) -> Result<(), ChainRefusal>
+    pub(crate) fn find_stripe(&self, stripe: u32) -> Result<(), ChainRefusal>
         requires { HasEachStripe self.now.layers }
         ensures ok { OnOk result (no_stripe stripe self.now.layers ≡ None) }
         ensures err { IfErr result (λ e. no_stripe stripe self.now.layers ≡ Some e) }

@@ -10,6 +10,7 @@ mod layers;
 mod leaf_start;
 mod merge_start;
 mod sealing;
+mod skips;
 mod starting;
 
 pub use answer::Answer;

@@ -2,18 +2,18 @@
 use Rattle.std.proofs.Common.{◌≡◌, ◌≢◌, ℕ, zero, suc, ◌+◌, ◌-◌, ◌*◌, ◌/◌, ◌%◌, ◌^◌, ◌<◌, ◌≤◌, ◌⊎◌, ◌==◌, Bool, true, false, All, List, [], ◌∷◌, ◌++◌, length, Some, refl, sym, ap, subst, ◌∙◌, arith, inl, inr, if◌then◌else◌}
 use Rattle.std.specs.Prelude.{nat_lt}
 use Rattle.std.proofs.lemmas.Bool.{and_parts, cases_Bool, cases_eq, cases_lt, eqb-true, leb-true, or_cases}
-use Rattle.std.proofs.Math.Nat.{add-mul, mul-div_cancel}
+use Rattle.std.proofs.Math.Nat.{add-mul}
 use Rattle.std.proofs.lemmas.List.Elements.{All-append}
 use Rattle.vx_base.specs.Fields.{u64_bytes, written_over}
-use Rattle.std.proofs.lemmas.Nat.{div-add-mod', mod_below, pow-add}
+use Rattle.std.proofs.lemmas.Nat.{div-add-mod', mod_below}
 use Rattle.vhdx_format.proofs.MadeOpen.{block_units}
-use Rattle.vhdx_format.specs.AllocationTables.{IsBlockSize, state_of, unit_of}
+use Rattle.vhdx_format.specs.AllocationTables.{state_of, unit_of}
 use Rattle.vhdx_format.specs.Fields.{megabyte}
 use Rattle.vhdx_format.specs.FileParts.{shape_of}
 use Rattle.vhdx_format.specs.HeldBlocks.{Area, HoldsBlock, IsPayloadEntry, payload}
 use Rattle.vhdx_format.specs.Layers.{HasSizes, Shape, block_of, chunk_ratio_of, entry_of, place_at, state_at, table_entry}
 use Rattle.vhdx_format.proofs.LayerLemmas.{entries_apart, sector_entries}
-use Rattle.vhdx_format.proofs.SizeLemmas.{block_least, block_power, ratio_in_range}
+use Rattle.vhdx_format.proofs.SizeLemmas.{block_least, ratio_in_range}
 use Rattle.store_model.specs.Disk.{Disk, WhereTold}
 use Rattle.store_model.specs.File.{seen}
 use Rattle.store_model.specs.Trace.{Trace, file_of}

@@ -13,12 +13,10 @@ use Rattle.chain_model.specs.Members.{layers_of}
 use Rattle.chain_model.specs.Moments.{IsPhase}
 use Rattle.chain_model.specs.PhaseLaws.{loosened}
 use Rattle.chain_model.specs.Sessions.{ShowsFile}
-use Rattle.layer_session.specs.Calls.{AddsOwned, IsBeside, IsSame, KeepsOver, PutsInto, loose_or_named, own_file}
+use Rattle.layer_session.specs.Calls.{AddsOwned, IsBeside, KeepsOver, PutsInto, loose_or_named, own_file}
 use Rattle.layer_session.specs.FileLayers.{AreOthers, AreReadableFiles, AreReadyFiles, AreSameFiles, FileCanBeRead, FileIsReady, FileLayersStand, HasFile, HaveFiles, Hold, Holds, IsReadableFile, IsSameFile, LeavesOthers, OthersStand, file_numbers, number_of, table_parts}
 use Rattle.layer_session.specs.Keeping.{IsHeld, IsReady, Serves}
-use Rattle.layer_session.specs.ReadOnly.{IsSameRead}
 use Rattle.layer_session.specs.declared.file.Layer.{Layer}
-use Rattle.layer_session.specs.declared.read_layer.ReadLayer.{ReadLayer}
 use Rattle.layer_session.specs.declared.file_layer.FileLayer.{FileLayer}
 use Rattle.layer_session.specs.declared.file_layer.FileLayer.TheVariants.{Session, Read}
 use Rattle.layer_session.proofs.Owned.{adds_over}

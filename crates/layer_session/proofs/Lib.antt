@@ -95,3 +95,4 @@ pub mod Handing
 pub mod Known
 pub mod Whereabout
 pub mod Finding
+mod Absences

@@ -1,5 +1,5 @@
 -- What is planned for a block is done.
-use Rattle.std.proofs.Common.{◌≡◌, ◌≢◌, ℕ, ◌+◌, ◌-◌, ◌*◌, ◌/◌, ◌%◌, ◌^◌, ◌<◌, ◌≤◌, ◌⊎◌, ◌==◌, ◌&&◌, ◌||◌, min, Bool, true, false, length, Option, Some, refl, sym, ap, subst, ◌∙◌, arith, inl, inr, eq-eqb, if◌then◌else◌}
+use Rattle.std.proofs.Common.{◌≡◌, ◌≢◌, ℕ, ◌+◌, ◌-◌, ◌*◌, ◌/◌, ◌%◌, ◌^◌, ◌<◌, ◌≤◌, ◌⊎◌, ◌==◌, ◌&&◌, ◌||◌, min, Bool, true, false, length, Some, refl, sym, ap, subst, ◌∙◌, arith, inl, inr, eq-eqb, if◌then◌else◌}
 use Rattle.std.proofs.lemmas.Bool.{and_parts, cases_Bool, cases_eq, eqb-true}
 use Rattle.layer_session.proofs.Leading.{keeps_now}
 use Rattle.vx_base.specs.Fields.{zeros}
@@ -12,14 +12,11 @@ use Rattle.vhdx_format.proofs.LayerLemmas.{by_state-base, by_state-zeros, sector
 use Rattle.store_model.specs.Disk.{Disk, WhereBothTold, WhereTold}
 use Rattle.store_model.specs.Trace.{Trace, file_of}
 use Rattle.store_model.specs.File.{seen}
-use Rattle.store_model.proofs.Spans.{EachMoment-now}
 use Rattle.table_pages.specs.Held.{held}
 use Rattle.table_pages.specs.Held as table_words
 use Rattle.table_pages.specs.declared.tables.TableParts.{TableParts}
 use Rattle.chain_model.specs.Images.{Placed}
 use Rattle.chain_model.specs.Layers as chain
-use Rattle.chain_model.specs.Moments.{HasWholeImages}
-use Rattle.chain_model.specs.Sessions.{ShowsFile}
 use Rattle.layer_session.specs.declared.file.Layer.{Layer}
 use Rattle.layer_session.specs.declared.file.LayerFault.{LayerFault}
 use Rattle.layer_session.specs.declared.planning.Plan.{Plan}
@@ -32,7 +29,6 @@ use Rattle.layer_session.specs.Steps.{DropsBlock, IsMade, IsToDo, held_by}
 use Rattle.layer_session.specs.Taking.{HasMade, IsAbsent, IsBroken, KeepsOthers, MayBeMade, whole}
 use Rattle.layer_session.proofs.Alike.{block_in_file}
 use Rattle.layer_session.proofs.Beside.{among}
-use Rattle.layer_session.proofs.Crashes.{layers_are_kept}
 use Rattle.layer_session.proofs.Entered.{held_as_long, sizes}
 use Rattle.layer_session.proofs.Going.{ready_next}
 use Rattle.layer_session.proofs.Marks.{Marks, marks_bits, marks_others, marks_serves, marks_state}

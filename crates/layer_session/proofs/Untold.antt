@@ -2,7 +2,7 @@
 use Rattle.std.proofs.Common.{◌≡◌, ◌<◌, ℕ, List, [], All, refl, sym, ap, subst, ◌∙◌}
 use Rattle.std.specs.Prelude.{Option, Some, None, Result, Ok, Err, IfErr, OnErr, OnOk}
 use Rattle.store_model.specs.Disk.{ChangeFailed, Disk, LeavesTorn, WhereBothTold, WriteFailed, changed, nothing, told_after, torn}
-use Rattle.store_model.specs.File.{Op, Sync}
+use Rattle.store_model.specs.File.{Op}
 use Rattle.store_model.specs.Plans.{FailsToChange, at_sync}
 use Rattle.store_model.specs.Trace.{Trace}
 use Rattle.store_model.specs.declared.fault.StoreFault.{StoreFault}

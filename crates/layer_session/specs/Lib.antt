@@ -25,3 +25,4 @@ pub mod ByLayers
 pub mod ByFiles
 pub mod Locating
 pub mod Found
+pub mod Absent

@@ -1,7 +1,6 @@
 -- What reading runs of sectors asks: of tables and their file, of the sectors, and of the slices that they are read into.
 use Rattle.std.specs.Prelude.{◌≡◌, ℕ, ◌+◌, ◌*◌, ◌%◌, ◌^◌, ◌<◌, ◌≤◌, true, List, length}
 use Rattle.store_model.specs.Disk.{Disk}
-use Rattle.table_pages.specs.declared.tables.TableParts.{TableParts}
 use Rattle.table_pages.specs.declared.tables.Tables.{Tables}
 use Rattle.layer_session.specs.ByTables.{HasStored}
 use Rattle.layer_session.specs.TablesRead.{AreBitsThere, AreReadable}

@@ -1,6 +1,7 @@
 //! A file in a session, as the layer that it is in a chain.
 #![tactic(auto)]
 
+mod absence;
 mod file;
 mod file_layer;
 mod geometry;

@@ -1,3 +1,4 @@
 mod PieceLemmas
 mod Marked
 pub mod Touching
+mod Passed

@@ -1,17 +1,21 @@
 -- The sectors of a stripe that a disk has.
-use Rattle.std.specs.Prelude.{◌≡◌, ◌<◌, ℕ, ◌+◌, ◌-◌, ◌*◌, Bool, true, [], ◌∷◌, ◌++◌, length, min, nat_le, ◌&&◌}
+use Rattle.std.specs.Prelude.{◌≡◌, ◌<◌, ℕ, ◌+◌, ◌-◌, ◌*◌, ◌/◌, ◌==◌, if◌then◌else◌, Bool, true, [], ◌∷◌, ◌++◌, length, min, nat_le, ◌&&◌}
 use Rattle.guest_model.specs.declared.call.Call.{Call}
 use Rattle.guest_model.specs.declared.call.Entry.{Entry}
 use Rattle.guest_model.specs.Calls.{changes, first_sector, sector_count}
 use Rattle.guest_model.specs.History.{History}
 use Rattle.chain_model.specs.Merges.{marks_after}
-use Rattle.chain_model.specs.Stripes.{per_stripe, stamp, stripe_of, touches}
+use Rattle.chain_model.specs.Stripes.{per_stripe, stamp, stripe_count, stripe_of, touches}
 use Rattle.merge_core.specs.Copied.{without_marks}
 use Rattle.merge_core.specs.Stamping.{with_stamps}
 
 -- how many sectors of a stripe a disk of n sectors of z bytes has
 abbrev pub range_count : ℕ → ℕ → ℕ → ℕ
 range_count stripe z n = min (per_stripe z) (n - stripe * per_stripe z)
+
+-- how many stripes from this one on have all their sectors among so many from its first one on, on a disk of n sectors of z bytes
+abbrev pub whole_stripes : ℕ → ℕ → ℕ → ℕ → ℕ
+whole_stripes from count z n = if from * per_stripe z + count == n then stripe_count z n - from else count / per_stripe z
 
 -- the first and the last stripe of which a call has a sector
 abbrev pub first_touched : ℕ → Call → ℕ

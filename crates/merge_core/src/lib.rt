@@ -5,6 +5,7 @@
 mod laws;
 mod marking;
 mod marks;
+mod passes;
 mod piece;
 mod putting;
 mod stamps;
@@ -13,6 +14,7 @@ mod taking;
 
 pub use laws::calls_touch_ranges;
 pub use marks::Marks;
+pub use passes::{pass, pass_own};
 pub use piece::Piece;
 pub use putting::put_piece;
 pub use stamps::Stamps;

@@ -1,8 +1,8 @@
 //! Marks of the stripes that are copied.
 
-ghost use Rattle.std.specs.Prelude.{◌≡◌, ◌≢◌, ◌*◌, ◌<◌, ◌≤◌, ℕ, Bool, true, false, IfOk, MatchOption, length};
+ghost use Rattle.std.specs.Prelude.{◌≡◌, ◌≢◌, ◌+◌, ◌*◌, ◌<◌, ◌≤◌, ℕ, Bool, true, false, IfOk, MatchOption, length};
 ghost use Rattle.vhdx_format.specs.SectorBitmaps.{bit_of};
-ghost use Rattle.chain_model.specs.Merges.{AllMarked, with_mark, without_mark};
+ghost use Rattle.chain_model.specs.Merges.{AllMarked, with_mark, with_marks, without_mark};
 ghost use Rattle.merge_core.specs.Copied.{IsLowest, marks_of, without_marks};
 
 use crate::marks::Marks;
@@ -87,6 +87,30 @@ impl Marks {
             self.low = past_gap(
                 self.bits.as_slice(),
                 stripe + 1,
+                self.gap,
+                self.until,
+                self.stripes,
+            );
+        }
+    }
+
+    /// Marks so many stripes from `first` on, whole bytes of marks at once.
+    pub fn mark_range(&mut self, first: u32, count: u32)
+        requires there { first + count ≤ self.old.stripes }
+        ensures marks { (t : ℕ) → marks_of self.new t ≡ with_marks first count (marks_of self.old) t }
+        ensures stripes { self.new.stripes ≡ self.old.stripes }
+    {
+        let end = first + count;
+        set_range(
+            self.bits.as_mut_slice(),
+            first as usize,
+            count as usize,
+            true,
+        );
+        if first <= self.low && self.low < end {
+            self.low = past_gap(
+                self.bits.as_slice(),
+                end,
                 self.gap,
                 self.until,
                 self.stripes,

@@ -3,6 +3,7 @@
 ghost use Rattle.std.specs.Prelude.{◌≡◌, ◌+◌, ◌-◌, ◌*◌, ◌^◌, ◌<◌, ◌≤◌, min};
 ghost use Rattle.vhdx_format.specs.AllocationTables.{IsSectorSize};
 ghost use Rattle.chain_model.specs.Stripes as stripes;
+ghost use Rattle.merge_core.specs.Ranges as ranges;
 ghost use Rattle.merge_core.specs.Ranges.{range_count};
 
 use vx_base::Geometry;
@@ -48,6 +49,25 @@ pub fn stripe_range(stripe: u32, geometry: Geometry) -> (u64, u64)
     let per = per_stripe(geometry.sector);
     let first = u64::from(stripe) * per;
     (first, per.min(geometry.sectors - first))
+}
+
+/// How many stripes from this one on have all their sectors among so many from its first one on. What the disk has of its last stripe is all
+/// of it.
+pub(crate) fn whole_stripes(from: u32, count: u64, geometry: Geometry) -> u32
+    requires sector { IsSectorSize geometry.sector }
+    requires size { geometry.sectors * geometry.sector ≤ 2 ^ 46 }
+    requires there { from < stripes.stripe_count geometry.sector geometry.sectors }
+    requires on_disk { from * stripes.per_stripe geometry.sector + count ≤ geometry.sectors }
+    ensures is { result ≡ ranges.whole_stripes from count geometry.sector geometry.sectors }
+    ensures there { from + result ≤ stripes.stripe_count geometry.sector geometry.sectors }
+    ensures few { from + result ≤ 2 ^ 26 }
+{
+    let per = per_stripe(geometry.sector);
+    let stripes = stripe_count(geometry);
+    if u64::from(from) * per + count == geometry.sectors {
+        return stripes - from;
+    }
+    (count / per) as u32
 }
 
 /// The first and the last stripe of which so many sectors from `first` on have some.
