@@ -19,7 +19,7 @@ use Rattle.chain_core.specs.declared.layers.Retiring.{Retiring}
 use Rattle.chain_core.specs.declared.layers.Underway.{Underway}
 use Rattle.script.specs.declared.form.Line.{Line}
 use Rattle.script_session.specs.Answers.{Answers, AnswersLine, AnswersLines, HasCauseOf}
-use Rattle.script_session.specs.MergeSteps.{AnswersCopy, AnswersFetch, AnswersFinish, AnswersPut, AnswersTurn, AnswersTurns, EndsCopy, IsUnchanged, all_moved, fetched_and, no_turn, not_fetched, one_more, one_refused}
+use Rattle.script_session.specs.MergeSteps.{AnswersCopy, AnswersFetch, AnswersFinish, AnswersPut, AnswersTurn, AnswersTurns, EndsCopy, IsUnchanged, all_moved, fetched_and, no_turn, not_fetched, one_more, one_refused, passed_over}
 use Rattle.script_session.specs.Told.{Asked, Told, asked, asks_call, asks_copy, asks_fetch, asks_finish, asks_put, caller, next_number}
 use Rattle.script_session.proofs.Moving.{first_of}
 use Rattle.script_session.proofs.Room.{changes_none}
@@ -92,6 +92,7 @@ turn_untold stripe answer old new none (fetched_and _ stamp _ mid _ piece fetche
 
 turns_untold : (old : Session) (slot : Piece) (new : Session) (left : Piece) → old.disk.told ≡ None → AnswersTurns old slot new left → new.disk.told ≡ None
 turns_untold old slot _ _ none no_turn = none
+turns_untold old slot new left none (passed_over stripe n mid _ held _ turns next skip empty) = ap (λ (d : Disk). d.told) skip.disk ∙ turns_untold old slot mid held none turns
 turns_untold old slot new left none (one_more stripe mid _ held _ turns next turn empty) = turn_untold stripe (Ok tt) mid new (turns_untold old slot mid held none turns) turn
 
 copy_untold : (answer : Result (Unit {0}) ChainRefusal) (old new : Session) (slot left : Piece) → old.disk.told ≡ None → AnswersCopy answer old slot new left → new.disk.told ≡ None

@@ -8,7 +8,7 @@ use Rattle.store_model.specs.Trace.{Trace}
 use Rattle.guest_model.specs.declared.refusal.ChainRefusal.{ChainRefusal}
 use Rattle.guest_model.specs.declared.refusal.ChainRefusal.TheVariants.{Abandoned, Broken, EmptyRange, FileFull, NoMerge, NoPiece, NoRoom, NoStripe, NotYet, OutOfRange, ReadFault, ReadOnly, Spent, Stale, TooLong}
 use Rattle.chain_model.specs.Merges as merges
-use Rattle.chain_model.specs.Merges.{AllMarked, with_mark}
+use Rattle.chain_model.specs.Merges.{AllMarked, with_mark, with_marks}
 use Rattle.chain_model.specs.Stripes.{stripe_count}
 use Rattle.merge_core.specs.Copied.{IsLowest, marks_of}
 use Rattle.merge_core.specs.Pieces.{piece_of}
@@ -17,12 +17,14 @@ use Rattle.chain_core.specs.Answering.{HasEnded, IsRefused, fault_of}
 use Rattle.chain_core.specs.Copying.{FetchCause, HasMarked, IfStopped, IsMissing, IsOfStripe, PieceAnswers, PutCause, TargetRoomIs, fetch_refused, merge_refused, no_merge, no_stripe, past_stripes, put_refused, stale, stamp_of, unfilled}
 use Rattle.chain_core.specs.Finished.{IsAllMarked}
 use Rattle.chain_core.specs.Merging.{IsCopied, with_put}
+use Rattle.chain_core.specs.Skipping.{with_passed}
+use Rattle.store_model.specs.Disk.{Disk}
 use Rattle.chain_core.specs.Refusing.{broken_by, or_else, unfit}
 use Rattle.chain_core.specs.Sessions.{IsSound, KeepsMerge, Session, kept_marks}
 use Rattle.chain_core.specs.States.{IsServing, State, sector_of}
 use Rattle.script_session.specs.Histories.{Drive, Grows, IsEndTold, IsMarkedSo, IsOver, IsSoLong, IsWaiting, StopsPut, Waiting, stamp_behind, stripes_of}
-use Rattle.script_session.proofs.Marked.{Marked, marked_kept, marked_of, marked_put, stamped}
-use Rattle.script_session.specs.MergeSteps.{AnswersFetch, AnswersPut, IsUnchanged, KeepsHistory}
+use Rattle.script_session.proofs.Marked.{Marked, marked_kept, marked_of, marked_passed, marked_put, stamped}
+use Rattle.script_session.specs.MergeSteps.{AnswersFetch, AnswersPut, AnswersSkip, IsUnchanged, KeepsHistory}
 use Rattle.script_session.proofs.Moving.{ok_reached}
 use Rattle.script_session.proofs.Lengths.{grows_none, long_later, moments_grow}
 use Rattle.script_session.proofs.Room.{each_stripe, target_is_far}
@@ -70,7 +72,7 @@ module _ (drive : Drive) (v : State) (s : Session) (now : Trace) (l : Bool) (cop
   none_barred : no_merge s.layers ≡ None
   none_barred = ap (λ b. if b then None else Some NoMerge) has.there
 
-  stripes_are : stripe_count s.layers.geometry.sector s.layers.geometry.sectors ≡ stripes_of drive
+  pub stripes_are : stripe_count s.layers.geometry.sector s.layers.geometry.sectors ≡ stripes_of drive
   stripes_are = ap (λ (g : Geometry). stripe_count g.sector g.sectors) c.over.geometry
 
   past_is : (stripe : ℕ) → no_stripe stripe s.layers ≡ past_stripes stripe (stripes_of drive)
@@ -272,3 +274,24 @@ module _ (drive : Drive) (v : State) (old : Session) (trace : Trace) (l : Bool) 
       let after = both_told _ old.disk.told new.disk.told trace c.seen (h.told none) in
       let far : IsFar v.writes trace x = λ next e. target_is_far piece next v old trace (h.sound.ready c.whole) (has drive v old trace l copied c).there c.serving c.seen (subst (λ y. TargetRoomIs piece old.layers old.disk (Err y)) e (h.room none)) in
       (after.0, after.1, put_outcome drive v old new trace after.0 l copied piece (λ keeps. marked_kept l old.layers new.layers copied keeps c.marks) (over_kept drive v old new c.over h.keeps) after.1 x far (h.cause none) (after.2 v c.serving held.is_true))
+
+-- ---- a pass
+
+over_pass : (drive : Drive) (from n : ℕ) (v : State) (s : Session) → IsOver drive v s → IsOver drive (with_passed from n v) s
+over_pass drive from n v s over = record { geometry = over.geometry; change = over.change; opening = over.opening; sector = over.sector; noted = over.noted; kept = over.kept }
+
+pub passed_so : (drive : Drive) (v : State) (old : Session) (trace : Trace) (l : Bool) (copied : ℕ → Bool) → IsCopying drive v old trace l copied → (stripe n : ℕ) (new : Session) → AnswersSkip stripe n old new
+    → IsCopying drive (with_passed stripe n v) new trace l (with_marks stripe n copied)
+passed_so drive v old trace l copied c stripe n new h =
+    let after = both_told _ old.disk.told new.disk.told trace c.seen h.told in
+    let same : after.0 ≡ trace = same_some (sym after.1 ∙ ap (λ (d : Disk). d.told) h.disk ∙ c.seen) in
+    record {
+      whole = h.whole;
+      serving = subst (IsServing new.layers (with_passed stripe n v)) same (after.2 v c.serving).serving;
+      marks = marked_passed l stripe n old.layers new.layers copied h.passed c.marks;
+      over = over_pass drive stripe n v new (over_kept drive v old new c.over h.keeps);
+      seen = ap (λ (d : Disk). d.told) h.disk ∙ c.seen;
+    }
+  where
+    same_some : {a b : Trace} → ◌≡◌ {A = Option Trace} (Some a) (Some b) → a ≡ b
+    same_some h = cc

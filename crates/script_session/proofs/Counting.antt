@@ -28,7 +28,7 @@ use Rattle.merge_core.specs.declared.piece.Piece.{Piece}
 use Rattle.script.specs.Transcript.{of_call}
 use Rattle.script.specs.declared.form.Line.{Line}
 use Rattle.script_session.specs.Answers.{Answers, AnswersCall, AnswersLine, AnswersLines, HasCauseOf, as_copied, as_done, with_reply, with_stamp}
-use Rattle.script_session.specs.MergeSteps.{AnswersCopy, AnswersFetch, AnswersFinish, AnswersPut, AnswersTurn, AnswersTurns, EndsCopy, IsUnchanged, all_moved, fetched_and, no_turn, not_fetched, one_more, one_refused}
+use Rattle.script_session.specs.MergeSteps.{AnswersCopy, AnswersFetch, AnswersFinish, AnswersPut, AnswersTurn, AnswersTurns, EndsCopy, IsUnchanged, all_moved, fetched_and, no_turn, not_fetched, one_more, one_refused, passed_over}
 use Rattle.script_session.specs.Faults.{Counts, CountsFaults, IsFailedChange, IsFaultOf, LinesCountFaults}
 use Rattle.script_session.specs.Told.{Asked, Told, asked, asks_call, asks_copy, asks_fetch, asks_finish, asks_put, caller, fault_of, last_fault, later_of, next_number}
 use Rattle.script_session.proofs.Moving.{ok_reached}
@@ -435,6 +435,8 @@ turn_fault stripe x old new whole (fetched_and _ stamp _ mid _ piece fetched put
 
 turns_rest : (old : Session) (slot : Piece) (new : Session) (left : Piece) → old.broken ≡ None → AnswersTurns old slot new left → Rests old new
 turns_rest old slot _ _ whole no_turn = record { whole = whole; same = refl }
+turns_rest old slot new left whole (passed_over stripe n mid _ held _ turns next skip empty) =
+    both_rest old mid new (turns_rest old slot mid held whole turns) (record { whole = skip.whole; same = same_told mid.disk new.disk skip.disk })
 turns_rest old slot new left whole (one_more stripe mid _ held _ turns next turn empty) = both_rest old mid new (turns_rest old slot mid held whole turns) (turn_rests stripe mid new turn)
 
 by_fault : (x : ChainRefusal) (old new : Session) → Fault old new x → LineCounts (Err x) old new

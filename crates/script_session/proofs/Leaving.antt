@@ -1,6 +1,6 @@
 -- A step of a merge leaves a later state of what its session serves.
 use Rattle.std.proofs.Common.{◌≡◌, ◌==◌, ℕ, Bool, true, false, Option, Some, None, Result, Ok, Err, refl, sym, ap, subst, ◌∙◌}
-use Rattle.std.specs.Prelude.{⊤, IfErr, IfSome, OnOk, if◌then◌else◌, nat_lt, ◌^◌, ◌||◌, is_some}
+use Rattle.std.specs.Prelude.{⊤, IfErr, IfSome, OnOk, if◌then◌else◌, nat_lt, ◌^◌}
 use Rattle.vx_base.specs.declared.parts.Geometry.{Geometry}
 use Rattle.store_model.specs.declared.fault.StoreFault.{StoreFault}
 use Rattle.store_model.specs.Trace.{Trace}
@@ -17,15 +17,16 @@ use Rattle.chain_core.specs.Merging.{IsTruePiece, with_put}
 use Rattle.chain_core.specs.Refusing.{broken_by, or_else, unfit}
 use Rattle.chain_core.specs.Sessions.{Session, has_merge}
 use Rattle.chain_core.specs.declared.layers.Layers.{Layers}
-use Rattle.chain_core.specs.States.{IsServing, LeavesOthers, State, dirty_now, disk_now, sector_of}
+use Rattle.chain_core.specs.States.{IsServing, State, dirty_now, disk_now}
 use Rattle.script_session.specs.Histories.{Grows, IsEndTold, IsLater}
-use Rattle.script_session.specs.MergeSteps.{AnswersFetch, AnswersFinish, AnswersPut, AnswersTurn, IsUnchanged, fetched_and, not_fetched}
-use Rattle.script_session.specs.StepsLeft.{FetchesLeave, FinishesLeave, IsFullAt, IsLeft, PutsLeave, TurnsLeave, unstamped}
+use Rattle.script_session.specs.MergeSteps.{AnswersFetch, AnswersFinish, AnswersPut, AnswersSkip, AnswersTurn, IsUnchanged, fetched_and, not_fetched}
+use Rattle.script_session.specs.StepsLeft.{FetchesLeave, FinishesLeave, IsFullAt, IsLeft, PutsLeave, SkipsLeave, TurnsLeave, unstamped}
 use Rattle.script_session.specs.Told.{Told}
 use Rattle.std.proofs.lemmas.Option.{same_Some}
-use Rattle.store_model.specs.Disk.{WhereBothTold}
+use Rattle.store_model.specs.Disk.{Disk, WhereBothTold}
+use Rattle.chain_core.specs.Skipping.{with_passed}
 use Rattle.script_session.proofs.Content.{fetch_untold, finish_untold, put_untold, turn_untold}
-use Rattle.script_session.proofs.LeftFiles.{later_itself, later_put}
+use Rattle.script_session.proofs.LeftFiles.{later_itself, later_pass, later_put}
 use Rattle.script_session.proofs.Lengths.{end_later, free_by, grows_none, grows_on, long_later, moments_grow}
 use Rattle.script_session.proofs.Moving.{ok_reached, parts_none}
 use Rattle.script_session.proofs.Room.{target_is_far}
@@ -305,6 +306,28 @@ turn_leaves stripe _ _ _ v trace seen whole serving (fetched_and answer stamp ol
     let f = fetch_ok v old trace seen whole serving stripe stamp mid piece h in
     left_behind v answer new trace f.now f.grows (put_left v mid f.now f.seen f.whole f.serving piece new f.is_true answer p)
 
+-- ---- a pass
+
+skip_leaves : (stripe n : ℕ) (old new : Session) (v : State) (trace : Trace) → old.disk.told ≡ Some trace → IsServing old.layers v trace → AnswersSkip stripe n old new → Leaves v (Ok tt) new trace
+skip_leaves stripe n old new v trace seen serving h =
+    let after = both_told _ old.disk.told new.disk.told trace seen h.told in
+    let passed = after.2 v serving in
+    record {
+      now = after.0;
+      seen = after.1;
+      is_left = record {
+        later = with_passed stripe n v;
+        same = later_pass v stripe n v.history (with_passed stripe n v) (later_itself (with_passed stripe n v));
+        sector = refl;
+        grows = moments_grow _ trace after.0 passed.moments;
+        serves = λ whole. passed.serving;
+        still = none_then _ new.broken h.whole;
+        past = none_then _ new.broken h.whole;
+        last = none_then _ new.broken h.whole;
+        full = tt;
+      };
+    }
+
 -- ---- a finish
 
 module _ (v : State) (old new : Session) (trace : Trace) (seen : old.disk.told ≡ Some trace) (whole : old.broken ≡ None) (serving : IsServing old.layers v trace) where
@@ -432,6 +455,11 @@ pub turns_leave : TurnsLeave
 turns_leave stripe answer old new whole h =
     each_state answer old new old.disk.told new.disk.told
     (where_both (λ v. ⊤) answer old new (λ none. turn_untold stripe answer old new none h) (λ trace seen. turn_tells stripe answer old new trace seen h) (λ v trace seen serving any. turn_leaves stripe answer old new v trace seen whole serving h))
+
+pub skips_leave : SkipsLeave
+skips_leave stripe n old new h =
+    each_state (Ok tt) old new old.disk.told new.disk.told
+    (where_both (λ v. ⊤) (Ok tt) old new (λ none. ap (λ (d : Disk). d.told) h.disk ∙ none) (λ trace seen. (trace, ap (λ (d : Disk). d.told) h.disk ∙ seen)) (λ v trace seen serving any. skip_leaves stripe n old new v trace seen serving h))
 
 pub finishes_leave : FinishesLeave
 finishes_leave answer old new whole h =

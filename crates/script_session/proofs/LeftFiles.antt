@@ -21,6 +21,7 @@ use Rattle.chain_model.specs.Merges.{Piece}
 use Rattle.chain_core.specs.Finished.{Look, look_of}
 use Rattle.chain_core.specs.MergeStarting.{between_in, data_session, inner_parts, leaf_of, source_in, started_merge, target_in, target_place, top_in}
 use Rattle.chain_core.specs.Merging.{put_on, with_piece, with_put}
+use Rattle.chain_core.specs.Skipping.{passed_on, with_passed}
 use Rattle.chain_core.specs.Starting.{placed_from}
 use Rattle.chain_core.specs.States.{Rest, State, merging, others_of, plain, retiring}
 use Rattle.chain_core.proofs.MergeFound.{AreFound, child_opened, opened_above, rest_opened, source_opened, target_opened}
@@ -233,6 +234,36 @@ source_put piece (retiring target below first before) = refl
 pub later_put : (v : State) (piece : Piece) (h : History) (later : State) → IsLater (with_put piece v) h later → IsLater v h later
 later_put v piece h later is =
     later_same v (with_put piece v) h later refl refl refl (numbers_put piece v) (names_put piece v) (inl (record { number = refl; name = refl; retired = refl; writes = refl; since = refl; merges = merges_put piece v.rest })) (all_put piece v) (λ e. source_put piece v.rest) is
+
+-- what is passed over leaves all files as they are
+pub later_pass : (v : State) (from n : ℕ) (h : History) (later : State) → IsLater (with_passed from n v) h later → IsLater v h later
+later_pass v from n h later is =
+    later_same v (with_passed from n v) h later refl refl refl (same_numbers v.top v.rest) (same_names v.top v.rest) (inl (record { number = refl; name = refl; retired = refl; writes = refl; since = refl; merges = same_kind v.rest })) (same_all v.top v.rest) (λ e. same_began v.rest) is
+  where
+    same_numbers : (top : Placed) (rest : Rest) → map number_of (staying top (passed_on from n rest)) ≡ map number_of (staying top rest)
+    same_numbers top (plain others) = refl
+    same_numbers top (merging above source target below m) = refl
+    same_numbers top (retiring target below first before) = refl
+
+    same_names : (top : Placed) (rest : Rest) → map name_of (staying top (passed_on from n rest)) ≡ map name_of (staying top rest)
+    same_names top (plain others) = refl
+    same_names top (merging above source target below m) = refl
+    same_names top (retiring target below first before) = refl
+
+    same_kind : (rest : Rest) → merges_leaf (passed_on from n rest) ≡ merges_leaf rest
+    same_kind (plain others) = refl
+    same_kind (merging above source target below m) = refl
+    same_kind (retiring target below first before) = refl
+
+    same_all : (top : Placed) (rest : Rest) → is_under_way (passed_on from n rest) ≡ true → (is_under_way rest ≡ true) × (map name_of (top ∷ others_of (passed_on from n rest)) ≡ map name_of (top ∷ others_of rest))
+    same_all top (plain others) e = let never : false ≡ true = e in cc
+    same_all top (merging above source target below m) e = (refl, refl)
+    same_all top (retiring target below first before) e = (refl, refl)
+
+    same_began : (rest : Rest) → source_began (passed_on from n rest) ≡ source_began rest
+    same_began (plain others) = refl
+    same_began (merging above source target below m) = refl
+    same_began (retiring target below first before) = refl
 
 pub looks_names : (files : List Placed) → map (λ (l : Look). l.name) (map look_of files) ≡ map name_of files
 looks_names [] = refl

@@ -1,16 +1,17 @@
 -- The marks of a merge that is under way in layers, and what fetches, puts and calls make of them.
-use Rattle.std.proofs.Common.{◌≡◌, ◌∷◌, ◌==◌, ◌||◌, ◌&&◌, ◌<◌, not, ℕ, Bool, true, Option, Some, None, Ok, refl, ap, ap₂, subst, ◌∙◌}
-use Rattle.std.specs.Prelude.{is_some}
+use Rattle.std.proofs.Common.{◌≡◌, ◌+◌, ◌∷◌, ◌==◌, ◌||◌, ◌&&◌, ◌<◌, not, ℕ, Bool, true, Option, Some, None, Ok, refl, ap, ap₂, subst, ◌∙◌}
+use Rattle.std.specs.Prelude.{is_some, nat_le, nat_lt}
 use Rattle.chain_core.proofs.TargetPuts.{still_none}
 use Rattle.guest_model.specs.declared.call.Call.{Call}
 use Rattle.guest_model.specs.History.{History}
 use Rattle.chain_model.specs.Images.{Placed}
-use Rattle.chain_model.specs.Merges.{marks_after, with_mark}
+use Rattle.chain_model.specs.Merges.{marks_after, with_mark, with_marks}
 use Rattle.chain_model.specs.Stripes.{stamp, stripe_count, touches}
 use Rattle.merge_core.specs.Copied.{marks_of}
 use Rattle.merge_core.specs.Stamping.{stamps_of}
 use Rattle.merge_core.specs.declared.marks.Marks.{Marks}
 use Rattle.chain_core.specs.Copying.{HasMarked, IsMarked, IsMarkedToo, IsTouched, MarksIn, MarksToo, MergeFollows, Touches, stamp_in, stamp_of}
+use Rattle.chain_core.specs.Skipping.{HasPassed, MarksRun, MarksRunToo}
 use Rattle.chain_core.specs.Sessions.{HasNoMerge, KeepsMerge, has_merge, kept_marks, marks_in}
 use Rattle.chain_core.specs.States.{IsCourse, IsRetiring, Rest, merging, others_of, plain, retiring}
 use Rattle.chain_core.specs.declared.layers.Layers.{Layers}
@@ -86,6 +87,47 @@ marked_put _ stripe old new copied marked (below_marked u is none are) =
 marked_put _ stripe old new copied marked (leaf_marked r none is are) =
     let p = put_too stripe r old.retiring new.retiring is marked.1 in
     leaf_marked p.w (none_in stripe old.merge new.merge none marked.0) p.is (λ t. p.marked.marks_are t ∙ with_more stripe t (marks_of r.marks) copied (are t))
+
+-- ---- a pass
+
+run_in : (from n : ℕ) (u : Underway) (o p : Option Underway) → o ≡ Some u → MarksRun from n o p → (w : Underway) × ((p ≡ Some w) × IsMarked (with_marks from n (marks_of u.marks)) u w)
+run_in from n u o p is m = go p (subst (λ o. MarksRun from n o p) is m)
+  where
+    go : (p : Option Underway) → MarksRun from n (Some u) p → (w : Underway) × ((p ≡ Some w) × IsMarked (with_marks from n (marks_of u.marks)) u w)
+    go None m = absurd m
+    go (Some w) m = (w, (refl, m))
+
+run_too : (from n : ℕ) (r : Retiring) (o p : Option Retiring) → o ≡ Some r → MarksRunToo from n o p → (w : Retiring) × ((p ≡ Some w) × IsMarkedToo (with_marks from n (marks_of r.marks)) r w)
+run_too from n r o p is m = go p (subst (λ o. MarksRunToo from n o p) is m)
+  where
+    go : (p : Option Retiring) → MarksRunToo from n (Some r) p → (w : Retiring) × ((p ≡ Some w) × IsMarkedToo (with_marks from n (marks_of r.marks)) r w)
+    go None m = absurd m
+    go (Some w) m = (w, (refl, m))
+
+no_run_in : (from n : ℕ) (o p : Option Underway) → o ≡ None → MarksRun from n o p → p ≡ None
+no_run_in from n o p is m = go p (subst (λ o. MarksRun from n o p) is m)
+  where
+    go : (p : Option Underway) → MarksRun from n None p → p ≡ None
+    go None m = refl
+    go (Some w) m = absurd m
+
+pub no_run_too : (from n : ℕ) (o p : Option Retiring) → o ≡ None → MarksRunToo from n o p → p ≡ None
+no_run_too from n o p is m = go p (subst (λ o. MarksRunToo from n o p) is m)
+  where
+    go : (p : Option Retiring) → MarksRunToo from n None p → p ≡ None
+    go None m = refl
+    go (Some w) m = absurd m
+
+with_run : (from n t : ℕ) (a b : ℕ → Bool) → a t ≡ b t → with_marks from n a t ≡ with_marks from n b t
+with_run from n t a b e = ap (λ x. (nat_le from t && nat_lt t (from + n)) || x) e
+
+pub marked_passed : (l : Bool) (from n : ℕ) (old new : Layers) (copied : ℕ → Bool) → HasPassed from n old new → IsMarkedSo old copied l → IsMarkedSo new (with_marks from n copied) l
+marked_passed _ from n old new copied passed (below_marked u is none are) =
+    let p = run_in from n u old.merge new.merge is passed.0 in
+    below_marked p.0 p.1.0 (no_run_too from n old.retiring new.retiring none passed.1) (λ t. p.1.1.marks_are t ∙ with_run from n t (marks_of u.marks) copied (are t))
+marked_passed _ from n old new copied passed (leaf_marked r none is are) =
+    let p = run_too from n r old.retiring new.retiring is passed.1 in
+    leaf_marked p.0 (no_run_in from n old.merge new.merge none passed.0) p.1.0 (λ t. p.1.1.marks_are t ∙ with_run from n t (marks_of r.marks) copied (are t))
 
 -- ---- a call
 

@@ -1,29 +1,25 @@
 -- What stands behind a script's session that started with a merge: of the leaf, or of a file below it.
-use Rattle.std.proofs.Common.{◌≡◌, ◌≢◌, ℕ, Bool, true, false, List, [], ◌∷◌, map, Option, Some, None, Result, Ok, Err, refl, sym, ap, ap₂, subst, ◌∙◌}
+use Rattle.std.proofs.Common.{◌≡◌, ◌≢◌, ℕ, Bool, true, false, List, [], map, Option, Some, None, Result, Ok, Err, refl, sym, ap, ap₂, subst, ◌∙◌}
 use Rattle.std.specs.Prelude.{◌||◌, IfSome, OnOk, is_some}
 use Rattle.std.specs.List.{AllByRecursion}
 use Rattle.store_model.specs.Disk.{Disk, WhereBothTold}
-use Rattle.store_model.specs.File.{File, is_synced, seen}
-use Rattle.layer_session.specs.Unnamed.{NamesNoLog}
 use Rattle.store_model.specs.Trace.{Trace, file_of}
 use Rattle.store_model.specs.declared.fault.StoreFault.{StoreFault}
 use Rattle.guest_model.specs.Calls.{Disk as GuestDisk}
 use Rattle.guest_model.specs.declared.call.Call.{Call}
 use Rattle.guest_model.specs.History.{either, is_dirty, replay}
-use Rattle.chain_model.specs.Images.{Placed, members_of}
-use Rattle.chain_model.specs.Members.{names_of}
 use Rattle.chain_model.specs.Moments.{EachOpens, EachOpensToPrefix}
 use Rattle.merge_core.specs.declared.piece.Piece.{Piece}
 use Rattle.chain_core.specs.Answering.{EachLinks, HasClosed, HasEnded}
 use Rattle.chain_core.specs.Sessions.{HasNoMerge, Session, has_merge}
 use Rattle.chain_core.specs.Starting.{opening_disk}
-use Rattle.chain_core.specs.States.{IsCourse, IsRetiring, IsServing, Rest, State, disk_now, files_of, merging, others_of, plain, retiring, sector_of}
+use Rattle.chain_core.specs.States.{IsServing, State, disk_now, sector_of}
 use Rattle.link_rules.specs.declared.linked.LinkedFile.{LinkedFile}
 use Rattle.chain_core.specs.declared.layers.Layers.{Layers}
 use Rattle.chain_core.specs.declared.layers.Retiring.{Retiring}
 use Rattle.chain_core.specs.declared.layers.Underway.{Underway}
 use Rattle.script.specs.declared.form.Line.{Line}
-use Rattle.script_session.specs.Histories.{AreTold, Break, Course, Drive, Grows, IsEndTold, IsMarkedSo, IsOnCourse, IsSoLong, OpensLast, Stands, TellsHistory, all_names, below_marked, copying, disk_after, is_broken, is_under_way, leaf_marked, no_merge, names_left, numbers_left, open_in, serves, staying}
+use Rattle.script_session.specs.Histories.{AreTold, Break, Course, Drive, Grows, IsEndTold, IsMarkedSo, IsOnCourse, IsSoLong, OpensLast, Stands, TellsHistory, below_marked, copying, disk_after, is_broken, is_under_way, leaf_marked, no_merge, open_in, serves}
 use Rattle.script_session.specs.MergeRunning.{HasHistoryOver, IsAtRestOver, Scope, drive_over, just_started}
 use Rattle.script_session.specs.Running.{IsEnded, open_by, open_last}
 use Rattle.script_session.specs.Told.{Told, sector_size}

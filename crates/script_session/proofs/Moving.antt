@@ -1,13 +1,13 @@
 -- What the calls of a merge say of a chain's session.
-use Rattle.std.proofs.Common.{◌≡◌, ◌<◌, ◌≤◌, ◌+◌, ◌^◌, ◌==◌, ◌||◌, ltb-true, ltb-false, List, ℕ, zero, suc, Bool, true, false, cond, Option, Some, None, Result, Ok, Err, refl, sym, ap, subst, ◌∙◌, arith}
-use Rattle.std.specs.Prelude.{if◌then◌else◌, is_some, nat_lt}
+use Rattle.std.proofs.Common.{◌≡◌, ◌<◌, ◌≤◌, ◌+◌, ◌^◌, ◌==◌, ◌||◌, ◌&&◌, ltb-true, ltb-false, List, ℕ, zero, suc, Bool, true, false, cond, Option, Some, None, Result, Ok, Err, refl, sym, ap, subst, ◌∙◌, arith}
+use Rattle.std.specs.Prelude.{IfErr, IfOk, OnErr, if◌then◌else◌, is_some, nat_le, nat_lt}
 use Rattle.std.proofs.lemmas.Bool.{eq-eqb}
 use Rattle.std.proofs.lemmas.Option.{same_Some}
 use Rattle.store_model.specs.Disk.{Disk}
 use Rattle.guest_model.specs.declared.call.Entry.{Entry}
 use Rattle.guest_model.specs.declared.refusal.ChainRefusal.{ChainRefusal}
 use Rattle.guest_model.specs.declared.refusal.ChainRefusal.TheVariants.{Abandoned, Broken, EmptyRange, FileFull, NoMerge, NoPiece, NoRoom, NoStripe, NotYet, OutOfRange, ReadFault, ReadOnly, Spent, Stale, TooLong}
-use Rattle.chain_model.specs.Merges.{with_mark}
+use Rattle.chain_model.specs.Merges.{with_mark, with_marks}
 use Rattle.merge_core.specs.Copied.{marks_of}
 use Rattle.merge_core.specs.declared.piece.Piece.{Piece}
 use Rattle.chain_core.specs.declared.chain.Chain.{Chain}
@@ -19,9 +19,10 @@ use Rattle.chain_core.specs.Copying.{FetchCause, FetchTold, HasMarked, IfStopped
 use Rattle.chain_core.specs.Finished.{FinishCause, FinishTold}
 use Rattle.chain_core.specs.Refusing.{counted, or_else, unfit}
 use Rattle.chain_core.specs.Sessions.{IsCounted, IsSound, KeepsMerge, Session, kept_marks, marks_in, seen}
+use Rattle.chain_core.specs.Skipping.{MarksRun, MarksRunToo, SkipCause, SkipTold}
 use Rattle.vx_base.specs.declared.parts.Geometry.{Geometry}
 use Rattle.script_session.specs.Answers.{IsSlot}
-use Rattle.script_session.specs.MergeSteps.{AnswersFetch, AnswersFinish, AnswersPut, AnswersTurn, IsUnchanged, KeepsHistory, fetched_and}
+use Rattle.script_session.specs.MergeSteps.{AnswersFetch, AnswersFinish, AnswersPut, AnswersSkip, AnswersTurn, IsUnchanged, KeepsHistory, fetched_and, not_fetched}
 
 -- ---- causes
 
@@ -287,3 +288,96 @@ turn_marks stripe old new (fetched_and _ stamp _ mid _ piece fetched put) =
 
 pub fewer_turn : (stripe : ℕ) (old new : Session) → AnswersTurn stripe (Ok tt) old new → IsMissing (kept_marks old.layers) (Some stripe) → left_in (kept_marks new.layers) < left_in (kept_marks old.layers)
 fewer_turn stripe old new turn missing = fewer_left stripe old.layers new.layers missing (turn_marks stripe old new turn)
+
+-- ---- a pass
+
+marks_stay : (from n t : ℕ) (marks : ℕ → Bool) → marks t ≡ true → with_marks from n marks t ≡ true
+marks_stay from n t marks h = go (nat_le from t && nat_lt t (from + n))
+  where
+    go : (b : Bool) → (b || marks t) ≡ true
+    go true = refl
+    go false = h
+
+no_fewer_by : (from n : ℕ) (m k : Marks) → k.stripes ≡ m.stripes → ((t : ℕ) → marks_of k t ≡ with_marks from n (marks_of m) t) → left_in (Some k) ≤ left_in (Some m)
+no_fewer_by from n m k stripes are = subst (λ j. unmarked j (marks_of k) ≤ unmarked m.stripes (marks_of m)) (sym stripes) (no_more m.stripes (marks_of m) (marks_of k) (λ t h. are t ∙ marks_stay from n t (marks_of m) h))
+
+no_fewer_in : (from n : ℕ) (u w : Option Underway) (r t : Option Retiring) → MarksRun from n u w → MarksRunToo from n r t → left_in (marks_in w t) ≤ left_in (marks_in u r)
+no_fewer_in from n (Some u) (Some w) r t marks more = no_fewer_by from n u.marks w.marks marks.stripes marks.marks_are
+no_fewer_in from n (Some u) None r t marks more = absurd marks
+no_fewer_in from n None (Some w) r t marks more = absurd marks
+no_fewer_in from n None None (Some r) (Some t) marks more = no_fewer_by from n r.marks t.marks more.stripes more.marks_are
+no_fewer_in from n None None (Some r) None marks more = absurd more
+no_fewer_in from n None None None (Some t) marks more = absurd more
+no_fewer_in from n None None None None marks more = omega arith
+
+-- no stripe loses its mark, and then one more has one
+pub fewer_passed : (from n stripe : ℕ) (old mid new : Session) → AnswersSkip from n old mid → AnswersTurn stripe (Ok tt) mid new → IsMissing (kept_marks mid.layers) (Some stripe) → left_in (kept_marks new.layers) < left_in (kept_marks old.layers)
+fewer_passed from n stripe old mid new skip turn missing =
+    omega (arith, fewer_turn stripe mid new turn missing, no_fewer_in from n old.layers.merge mid.layers.merge old.layers.retiring mid.layers.retiring skip.passed.0 skip.passed.1)
+
+module _ {S R T : Type 0} (disk : S → Disk) (noted : R → ℕ) (told : R → Option (List Entry)) (old new : Chain S R T) where
+  abbrev first : Session
+  first = seen disk noted told old
+
+  abbrev next : Session
+  next = seen disk noted told new
+
+  pub skip_answers : (stripe : ℕ) (answer : Result ℕ ChainRefusal) → IsSound first → IfStopped (fetch_refused stripe first) answer (new ≡ old) → (fetch_refused stripe first ≡ None → SkipCause stripe first next answer) → IfOk answer (λ n. stripe + n ≤ 2 ^ 26)
+      → SkipTold stripe first next answer → new.events ≡ old.events → new.layers.geometry ≡ old.layers.geometry → is_some new.layers.leaf ≡ is_some old.layers.leaf → new.recorder ≡ old.recorder → IfOk answer (λ n. AnswersSkip stripe n first next)
+  skip_answers stripe (Err x) sound early cause few tells events geometry session history = tt
+  skip_answers stripe (Ok n) sound early cause few tells events geometry session history =
+      let fit = ok_reached _ (fetch_refused stripe first) n early in
+      let c = cause fit in
+      record {
+        sound = sound;
+        fit = fit;
+        passed = c.0;
+        there = c.2;
+        few = few;
+        told = tells;
+        keeps = keeps_by disk noted told old new geometry session history;
+        disk = c.3;
+        whole = c.4;
+        events = events;
+      }
+
+  -- refused, it leaves what a fetch leaves that is refused
+  pub skip_refused : (stripe : ℕ) (answer : Result ℕ ChainRefusal) (left : Piece) → left.filled ≡ false → IsSound first → IfStopped (fetch_refused stripe first) answer (new ≡ old) → (fetch_refused stripe first ≡ None → SkipCause stripe first next answer)
+      → OnErr answer (KeepsMerge old.layers new.layers) → SkipTold stripe first next answer → new.events ≡ old.events → new.layers.geometry ≡ old.layers.geometry → is_some new.layers.leaf ≡ is_some old.layers.leaf → new.recorder ≡ old.recorder
+      → IfErr answer (λ e. AnswersTurn stripe (Err e) first next)
+  skip_refused stripe (Ok n) left empty sound early cause marks tells events geometry session history = tt
+  skip_refused stripe (Err x) left empty sound early cause marks tells events geometry session history =
+      not_fetched x first next left
+      (record {
+        sound = sound;
+        early = same_then (fetch_refused stripe first) early;
+        cause = λ fit. as_fetch x (cause fit);
+        taken = tt;
+        emptied = empty;
+        told = λ fit. tells;
+        keeps = keeps_by disk noted told old new geometry session history;
+        merge = marks;
+        events = omega (arith, events);
+        later = omega (arith, events);
+      })
+    where
+      same_then : (o : Option ChainRefusal) → IfStopped {T = ℕ} o (Err x) (new ≡ old) → IfStopped {T = ℕ} o (Err x) (IsUnchanged first next)
+      same_then None h = tt
+      same_then (Some e) h = (h.0, subst (λ k. IsUnchanged first (seen disk noted told k)) (sym h.1) refl)
+
+      as_fetch : (x : ChainRefusal) → SkipCause stripe first next (Err x) → FetchCause first next left (Err x)
+      as_fetch EmptyRange c = absurd c
+      as_fetch (OutOfRange first count sectors) c = absurd c
+      as_fetch (TooLong count limit) c = absurd c
+      as_fetch ReadOnly c = absurd c
+      as_fetch (Broken file count) c = absurd c
+      as_fetch (Spent t) c = absurd c
+      as_fetch (FileFull next) c = absurd c
+      as_fetch (ReadFault file count) c = (empty, c.1, c.2, c.3)
+      as_fetch NoMerge c = absurd c
+      as_fetch (Stale taken at) c = absurd c
+      as_fetch (NotYet stripe) c = absurd c
+      as_fetch (Abandoned file count) c = absurd c
+      as_fetch (NoStripe stripe stripes) c = absurd c
+      as_fetch NoPiece c = absurd c
+      as_fetch NoRoom c = absurd c

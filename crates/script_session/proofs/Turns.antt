@@ -1,25 +1,26 @@
 -- What the turns of a copy make of a merge.
-use Rattle.std.proofs.Common.{◌≡◌, ◌<◌, ◌≤◌, ◌+◌, ◌*◌, ◌^◌, ◌==◌, ◌||◌, ℕ, Bool, true, false, None, Some, Result, Ok, Err, refl, sym, ap, ◌∙◌, arith, ltb-true, ltb-false}
-use Rattle.std.specs.Prelude.{nat_lt}
-use Rattle.std.proofs.lemmas.Bool.{eqb-false, eqb-true, lt-ltb}
+use Rattle.std.proofs.Common.{◌≡◌, ◌<◌, ◌≤◌, ◌+◌, ◌*◌, ◌^◌, ◌==◌, ◌||◌, ◌&&◌, ◌⊎◌, inl, inr, ℕ, Bool, true, false, None, Some, Result, Ok, Err, refl, sym, ap, ap₂, subst, ◌∙◌, arith, ltb-true, ltb-false}
+use Rattle.std.specs.Prelude.{nat_le, nat_lt}
+use Rattle.std.proofs.lemmas.Bool.{cases_lt, eqb-false, eqb-true, le-leb, lt-ltb}
 use Rattle.store_model.specs.Trace.{Trace}
 use Rattle.guest_model.specs.declared.refusal.ChainRefusal.{ChainRefusal}
 use Rattle.guest_model.specs.declared.refusal.ChainRefusal.TheVariants.{ReadFault}
 use Rattle.guest_model.specs.History.{History}
-use Rattle.chain_model.specs.Merges.{with_mark}
+use Rattle.chain_model.specs.Merges.{with_mark, with_marks}
 use Rattle.merge_core.specs.Copied.{IsLowest}
 use Rattle.merge_core.specs.Pieces.{piece_of}
 use Rattle.merge_core.specs.declared.piece.Piece.{Piece}
 use Rattle.chain_core.specs.Merging.{with_put}
+use Rattle.chain_core.specs.Skipping.{with_passed}
 use Rattle.chain_core.specs.Sessions.{IsSound, Session}
 use Rattle.chain_core.specs.States.{State}
 use Rattle.script_session.specs.Histories.{Drive, Grows, IsLater, IsMissed, IsOver, Waiting, copied_to, stamp_behind, stripes_of}
-use Rattle.script_session.specs.MergeSteps.{AnswersTurn, AnswersTurns, fetched_and, no_turn, not_fetched, one_more}
+use Rattle.script_session.specs.MergeSteps.{AnswersTurn, AnswersTurns, fetched_and, no_turn, not_fetched, one_more, passed_over}
 use Rattle.script_session.proofs.Lengths.{grows_none, grows_on}
-use Rattle.script_session.proofs.Copying.{ends_grow, FetchEnds, IsCopying, PutEnds, Unfetched, fetch_err, fetch_ok, has_failed, is_past, never_stale, next_is, over_kept, put_cause, put_err, not_past, put_ok, put_stops}
+use Rattle.script_session.proofs.Copying.{ends_grow, FetchEnds, IsCopying, PutEnds, Unfetched, fetch_err, fetch_ok, has_failed, is_past, never_stale, next_is, over_kept, put_cause, put_err, not_past, passed_so, put_ok, put_stops, stripes_are}
 use Rattle.script_session.proofs.Marked.{marked_as}
 use Rattle.chain_core.specs.Copying.{put_refused}
-use Rattle.script_session.proofs.LeftFiles.{later_put}
+use Rattle.script_session.proofs.LeftFiles.{later_pass, later_put}
 use Rattle.script_session.proofs.Moving.{not_none}
 
 -- ---- marks up to a stripe
@@ -76,6 +77,25 @@ front_more n stripes stripe copied low t = go (nat_lt t stripe) refl (t == strip
         let most : stripe ≤ t = ltb-false t stripe e in
         let more : stripe + 1 ≤ t = omega (arith, most, eqb-false t stripe f) in
         ap (λ b. b || copied_to n copied t) f ∙ behind_front n copied t (omega (arith, past, more)) ∙ sym (behind_front (stripe + 1) copied t more)
+
+-- stripes from it on are passed over
+front_run : (front n stripes stripe : ℕ) (copied : ℕ → Bool) → IsLowest stripes (copied_to front copied) stripe → (t : ℕ) → with_marks stripe n (copied_to front copied) t ≡ copied_to (stripe + n) copied t
+front_run front n stripes stripe copied low t = by_place (cases_lt t stripe) (cases_lt t (stripe + n))
+  where
+    past : front ≤ stripe
+    past = (past_front front copied stripe low.unmarked).0
+
+    is_true : (b : Bool) → (b || true) ≡ true
+    is_true true = refl
+    is_true false = refl
+
+    by_place : (t < stripe) ⊎ (stripe ≤ t) → (t < stripe + n) ⊎ (stripe + n ≤ t) → with_marks stripe n (copied_to front copied) t ≡ copied_to (stripe + n) copied t
+    by_place (inl less) any =
+        ap (λ b. (nat_le stripe t && nat_lt t (stripe + n)) || b) (low.below t less) ∙ is_true (nat_le stripe t && nat_lt t (stripe + n)) ∙ sym (in_front (stripe + n) copied t (omega (arith, less)))
+    by_place (inr more) (inl less) =
+        ap₂ (λ a b. (a && b) || copied_to front copied t) (le-leb stripe t more) (lt-ltb t (stripe + n) less) ∙ sym (in_front (stripe + n) copied t less)
+    by_place (inr more) (inr behind) =
+        ap₂ (λ a b. (a && b) || copied_to front copied t) (le-leb stripe t more) (not_below t (stripe + n) behind) ∙ behind_front front copied t (omega (arith, past, more)) ∙ sym (behind_front (stripe + n) copied t behind)
 
 -- ---- turns
 
@@ -180,6 +200,31 @@ turns_led drive v old slot trace l copied c few _ _ no_turn = (
   },
   moved_none refl refl,
 )
+turns_led drive v old slot trace l copied c few _ _ (passed_over stripe n mid new held left turns next skip empty) =
+    let led = (turns_led drive v old slot trace l copied c few mid held turns).0 in
+    let low : IsLowest (stripes_of drive) (copied_to led.front copied) stripe = next_is drive led.state mid led.now l (copied_to led.front copied) led.copying stripe skip.sound next.missing in
+    let past = past_front led.front copied stripe low.unmarked in
+    let one = passed_so drive led.state mid led.now l (copied_to led.front copied) led.copying stripe n new skip in (
+      record {
+        state = with_passed stripe n led.state;
+        now = led.now;
+        front = stripe + n;
+        copying = record {
+          whole = one.whole;
+          serving = one.serving;
+          marks = marked_as l new.layers (with_marks stripe n (copied_to led.front copied)) (copied_to (stripe + n) copied) one.marks (front_run led.front n (stripes_of drive) stripe copied low);
+          over = one.over;
+          seen = one.seen;
+        };
+        same = λ h later is. led.same h later (later_pass led.state stripe n h later is);
+        history = led.history;
+        events = omega (arith, led.events, skip.events, past.0);
+        within = subst (λ k. stripe + n ≤ k) (stripes_are drive led.state mid led.now l (copied_to led.front copied) led.copying) skip.there;
+        grows = led.grows;
+        low = omega (arith, skip.few);
+      },
+      moved_some stripe (record { there = low.there; missing = past.1 }) empty,
+    )
 turns_led drive v old slot trace l copied c few _ _ (one_more stripe mid new held left turns next turn empty) =
     let led = (turns_led drive v old slot trace l copied c few mid held turns).0 in
     let low : IsLowest (stripes_of drive) (copied_to led.front copied) stripe = next_is drive led.state mid led.now l (copied_to led.front copied) led.copying stripe (sound_of stripe (Ok tt) mid new turn) next.missing in

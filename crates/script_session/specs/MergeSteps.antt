@@ -5,6 +5,8 @@ use Rattle.merge_core.specs.declared.piece.Piece.{Piece}
 use Rattle.chain_core.specs.Copying.{FetchCause, FetchTold, IfStopped, IsMissing, IsOfStripe, PieceTold, PutCause, TargetRoomIs, fetch_refused, merge_refused, put_refused, stamp_of}
 use Rattle.chain_core.specs.Finished.{FinishCause, FinishTold}
 use Rattle.chain_core.specs.Sessions.{IsSound, KeepsMerge, Session, kept_marks}
+use Rattle.chain_core.specs.Skipping.{HasPassed, SkipTold}
+use Rattle.chain_model.specs.Stripes.{stripe_count}
 
 -- only the count of events may be another
 abbrev pub IsUnchanged : Session → Session → Type 0
@@ -41,20 +43,37 @@ pub record AnswersPut (piece : Piece) (answer : Result (Unit {0}) ChainRefusal) 
   pub events : new.events ≤ old.events + 1
   pub later : old.events ≤ new.events
 
--- A turn of a copy: a stripe was fetched and put, or the first of both that was refused ended it.
+-- A turn of a copy: a stripe was fetched and put, or the first of both that was refused ended it. A look at what can be passed over is refused
+-- as a fetch is.
 pub data AnswersTurn (stripe : ℕ) : Result (Unit {0}) ChainRefusal → Session → Session → Type 0 where
   not_fetched : (e : ChainRefusal) (old new : Session) (left : Piece) → AnswersFetch stripe (Err e) old new left → AnswersTurn stripe (Err e) old new
   fetched_and : (answer : Result (Unit {0}) ChainRefusal) (stamp : ℕ) (old mid new : Session) (piece : Piece)
       → AnswersFetch stripe (Ok stamp) old mid piece → AnswersPut piece answer mid new → AnswersTurn stripe answer old new
+
+-- Stripes from one on were passed over, as many as this: the source has nothing of them, and they count as copied.
+pub record AnswersSkip (stripe n : ℕ) (old new : Session) : Type 0 where
+  pub sound : IsSound old
+  pub fit : fetch_refused stripe old ≡ None
+  pub passed : HasPassed stripe n old.layers new.layers
+  pub there : stripe + n ≤ stripe_count old.layers.geometry.sector old.layers.geometry.sectors
+  pub few : stripe + n ≤ 2 ^ 26
+  pub told : SkipTold stripe old new (Ok n)
+  pub keeps : KeepsHistory old new
+  pub disk : new.disk ≡ old.disk
+  pub whole : new.broken ≡ None
+  pub events : new.events ≡ old.events
 
 -- it is the lowest stripe that isn't copied
 pub record IsNext (stripe : ℕ) (s : Session) : Type 0 where
   pub missing : IsMissing (kept_marks s.layers) (Some stripe)
   pub low : stripe < 2 ^ 32
 
--- Turns were done one after the other, each with the lowest stripe that wasn't copied then. Behind a turn no piece is left.
+-- Turns were done one after the other, each with the lowest stripe that wasn't copied then; or from that on stripes were passed over. Behind
+-- it no piece is left.
 pub data AnswersTurns (old : Session) (slot : Piece) : Session → Piece → Type 0 where
   no_turn : AnswersTurns old slot old slot
+  passed_over : (stripe n : ℕ) (mid new : Session) (held left : Piece)
+      → AnswersTurns old slot mid held → IsNext stripe mid → AnswersSkip stripe n mid new → left.filled ≡ false → AnswersTurns old slot new left
   one_more : (stripe : ℕ) (mid new : Session) (held left : Piece)
       → AnswersTurns old slot mid held → IsNext stripe mid → AnswersTurn stripe (Ok tt) mid new → left.filled ≡ false → AnswersTurns old slot new left
 

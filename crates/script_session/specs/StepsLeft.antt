@@ -10,7 +10,7 @@ use Rattle.chain_core.specs.Merging.{IsTruePiece}
 use Rattle.chain_core.specs.Sessions.{Session}
 use Rattle.chain_core.specs.States.{IsServing, LeavesOthers, State, dirty_now, disk_now, sector_of}
 use Rattle.script_session.specs.Histories.{Grows, IsEndTold, IsLater, IsSoLong}
-use Rattle.script_session.specs.MergeSteps.{AnswersFetch, AnswersFinish, AnswersPut, AnswersTurn}
+use Rattle.script_session.specs.MergeSteps.{AnswersFetch, AnswersFinish, AnswersPut, AnswersSkip, AnswersTurn}
 
 -- a file that may be changed is so long, within 1,024 MB of the greatest place that a block may have
 abbrev pub IsFullAt : (ℕ → Bool) → Trace → ℕ → Type 0
@@ -46,6 +46,12 @@ abbrev pub FetchesLeave : Type 0
 FetchesLeave =
     (stripe : ℕ) (answer : Result ℕ ChainRefusal) (old new : Session) (piece : Piece) → old.broken ≡ None → AnswersFetch stripe answer old new piece
     → WhereBothTold (λ trace now. (v : State) → IsServing old.layers v trace → IsLeft v (unstamped answer) new trace now) old.disk.told new.disk.told
+
+-- So it is of stripes that are passed over.
+abbrev pub SkipsLeave : Type 0
+SkipsLeave =
+    (stripe n : ℕ) (old new : Session) → AnswersSkip stripe n old new
+    → WhereBothTold (λ trace now. (v : State) → IsServing old.layers v trace → IsLeft v (Ok tt) new trace now) old.disk.told new.disk.told
 
 -- So it is of a put, for a state that the session serves of which the piece is true.
 abbrev pub PutsLeave : Type 0

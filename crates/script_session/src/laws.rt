@@ -2,7 +2,7 @@
 
 ghost use Rattle.script_session.specs.Faults.{LinesCountFaults};
 ghost use Rattle.script_session.specs.Histories.{LinesTellHistory};
-ghost use Rattle.script_session.specs.StepsLeft.{FetchesLeave, FinishesLeave, PutsLeave, TurnsLeave};
+ghost use Rattle.script_session.specs.StepsLeft.{FetchesLeave, FinishesLeave, PutsLeave, SkipsLeave, TurnsLeave};
 
 /// Lines that were answered one after the other were told the history's disk, each at its place; and behind them the session
 /// stands with that history.
@@ -24,6 +24,11 @@ pub fn turns_leave()
 /// So does a fetch.
 pub fn fetches_leave()
     ensures { FetchesLeave }
+{}
+
+/// So does a look at what can be passed over.
+pub fn skips_leave()
+    ensures { SkipsLeave }
 {}
 
 /// So does a put of a piece that is true.

@@ -9,7 +9,8 @@ mod merge_steps;
 mod session;
 
 pub use laws::{
-    fetches_leave, finishes_leave, lines_count_faults, lines_tell_history, puts_leave, turns_leave,
+    fetches_leave, finishes_leave, lines_count_faults, lines_tell_history, puts_leave, skips_leave,
+    turns_leave,
 };
 pub use lines::{LinesRun, run_lines, sector_room};
 pub use merge_steps::{copy, fetch, finish, put};

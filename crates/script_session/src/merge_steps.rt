@@ -1,9 +1,9 @@
 //! The steps of a merge that a script's lines ask for.
 
-ghost use Rattle.std.specs.Prelude.{◌≡◌, ◌<◌, ◌^◌, false};
+ghost use Rattle.std.specs.Prelude.{◌≡◌, ◌<◌, ◌^◌, Err, false, IfErr, IfOk};
 ghost use Rattle.chain_core.specs.Sessions.{IsSound, seen};
 ghost use Rattle.script_session.specs.Answers.{IsSlot};
-ghost use Rattle.script_session.specs.MergeSteps.{AnswersCopy, AnswersFetch, AnswersFinish, AnswersPut, AnswersTurn, EndsCopy};
+ghost use Rattle.script_session.specs.MergeSteps.{AnswersCopy, AnswersFetch, AnswersFinish, AnswersPut, AnswersSkip, AnswersTurn, EndsCopy};
 
 use chain_core::Chain;
 use guest_model::{ChainRefusal, Recorder};
@@ -91,7 +91,30 @@ pub fn move_stripe<S: Store, R: Recorder>(
     }
 }
 
-// Fetches and puts the lowest stripe that isn't copied, until none is missing or one is refused.
+// Passes over the stripes from this one on that the source has nothing of, as far as one look tells. Answers how many. Whatever is answered,
+// no piece is left.
+fn pass_over<S: Store, R: Recorder>(
+    chain: &mut Chain<S, R>,
+    stripe: u32,
+    piece: &mut Piece,
+) -> Result<u32, ChainRefusal>
+    requires { IsSound (seen S.disk R.noted R.told chain.old) }
+    ensures sound { IsSound (seen S.disk R.noted R.told chain.new) }
+    ensures empty { piece.new.filled ≡ false }
+    ensures low { stripe < 2 ^ 32 }
+    ensures passed { let before = seen S.disk R.noted R.told chain.old in
+        let now = seen S.disk R.noted R.told chain.new in
+        IfOk result (λ n. AnswersSkip stripe n before now) }
+    ensures refused { let before = seen S.disk R.noted R.told chain.old in
+        let now = seen S.disk R.noted R.told chain.new in
+        IfErr result (λ e. AnswersTurn stripe (Err e) before now) }
+{
+    piece.clear();
+    chain.skip(stripe)
+}
+
+// Passes over what the source has nothing of, and fetches and puts the lowest stripe that isn't copied then, until none is missing or one is
+// refused.
 fn copy_missing<S: Store, R: Recorder>(
     chain: &mut Chain<S, R>,
     piece: &mut Piece,
@@ -105,7 +128,13 @@ fn copy_missing<S: Store, R: Recorder>(
         EndsCopy before piece.old result now piece.new }
 {
     while let Some(stripe) = chain.missing() {
-        if let Err(refusal) = move_stripe(chain, stripe, piece) {
+        if let Err(refusal) = pass_over(chain, stripe, piece) {
+            return Err(refusal);
+        }
+        let Some(next) = chain.missing() else {
+            return Ok(());
+        };
+        if let Err(refusal) = move_stripe(chain, next, piece) {
             return Err(refusal);
         }
     }
