@@ -22,12 +22,11 @@ fn next_open(bits: &[u8], from: u32, end: u32) -> u32
     if from == end {
         return end;
     }
-    let run = first_run(bits, from as usize, (end - from) as usize);
-    if run.set {
-        from + run.count as u32
-    } else {
-        from
+    if !get(bits, from as usize) {
+        return from;
     }
+    let run = first_run(bits, from as usize, (end - from) as usize);
+    from + run.count as u32
 }
 
 // The same, where all places from `gap` on are set that lie below `until`: they aren't looked at.
