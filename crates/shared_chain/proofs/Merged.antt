@@ -1,7 +1,13 @@
 -- What is missing of a merge is copied, and it is finished.
-use Rattle.std.proofs.Common.{◌≡◌, ◌≢◌, ◌+◌, ◌<◌, ◌≤◌, ◌^◌, ◌⊎◌, ℕ, Bool, true, false, [], Option, Some, None, Result, Ok, Err, inl, refl, sym, ap, ap₂, subst, ◌∙◌, ◌*◌, ◌==◌, arith, ltb-false, ltb-true}
+use Rattle.std.proofs.Common.{◌≡◌, ◌≢◌, ◌+◌, ◌<◌, ◌≤◌, ◌^◌, ◌⊎◌, ℕ, Bool, true, false, [], Option, Some, None, Result, Ok, Err, inl, inr, refl, sym, ap, ap₂, subst, ◌∙◌, ◌*◌, ◌==◌, arith, ltb-false, ltb-true}
 use Rattle.std.specs.Prelude.{⊤, ◌||◌, IfErr, IfSome, OnOk, if◌then◌else◌, is_some, nat_lt}
 use Rattle.std.proofs.lemmas.Bool.{eqb-false, lt-ltb}
+use Rattle.std.specs.Prelude.{◌&&◌, nat_le}
+use Rattle.std.proofs.lemmas.Bool.{cases_lt, le-leb}
+use Rattle.chain_model.specs.Merges.{with_marks}
+use Rattle.chain_core.specs.Skipping.{HasPassed, MarksRun, MarksRunToo}
+use Rattle.script_session.specs.MergeSteps.{AnswersSkip, passed_over}
+use Rattle.shared_chain.proofs.Stepping.{skip_step}
 use Rattle.store_model.specs.Disk.{Disk, WhereTold}
 use Rattle.store_model.specs.declared.fault.StoreFault.{StoreFault}
 use Rattle.guest_model.specs.declared.recorder.KeepAll.{KeepAll}
@@ -108,6 +114,8 @@ carries_then h first old mid new answer a b = record {
 
 carries_turns : (h : History) (first old : Session) (slot : Piece) (new : Session) (left : Piece) → AnswersTurns old slot new left → IsSound new → Carries h first old new (Ok tt)
 carries_turns h first old slot _ _ no_turn sound = carries_none h first old
+carries_turns h first old slot new left (passed_over stripe n mid _ held _ turns next skip empty) sound =
+    carries_then h first old mid new (Ok tt) (carries_turns h first old slot mid held turns skip.sound) (carries_step h first mid new (Ok tt) sound (skip_step stripe n mid new skip))
 carries_turns h first old slot new left (one_more stripe mid _ held _ turns next turn empty) sound =
     carries_then h first old mid new (Ok tt) (carries_turns h first old slot mid held turns (sound_of stripe (Ok tt) mid new turn)) (carries_step h first mid new (Ok tt) sound (turn_step stripe (Ok tt) mid new turn))
 
@@ -580,8 +588,51 @@ turn_copies stripe front old new next below turn = by_turn (Ok tt) refl turn
               ∙ marked_to (marks_of m.0) stripe t low.below less,
         )
 
+-- the marks behind a pass are those before it, and those of the stripes that are passed over
+marks_passed : (from n : ℕ) (old new : Layers) (a b : Marks) → HasPassed from n old new → kept_marks old ≡ Some a → kept_marks new ≡ Some b → (t : ℕ) → marks_of b t ≡ with_marks from n (marks_of a) t
+marks_passed from n old new a b h = go old.merge new.merge old.retiring new.retiring h.0 h.1
+  where
+    with_run : (t : ℕ) (k l : Marks) → l ≡ b → k ≡ a → marks_of l t ≡ with_marks from n (marks_of k) t → marks_of b t ≡ with_marks from n (marks_of a) t
+    with_run t k l e f is = ap (λ (m : Marks). marks_of m t) (sym e) ∙ is ∙ ap (λ (m : Marks). with_marks from n (marks_of m) t) f
+
+    go : (o p : Option Underway) (q r : Option Retiring) → MarksRun from n o p → MarksRunToo from n q r → marks_in o q ≡ Some a → marks_in p r ≡ Some b → (t : ℕ) → marks_of b t ≡ with_marks from n (marks_of a) t
+    go (Some u) (Some v) q r one more is later t = with_run t u.marks v.marks (some_same {x = v.marks} {y = b} later) (some_same {x = u.marks} {y = a} is) (one.marks_are t)
+    go (Some u) None q r one more is later t = absurd one
+    go None (Some v) q r one more is later t = absurd one
+    go None None (Some u) (Some v) one more is later t = with_run t u.marks v.marks (some_same {x = v.marks} {y = b} later) (some_same {x = u.marks} {y = a} is) (more.marks_are t)
+    go None None (Some u) None one more is later t = absurd more
+    go None None None (Some v) one more is later t = absurd more
+    go None None None None one more is later t = absurd (none_some is)
+
+-- so all below their end are marked, where those below their beginning were
+run_to : (marks : ℕ → Bool) (from n t : ℕ) → ((u : ℕ) → u < from → marks u ≡ true) → t < from + n → with_marks from n marks t ≡ true
+run_to marks from n t below less = go (cases_lt t from)
+  where
+    is_true : (b : Bool) → (b || true) ≡ true
+    is_true true = refl
+    is_true false = refl
+
+    go : (t < from) ⊎ (from ≤ t) → with_marks from n marks t ≡ true
+    go (inl low) = ap (λ b. (nat_le from t && nat_lt t (from + n)) || b) (below t low) ∙ is_true (nat_le from t && nat_lt t (from + n))
+    go (inr high) = ap₂ (λ a b. (a && b) || marks t) (le-leb from t high) (lt-ltb t (from + n) less)
+
+skip_copies : (stripe n front : ℕ) (old new : Session) → IsNext stripe old → AreCopied front old → AnswersSkip stripe n old new → (front ≤ stripe) × AreCopied (stripe + n) new
+skip_copies stripe n front old new next below h =
+    let m = marks_there old.layers (no_merge_in h.fit) in
+    let low : IsLowest m.0.stripes (marks_of m.0) stripe = subst (λ o. IsMissing o (Some stripe)) m.1 next.missing in (
+      not_below (marks_of m.0) front stripe (below m.0 m.1) low.unmarked,
+      λ b is t less. marks_passed stripe n old.layers new.layers m.0 b h.passed m.1 is t ∙ run_to (marks_of m.0) stripe n t low.below less,
+    )
+  where
+    no_merge_in : fetch_refused stripe old ≡ None → no_merge old.layers ≡ None
+    no_merge_in fit = merge_some old.layers (stripe_has stripe old.layers (parts_none (unfit old.events old.broken) (no_stripe stripe old.layers) fit).1)
+
 turns_copied : (old : Session) (slot : Piece) (new : Session) (left : Piece) → AnswersTurns old slot new left → HasTurned old new
 turns_copied old slot _ _ no_turn = record { front = 0; low = omega arith; copied = λ m is t less. absurd (omega (arith, less)); few = omega arith }
+turns_copied old slot new left (passed_over stripe n mid _ held _ turns next skip empty) =
+    let before = turns_copied old slot mid held turns in
+    let copied = skip_copies stripe n before.front mid new next before.copied skip in
+    record { front = stripe + n; low = omega (arith, skip.few); copied = copied.1; few = omega (arith, before.few, copied.0, skip.events) }
 turns_copied old slot new left (one_more stripe mid _ held _ turns next turn empty) =
     let before = turns_copied old slot mid held turns in
     let copied = turn_copies stripe before.front mid new next before.copied turn in

@@ -9,6 +9,7 @@ use Rattle.chain_model.specs.Stripes.{stamp, touches}
 use Rattle.chain_model.proofs.Stamping.{stamps_by_call}
 use Rattle.merge_core.specs.Stamping.{stamps_of}
 use Rattle.chain_core.specs.Copying.{IsTouched, MarksIn, MarksToo, MergeFollows, Touches, stamp_in, stamp_of}
+use Rattle.chain_core.specs.Skipping.{HasPassed, MarksRun, MarksRunToo}
 use Rattle.chain_core.specs.Sessions.{HasNoMerge, KeepsMerge, has_merge}
 use Rattle.chain_core.specs.declared.layers.Layers.{Layers}
 use Rattle.chain_core.specs.declared.layers.Retiring.{Retiring}
@@ -63,6 +64,21 @@ marks_too stripe (Some r) (Some q) h = (ap (λ (x : Retiring). x.stamps) h.rest,
 
 pub goes_marked : (stripe : ℕ) (old new : Layers) → MarksIn stripe old.merge new.merge → MarksToo stripe old.retiring new.retiring → MergeGoes old new
 goes_marked stripe old new a b = merge_on (marks_in stripe old.merge new.merge a) (marks_too stripe old.retiring new.retiring b)
+
+run_in : (from n : ℕ) (u v : Option Underway) → MarksRun from n u v → is_some v ≡ is_some u
+run_in from n None None h = refl
+run_in from n None (Some v) h = absurd h
+run_in from n (Some u) None h = absurd h
+run_in from n (Some u) (Some v) h = refl
+
+run_too : (from n : ℕ) (r q : Option Retiring) → MarksRunToo from n r q → SameStamps r q
+run_too from n None None h = tt
+run_too from n None (Some q) h = absurd h
+run_too from n (Some r) None h = absurd h
+run_too from n (Some r) (Some q) h = (ap (λ (x : Retiring). x.stamps) h.rest, h.stripes)
+
+pub goes_passed : (from n : ℕ) (old new : Layers) → HasPassed from n old new → MergeGoes old new
+goes_passed from n old new h = merge_on (run_in from n old.merge new.merge h.0) (run_too from n old.retiring new.retiring h.1)
 
 -- a merge that is over stays so
 over_on : (old new : Layers) → HasNoMerge old → is_some new.merge ≡ is_some old.merge → SameStamps old.retiring new.retiring → HasNoMerge new

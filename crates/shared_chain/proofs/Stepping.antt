@@ -26,6 +26,9 @@ use Rattle.chain_core.specs.declared.layers.Layers.{Layers}
 use Rattle.layer_session.proofs.Equal.{none_some, ok_err, some_none, some_same}
 use Rattle.script_session.specs.Histories.{IsEndTold, IsLater, IsSoLong}
 use Rattle.script_session.specs.MergeSteps.{AnswersFetch, AnswersFinish, AnswersPut, AnswersTurn, IsUnchanged, KeepsHistory, fetched_and, not_fetched}
+use Rattle.script_session.specs.MergeSteps.{AnswersSkip}
+use Rattle.script_session.proofs.Leaving.{skips_leave}
+use Rattle.shared_chain.proofs.Counting.{same_told}
 use Rattle.script_session.specs.StepsLeft.{IsFullAt, IsLeft, unstamped}
 use Rattle.script_session.proofs.Leaving.{fetches_leave, finishes_leave, puts_leave, turns_leave}
 use Rattle.script_session.proofs.Lengths.{grows_none, long_later}
@@ -42,7 +45,7 @@ use Rattle.shared_chain.proofs.Filling.{long_after, long_still}
 use Rattle.shared_chain.proofs.Homing.{home_counted, told_last}
 use Rattle.shared_chain.proofs.Later.{later_through, written_before}
 use Rattle.shared_chain.proofs.Noting.{IsChange, Stays}
-use Rattle.shared_chain.proofs.Stamped.{MergeGoes, goes_kept, goes_marked, goes_same, goes_then, merge_over, stamps_step}
+use Rattle.shared_chain.proofs.Stamped.{MergeGoes, goes_kept, goes_marked, goes_passed, goes_same, goes_then, merge_over, stamps_step}
 
 -- ---- what refuses a step before the files are reached
 
@@ -358,6 +361,19 @@ fetch_step stripe answer old new left h = record {
   broken = fetch_broken stripe answer old new left h;
   kind = λ whole. fetch_reached stripe answer old new left whole h;
   left = λ whole. of_each (unstamped answer) old new old.disk.told new.disk.told (fetches_leave stripe answer old new left whole h);
+}
+
+-- stripes that are passed over
+pub skip_step : (stripe n : ℕ) (old new : Session) → AnswersSkip stripe n old new → StepOf (λ v. ⊤) old new (Ok tt)
+skip_step stripe n old new h = record {
+  keeps = h.keeps;
+  later = let same : new.events ≡ old.events = h.events in omega (arith, same);
+  broken = λ fault is.
+      let first = broken_first old.events fault (no_stripe stripe old.layers) in
+      absurd (some_none (sym (ap (λ o. or_else (unfit old.events o) (no_stripe stripe old.layers)) is ∙ first.1) ∙ h.fit));
+  kind = λ whole. reached (Ok tt) whole (same_told old.disk new.disk h.disk, h.whole);
+  merge = goes_passed stripe n old.layers new.layers h.passed;
+  left = λ whole. of_each (Ok tt) old new old.disk.told new.disk.told (skips_leave stripe n old new h);
 }
 
 -- a put of a piece, of each state of which that is true
