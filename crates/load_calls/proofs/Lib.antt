@@ -3,9 +3,9 @@ mod FourGuests
 mod Keyed
 mod Loads
 mod OwnCalls
-mod OwnSectors
+pub mod OwnSectors
 mod Pages
-mod Placed
-mod Prepared
+pub mod Placed
+pub mod Prepared
 mod Rows
-mod Seen
+pub mod Seen

@@ -1,6 +1,7 @@
 -- The disk that a load's guests find, and what is printed behind their calls.
-use Rattle.std.proofs.Common.{◌≡◌, ℕ, zero, suc, ◌+◌, ◌-◌, ◌*◌, ◌^◌, ◌<◌, ◌≤◌, List, [], ◌∷◌, ◌++◌, length, map, get_or, replicate, refl, sym, ap, ◌∙◌, subst, arith}
-use Rattle.std.specs.List.{AllByRecursion}
+use Rattle.std.proofs.Common.{◌≡◌, ℕ, zero, suc, ◌+◌, ◌-◌, ◌*◌, ◌^◌, ◌<◌, ◌≤◌, ◌&&◌, Bool, true, nat_eq, List, [], ◌∷◌, ◌++◌, length, map, get_or, replicate, refl, sym, ap, ◌∙◌, subst, arith}
+use Rattle.std.specs.List.{AllByRecursion, filter}
+use Rattle.std.proofs.lemmas.Bool.{and_from, cond-true, eq-eqb}
 use Rattle.std.proofs.lemmas.List.{get_or-replicate, length-append, length-map, length-replicate, map-append}
 use Rattle.std.proofs.lemmas.List.Elements.{All-from_get_or}
 use Rattle.std.proofs.lemmas.List.FromFn.{length-map-range_with_len}
@@ -9,12 +10,14 @@ use Rattle.vx_base.specs.Fields.{zeros}
 use Rattle.guest_model.specs.declared.call.Entry.{Entry}
 use Rattle.guest_model.specs.Calls.{Disk, apply, reply}
 use Rattle.guest_model.specs.History.{History, is_flush, replay}
+use Rattle.script.specs.Grammar.{is_call}
 use Rattle.script.specs.declared.form.Form.{Form}
+use Rattle.script.specs.declared.form.Form.TheVariants.{Flush}
 use Rattle.script.specs.declared.form.Line.{Line}
 use Rattle.load_calls.specs.declared.text.Counts.{Counts}
 use Rattle.load_calls.specs.Histories.{Told, told_in}
 use Rattle.load_calls.specs.Laws.{HasLines}
-use Rattle.load_calls.specs.Load.{call_by, call_of, calls_of, drawn_at, entries_from, forms_from, guest_history, lines_of, load_lines, new_disk, one_thread, prepared_disk, preparing_lines, with_writes, write_by, writes_to, zero_sectors}
+use Rattle.load_calls.specs.Load.{call_by, call_of, calls_of, drawn_at, entries_from, forms_from, forms_of, guest_history, lines_of, load_lines, new_disk, one_thread, prepared_disk, preparing_lines, with_writes, write_by, writes_to, zero_sectors}
 use Rattle.load_calls.specs.OneThread.{AreFirsts, Leaves, disk_behind, firsts_of, seen_behind}
 use Rattle.load_calls.specs.Printed.{AreCounted, disk_sum, is_read, is_trim, is_write, lines_text, load_text, seen_in, seen_sum}
 use Rattle.load_calls.proofs.FourGuests.{forms_picked}
@@ -145,6 +148,23 @@ guests_of : (g : ℕ) (forms : List Form) → 1 ≤ g → g ≤ 4 → AllByRecur
 guests_of g [] some few = tt
 guests_of g (form ∷ forms) some few = ((some, few), guests_of g forms some few)
 
+-- lines that are all of one guest's calls have these for it
+own_forms : (g : ℕ) (forms : List Form) → AllByRecursion (λ form. is_call form ≡ true) forms → forms_of g (lines_of g forms) ≡ forms
+own_forms g [] calls = refl
+own_forms g (form ∷ forms) calls =
+    let l : Line = record { guest = g; form = form } in
+    let own : (nat_eq g g && is_call form) ≡ true = and_from (nat_eq g g) (is_call form) (eq-eqb g g refl) calls.0 in
+    ap (map (λ (l : Line). l.form)) (cond-true (nat_eq g g && is_call form) (l ∷ filter (λ l. nat_eq l.guest g && is_call l.form) (lines_of g forms)) (filter (λ l. nat_eq l.guest g && is_call l.form) (lines_of g forms)) own)
+    ∙ ap (λ fs. form ∷ fs) (own_forms g forms calls.1)
+
+writes_are_calls : (seed k n : ℕ) → AllByRecursion (λ form. is_call form ≡ true) (forms_from write_by seed k n ++ Flush ∷ [])
+unfolding forms_from
+writes_are_calls seed k zero = (refl, tt)
+writes_are_calls seed k (suc n) = (refl, writes_are_calls seed (k + 1) n)
+
+pub preparing_forms : (seed file : ℕ) → forms_of 1 (preparing_lines seed file) ≡ writes_to seed file ++ Flush ∷ []
+preparing_forms seed file = own_forms 1 (writes_to seed file ++ Flush ∷ []) (writes_are_calls seed (32 * file) 32)
+
 pub loads_have_lines : (seed : ℕ) → HasLines seed
 loads_have_lines seed = record {
   forms = forms_picked seed;
@@ -155,4 +175,5 @@ loads_have_lines seed = record {
       (guests_of 3 (calls_of seed 3) (omega arith) (omega arith))) (guests_of 4 (calls_of seed 4) (omega arith) (omega arith));
   all = length_lines seed ∙ length_load seed;
   preparing = length_preparing seed;
+  prepared = preparing_forms seed;
 }

@@ -5,6 +5,7 @@ use Rattle.guest_model.specs.declared.call.Call.{Call}
 use Rattle.guest_model.specs.declared.call.Entry.{Entry}
 use Rattle.guest_model.specs.Calls.{Disk, bytes_of, first_sector, reply, sector_count}
 use Rattle.guest_model.specs.History.{History, IsSized, is_flush, replay, sector_at}
+use Rattle.script.specs.declared.form.Form.TheVariants.{Flush}
 use Rattle.script.specs.declared.form.Line.{Line}
 use Rattle.load_calls.specs.Histories.{AreShared, EachAt, EndAlike, HaveSameCalls, IsToldAt, KeepsToOwn, StandsAt, Told, entries_of, told_in, told_to}
 use Rattle.load_calls.specs.Load.{IsHistoryOf, call_of, calls_of, entries_from, forms_of, load_lines, one_thread, prepared_disk, preparing_lines, sector_size, writes_to}
@@ -55,6 +56,7 @@ pub record HasLines (seed : ℕ) : Type 0 where
   pub guests : AllByRecursion (λ l. (1 ≤ l.guest) × (l.guest ≤ 4)) (load_lines seed)
   pub all : length (load_lines seed) ≡ 1024
   pub preparing : (file : ℕ) → length (preparing_lines seed file) ≡ 33
+  pub prepared : (file : ℕ) → forms_of 1 (preparing_lines seed file) ≡ writes_to seed file ++ Flush ∷ []
 
 abbrev pub LoadsHaveLines : Type 0
 LoadsHaveLines = (seed : ℕ) → HasLines seed

@@ -109,9 +109,13 @@ zero_sectors n = replicate n (zeros sector_size)
 abbrev pub new_disk : Disk
 new_disk = zero_sectors 131072
 
+-- the calls of the lines that prepare a file, as a history
+abbrev pub preparing_history : ℕ → ℕ → History
+preparing_history seed file = entries_from 1 1 (writes_to seed file ++ Flush ∷ [])
+
 -- what the writes to a file leave
 abbrev pub with_writes : ℕ → ℕ → Disk → Disk
-with_writes seed file disk = replay sector_size disk (entries_from 1 1 (writes_to seed file ++ Flush ∷ []))
+with_writes seed file disk = replay sector_size disk (preparing_history seed file)
 
 -- the disk behind the writes to all four
 abbrev pub prepared_disk : ℕ → Disk
