@@ -34,6 +34,7 @@ use Rattle.script_session.specs.Told.{failed_by}
 use Rattle.serve_session.specs.MergeServed.{HasRunServeLeafMerge, HasRunServeMerge, HasServedOver, StopsMerge}
 use Rattle.serve_session.specs.MergeServed as session
 use Rattle.serve_session.specs.Running.{HasRunServe, HasServedFiles, HaveServed}
+use Rattle.serve_session.specs.Tallies.{AddsUp, all_outcomes}
 use Rattle.serve_session.specs.Served.{AreServed, IsTranscript, Outcome, all_told, all_unread, guest_count}
 use Rattle.serve_session.specs.declared.merging.MergeRun.{MergeRun}
 use Rattle.command_base.specs.Commands.{Lends}
@@ -88,7 +89,7 @@ module _ (retired : List (List ℕ)) (leaf : LinkedFile) (others : List LinkedFi
   abbrev L : Linked
   L = record { retired = retired; files = leaf ∷ others }
 
-  module _ (h : HasRunServe (leaf ∷ others) (names_of (leaf ∷ others)) lines (record { run = run.run; unread = run.unread }) lent disk before after) (none : IfErr run.merged (λ e. ⊥)) where
+  module _ (h : HasRunServe (leaf ∷ others) (names_of (leaf ∷ others)) lines (record { run = run.run; unread = run.unread; tally = run.tally }) lent disk before after) (none : IfErr run.merged (λ e. ⊥)) where
     changed : WhereBothTold (Changed (written_in Guests)) lent.told disk.told
     changed = changed_served leaf others lines h.guests h.history h.broken run.run.closed lent.told disk.told h.served
 
@@ -141,6 +142,7 @@ module _ (retired : List (List ℕ)) (leaf : LinkedFile) (others : List LinkedFi
       unfetched = 0;
       none_fetched = λ none. refl;
       unread_is = (let all = h.unread_is in omega (arith, all));
+      tally_is = h.tally_is;
       stopped = none_unfinished run.merged _ none;
       served = served_in;
     }
@@ -227,9 +229,9 @@ module _ (retired : List (List ℕ)) (leaf : LinkedFile) (others : List LinkedFi
       }
 
     beside_over : length guests ≡ guest_count lines → IfOk run.run.transcript (λ text. IsTranscript (names_of (leaf ∷ others)) lines guests h (string_bytes text)) → IfSome run.run.fault (Counts disk) → IfErr run.run.closed (Counts disk)
-        → (run.run.fault ≡ None → OnOk run.run.closed (disk ≡ record lent { told = disk.told })) → (unfetched : ℕ) → run.unread ≡ length (all_unread guests) + unfetched → IfErr run.merged (StopsMerge run.run) → JudgesMergeOf (is_leaf (leaf ∷ others) name) L name old.folder before after None
+        → (run.run.fault ≡ None → OnOk run.run.closed (disk ≡ record lent { told = disk.told })) → (unfetched : ℕ) → run.unread ≡ length (all_unread guests) + unfetched → AddsUp run.tally (all_outcomes guests) → IfErr run.merged (StopsMerge run.run) → JudgesMergeOf (is_leaf (leaf ∷ others) name) L name old.folder before after None
         → ServedOver (Some name) L lines run old now before after
-    beside_over is_count transcript counted ended quiet unfetched unread_is stopped drawn = record {
+    beside_over is_count transcript counted ended quiet unfetched unread_is tally_is stopped drawn = record {
       guests = guests;
       history = h;
       broken = broken;
@@ -242,6 +244,7 @@ module _ (retired : List (List ℕ)) (leaf : LinkedFile) (others : List LinkedFi
       unfetched = unfetched;
       none_fetched = λ none. let never : Some name ≡ None = none in cc;
       unread_is = unread_is;
+      tally_is = tally_is;
       stopped = stopped_so run.merged stopped;
       served = beside_in;
     }
@@ -282,11 +285,11 @@ module _ (retired : List (List ℕ)) (leaf : LinkedFile) (others : List LinkedFi
     over_beside : (b : Bool) → is_leaf (leaf ∷ others) name ≡ b → HasServedMergeOf b (leaf ∷ others) name (names_of (leaf ∷ others)) lines run lent disk before after → ServedOver (Some name) (record { retired = retired; files = leaf ∷ others }) lines run old now before after
     over_beside true is h =
         beside_over retired leaf others old mid now lent disk idle served once chain lends back_is past_is count before after lines run name is_first_two (leaf_left_names h.m) (leaf_merge.may retired leaf others old mid lent disk chain lends before after name is) (leaf_merge.left retired leaf others old mid lent disk chain lends before after name is h.m h.merge h.planned) h.serves.guests h.serves.history h.serves.broken (past_leaf h is) h.serves.faults h.serves.unread (unlogged_two leaf others name is)
-        h.serves.count h.serves.transcript h.serves.counted h.serves.ended h.serves.quiet h.serves.unfetched h.serves.unread_is h.serves.stopped (leaf_merge.drawn retired leaf others old mid lent disk chain lends before after name is h.m h.merge h.planned)
+        h.serves.count h.serves.transcript h.serves.counted h.serves.ended h.serves.quiet h.serves.unfetched h.serves.unread_is h.serves.tally_is h.serves.stopped (leaf_merge.drawn retired leaf others old mid lent disk chain lends before after name is h.m h.merge h.planned)
     over_beside false is h =
         beside_over retired leaf others old mid now lent disk idle served once chain lends back_is past_is count before after lines run name (is_changed h.m) (names_without h.m) (merge.may retired leaf others old mid lent disk chain lends before after name is h.m h.merge h.planned) (merge.left retired leaf others old mid lent disk chain lends before after name is h.m h.merge h.planned) h.serves.guests h.serves.history h.serves.broken (past_other h is) h.serves.faults h.serves.unread
         (merge.ended_all retired leaf others old mid lent disk chain lends before after name is h.m h.merge h.planned (last_once retired (names_of (leaf ∷ others)) once))
-        h.serves.count h.serves.transcript h.serves.counted h.serves.ended h.serves.quiet h.serves.unfetched h.serves.unread_is h.serves.stopped (merge.drawn retired leaf others old mid lent disk chain lends before after name is h.m h.merge h.planned)
+        h.serves.count h.serves.transcript h.serves.counted h.serves.ended h.serves.quiet h.serves.unfetched h.serves.unread_is h.serves.tally_is h.serves.stopped (merge.drawn retired leaf others old mid lent disk chain lends before after name is h.m h.merge h.planned)
 
 -- ---- of what was linked, whose files are these
 

@@ -49,13 +49,13 @@ use Rattle.command_base.specs.Causes.{meaning_of_chain, of_chain}
 use Rattle.command_base.specs.Commands.{LeavesFollowedBy, Reports}
 use Rattle.steps_command.specs.Crashes.{AreSpared, EachImageOpens, HasLong, NoneNamesLog, OpensToFirst}
 use Rattle.command_base.specs.Folders.{AllHome, LastReturned, OnlyFollows, files_of}
-use Rattle.serve_command.specs.Guests.{LeafIsServed, ReportsServed, ServedOver, ServedWith, end_of, served_of, served_said, stopped_by}
+use Rattle.serve_command.specs.Guests.{LeafIsServed, ReportsServed, ServedOver, ServedWith, end_of, served_of, served_said, stopped_by, tally_of}
 use Rattle.serve_command.specs.Guests as code_guests
 use Rattle.command_base.specs.Printed.{Prints, ShowsFault}
 use Rattle.command_base.specs.Printed as printed
 use Rattle.command_base.specs.Refusals.{IdUnfit, IsBase, LocatorTooLarge, MetadataFull, NotInChain, OfCall, OfChain, Refusal}
 use Rattle.command_base.specs.Ends.{Ends, HasMerge}
-use Rattle.serve_command.specs.Serves.{HasServedOut, IsMergeLeft, IsServeText, IsServiceText, IsStopTold, IsUnfinished, KeepsServed, RunsServe, ServesOver, Service, met, no_service, of_readers, of_readers_alone, of_store, unread_by}
+use Rattle.serve_command.specs.Serves.{HasServedOut, IsMergeLeft, IsServeText, IsServiceText, IsStopTold, IsUnfinished, KeepsServed, RunsServe, ServesLines, ServesOver, Service, met, no_service, of_readers, of_readers_alone, of_store, unread_by}
 use Rattle.serve_command.specs.Serves as serves
 use Rattle.steps_command.specs.Sessions.{IsCounted, IsFollowedTo, IsNotFollowed, NotRunOver, OpensIn, Rests, Stands, UnlessMerging, UnlessStore, leaf_name, meaning_of_steps}
 use Rattle.steps_command.specs.Sessions as code
@@ -141,14 +141,17 @@ module _ (leaf : List ℕ) (merge : Option (List ℕ)) (before now : World) (sta
     unlinked_follows : OnlyFollows leaf before.host.folder now.host.folder
     unlinked_follows = stopped leaf before.host now.host (of_chain (meaning_of r)) left_by h.moments
 
-    unlinked_runs : now.drawn ≡ before.drawn → RunsServe leaf merge before now status
-    unlinked_runs undrawn = serves.unopened (record {
+    unlinked_opens : now.drawn ≡ before.drawn → RunsUnopened kinds.Serve leaf before now status
+    unlinked_opens undrawn = record {
       reads = λ bytes told. ((lines, is_script bytes told), taken bytes told);
       printed = unlinked_said (meaning_of r) h.answer (counted leaf before.host now.host (of_chain (meaning_of r)) left_by) reports;
       followed = unlinked_follows;
       moments = h.moments;
       undrawn = undrawn;
-    })
+    }
+
+    unlinked_runs : now.drawn ≡ before.drawn → RunsServe leaf merge before now status
+    unlinked_runs undrawn = serves.unopened (unlinked_opens undrawn)
 
     unlinked_ends : Ends (HasMerge merge) before now status
     unlinked_ends = reports_end (of_chain (meaning_of r)) (counted leaf before.host now.host (of_chain (meaning_of r)) left_by) reports (home_followed leaf before.host.folder now.host.folder idle unlinked_follows)
@@ -355,8 +358,15 @@ module _ (leaf : List ℕ) (merge : Option (List ℕ)) (before now : World) (sta
         none_told : (g : List Held) → OpensIn linked g (λ disk. AreServed (is_some merge) (drive_over false disk) lines [] [] None None)
         none_told g disk opens = record { told = tt; order = tt; unread = tt; all = λ p low high. absurd (omega (arith, low, high)); breaker = tt }
 
+        not_run_over : ServesOver leaf merge before now status
+        not_run_over = over_by no_service (λ e. refl) not_run_said (λ g is. none_told g) n.stands (λ g is. (tt, tt, (λ some. let never : false ≡ true = some in cc), tt))
+
         not_run_runs : RunsServe leaf merge before now status
-        not_run_runs = serves.served (over_by no_service (λ e. refl) not_run_said (λ g is. none_told g) n.stands (λ g is. (tt, tt, (λ some. let never : false ≡ true = some in cc), tt)))
+        not_run_runs = serves.served not_run_over
+
+        not_run_lines : ServesLines leaf merge lines before now status None
+        unfolding not_run_over over_by
+        not_run_lines = serves.lines_served not_run_over refl (record { begun = refl; adds = tt })
 
     -- ---- a session ran
 
@@ -495,9 +505,16 @@ module _ (leaf : List ℕ) (merge : Option (List ℕ)) (before now : World) (sta
           alone = o.none_fetched;
         }
 
+        run_over : ServesOver leaf merge before now status
+        run_over =
+            over_by service (λ e. let never : true ≡ false = e in cc) said_all (λ g is. (o.served g is).told_so) (λ g is. stands_from g (o.served g is).stands) (λ g is. ((o.served g is).full, (o.served g is).stopped, (λ some. (o.served g is).faults), (o.served g is).unread))
+
         run_runs : RunsServe leaf merge before now status
-        run_runs =
-            serves.served (over_by service (λ e. let never : true ≡ false = e in cc) said_all (λ g is. (o.served g is).told_so) (λ g is. stands_from g (o.served g is).stands) (λ g is. ((o.served g is).full, (o.served g is).stopped, (λ some. (o.served g is).faults), (o.served g is).unread)))
+        run_runs = serves.served run_over
+
+        run_lines : ServesLines leaf merge lines before now status (Some run.tally)
+        unfolding run_over over_by
+        run_lines = serves.lines_served run_over refl (record { begun = refl; adds = o.tally_is })
 
         run_ends : Ends (HasMerge merge) before now status
         run_ends =
@@ -518,6 +535,18 @@ module _ (leaf : List ℕ) (merge : Option (List ℕ)) (before now : World) (sta
       (unlinked_runs r none said undrawn, unlinked_ends r none said)
   both (Ok run) (code_guests.over mid linked h over not_run) reports = (run_runs mid linked h run over reports, run_ends mid linked h run over reports)
   both (Err r) (code_guests.over mid linked h over not_run) reports = (not_run_runs mid linked h r not_run reports, not_run_ends mid linked h r not_run reports)
+
+  -- what its calls came to
+  pub leaf_serves_lines : (result : Result MergeRun StepsRefusal) → LeafIsServed leaf merge lines before.host now.host before.drawn now.drawn result → ReportsServed result before.written now.written before.sink_faults now.sink_faults status
+      → ServesLines leaf merge lines before now status (tally_of result)
+  leaf_serves_lines result (code_guests.no_room is same undrawn) reports =
+      let sent : Sent before.written now.written before.sink_faults now.sink_faults NoMemory (codes "no memory\n") status = subst (λ x. ReportsServed x before.written now.written before.sink_faults now.sink_faults status) is reports in
+      serves.lines_unopened (not_opened kinds.Serve leaf (HasMerge merge) before now status same undrawn NoMemory (codes "no memory\n") sent refl (λ bytes told. ((lines, is_script bytes told), taken bytes told))) (ap tally_of is)
+  leaf_serves_lines result (code_guests.unlinked r is none undrawn) reports =
+      let said : Reports (of_chain (meaning_of r)) before.written now.written before.sink_faults now.sink_faults status = subst (λ x. ReportsServed x before.written now.written before.sink_faults now.sink_faults status) is reports in
+      serves.lines_unopened (unlinked_opens r none said undrawn) (ap tally_of is)
+  leaf_serves_lines (Ok run) (code_guests.over mid linked h over not_run) reports = run_lines mid linked h run over reports
+  leaf_serves_lines (Err r) (code_guests.over mid linked h over not_run) reports = not_run_lines mid linked h r not_run reports
 
   pub leaf_serves : (result : Result MergeRun StepsRefusal) → LeafIsServed leaf merge lines before.host now.host before.drawn now.drawn result → ReportsServed result before.written now.written before.sink_faults now.sink_faults status → RunsServe leaf merge before now status
   leaf_serves result h reports = (both result h reports).0

@@ -18,6 +18,8 @@ use Rattle.script_session.specs.Told.{failed_by}
 use Rattle.serve_session.specs.MergeServed.{HasRunServeLeafMerge, HasRunServeMerge, StopsMerge}
 use Rattle.serve_session.specs.Running.{HasRunServe}
 use Rattle.serve_session.specs.Served.{AreServed, IsTranscript, Outcome, all_told, all_unread, guest_count}
+use Rattle.serve_session.specs.Tallies.{AddsUp, all_outcomes}
+use Rattle.serve_session.specs.declared.tally.Tally.{Tally}
 use Rattle.serve_session.specs.declared.merging.MergeRun.{MergeRun}
 use Rattle.vx_base.specs.declared.NoRoom.{NoRoom}
 use Rattle.printing.specs.Answers.{fault_line}
@@ -49,7 +51,7 @@ HasServedMergeOf false files name names lines run old new before now = HasRunSer
 
 -- in a session without a merge none isn't finished
 pub record HasServedAlone (files : List LinkedFile) (names : List (List ℕ)) (lines : List Line) (run : MergeRun) (old new : Disk) (before now : Option (List (List ℕ))) : Type 0 where
-  pub ran : HasRunServe files names lines (record { run = run.run; unread = run.unread }) old new before now
+  pub ran : HasRunServe files names lines (record { run = run.run; unread = run.unread; tally = run.tally }) old new before now
   pub none : IfErr run.merged (λ refusal. ⊥)
 
 -- with a merge of the file of this name, if there is one
@@ -90,6 +92,7 @@ pub record ServedOver (merge : Option (List ℕ)) (linked : Linked) (lines : Lis
   pub unfetched : ℕ
   pub none_fetched : merge ≡ None → unfetched ≡ 0
   pub unread_is : run.unread ≡ length (all_unread guests) + unfetched
+  pub tally_is : AddsUp run.tally (all_outcomes guests)
   pub stopped : IfErr run.merged (λ refusal. (merge ≢ None) × StopsMerge run.run refusal)
   pub served : WhereTold old.folder (λ folder. ServedIn merge linked lines guests history broken run.merged run.run.closed folder old new)
 
@@ -138,3 +141,10 @@ served_said run = served_of (end_of run.merged) run.unread run.run.transcript ru
 abbrev pub ReportsServed : Result MergeRun StepsRefusal → Option (List ℕ) → Option (List ℕ) → ℕ → ℕ → Status → Type 0
 ReportsServed (Ok run) before after old new status = Sent before after old new (served_said run).0 (served_said run).1 status
 ReportsServed (Err refusal) before after old new status = Reports (meaning_of_steps refusal) before after old new status
+
+-- ---- what the guests' calls came to
+
+-- if a session began
+abbrev pub tally_of : Result MergeRun StepsRefusal → Option Tally
+tally_of (Ok run) = Some run.tally
+tally_of (Err refusal) = None

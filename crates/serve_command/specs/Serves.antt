@@ -24,6 +24,8 @@ use Rattle.script_session.specs.Histories.{Break, IsEndTold}
 use Rattle.script_session.specs.Running.{open_by, open_last}
 use Rattle.script_session.specs.Told.{later_of}
 use Rattle.serve_session.specs.Served.{AreServed, IsTranscript, Outcome, all_told, all_unread, guest_count}
+use Rattle.serve_session.specs.Tallies.{AddsUp, all_outcomes}
+use Rattle.serve_session.specs.declared.tally.Tally.{Tally}
 use Rattle.printing.specs.Answers.{fault_line}
 use Rattle.printing.specs.Sent.{Sent}
 use Rattle.steps_command.specs.Crashes.{AreSpared, EachImageOpens, HasLong, NoneNamesLog, OpensToFirst}
@@ -159,3 +161,16 @@ pub data RunsServe (leaf : List ℕ) (merge : Option (List ℕ)) (before now : W
   unread : RunsUnread script.Serve before now status → RunsServe leaf merge before now status
   unopened : RunsUnopened script.Serve leaf before now status → RunsServe leaf merge before now status
   served : ServesOver leaf merge before now status → RunsServe leaf merge before now status
+
+-- ---- of lines that are given
+
+-- what the calls of a script's guests came to, if a session began
+pub record HasTally (service : Service) (heard : Option Tally) : Type 0 where
+  pub begun : service.has_begun ≡ is_some heard
+  pub adds : IfSome heard (λ tally. AddsUp tally (all_outcomes service.guests))
+
+-- The same of lines that are read from no source, and what the guests' calls came to: the leaf's name leads to no chain, or following it fails, or
+-- the chain is opened.
+pub data ServesLines (leaf : List ℕ) (merge : Option (List ℕ)) (lines : List Line) (before now : World) (status : Status) (heard : Option Tally) : Type 0 where
+  lines_unopened : RunsUnopened script.Serve leaf before now status → heard ≡ None → ServesLines leaf merge lines before now status heard
+  lines_served : (serves : ServesOver leaf merge before now status) → serves.begun.lines ≡ lines → HasTally serves.service heard → ServesLines leaf merge lines before now status heard

@@ -99,6 +99,7 @@ where
             Ok(MergeRun {
                 run: run.run,
                 unread: run.unread,
+                tally: run.tally,
                 merged: Ok(()),
             }),
             back,
@@ -316,8 +317,8 @@ where
     run
 }
 
-// Serves the guests of a script over the chain to which a leaf's name leads, with the merge of the source, if there is one, by so many workers.
-fn serve_leaf<H: Host, R: Threads + Wait + Sync, I: Ids, G: Gate + Sync>(
+/// Serves the guests of a script over the chain to which a leaf's name leads, with the merge of the source, if there is one, by so many workers.
+pub fn serve_leaf<H: Host, R: Threads + Wait + Sync, I: Ids, G: Gate + Sync>(
     rt: &R,
     alloc: Global,
     host: &mut H,

@@ -5,4 +5,5 @@ mod command;
 mod giving;
 mod transcript;
 
-pub use command::serve;
+pub use command::{serve, serve_leaf};
+pub use transcript::show_served;

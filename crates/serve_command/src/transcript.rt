@@ -63,6 +63,7 @@ fn show_merge_run<K: Sink>(out: &mut K, run: MergeRun) -> Status
     let MergeRun {
         run,
         unread,
+        tally: _,
         merged,
     } = run;
     let ScriptRun {

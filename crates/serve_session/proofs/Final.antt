@@ -53,6 +53,9 @@ use Rattle.serve_session.specs.declared.merging.MergeRun.{MergeRun}
 use Rattle.serve_session.proofs.Hearing.{nothing}
 use Rattle.serve_session.proofs.Filled.{ends_told, full_noted}
 use Rattle.serve_session.proofs.Joining.{all_run, fresh_ready, none_joined}
+use Rattle.serve_session.specs.Tallies.{AddsUp, all_outcomes, no_tally}
+use Rattle.serve_session.specs.declared.tally.Tally.{Tally}
+use Rattle.serve_session.proofs.Tallies.{none_add_all}
 use Rattle.serve_session.proofs.Ending.{all_called, faults_told, first_is, served_all, transcript_is, unread_of_store, which}
 
 any_ok : {T E P : Type 0} (r : Result T E) → P → OnOk r P
@@ -256,9 +259,9 @@ module _ {S T : Type 0} (disk : S → Disk) where
     each_err P Q f (Err x) k = f x k
 
     -- threads shared the chain
-    pub all_served : (names : List (List ℕ)) (lines : List Line) (told : List (List ToldCall)) (short : Bool) (unread : ℕ) → WasShared disk merges old names lines mid told short unread → old.first.layers.geometry.sector ≡ 512
-        → IfOk run.transcript (λ text. (short ≡ false) × (string_bytes text ≡ serve_text v.chain.recorder told)) → HasServed disk merges old.first names lines (record { run = run; unread = unread; merged = merged }) after
-    all_served names lines told short unread s sector text =
+    pub all_served : (names : List (List ℕ)) (lines : List Line) (told : List (List ToldCall)) (short : Bool) (unread : ℕ) (tally : Tally) → WasShared disk merges old names lines mid told short unread tally → old.first.layers.geometry.sector ≡ 512
+        → IfOk run.transcript (λ text. (short ≡ false) × (string_bytes text ≡ serve_text v.chain.recorder told)) → HasServed disk merges old.first names lines (record { run = run; unread = unread; tally = tally; merged = merged }) after
+    all_served names lines told short unread tally s sector text =
         let small : v.chain.events < 2 ^ 63 = omega (arith, so.few, s.few) in
         let history : steps_of v.chain.recorder mid.broke ≡ s.seat.seen = ap (λ k. steps_of k mid.broke) so.history ∙ s.history in
         let basis : Contains (basis_of disk v) s.seat.basis = contains_through (basis_of disk v) (basis_of disk mid) s.seat.basis so.basis s.basis in
@@ -280,6 +283,7 @@ module _ {S T : Type 0} (disk : S → Disk) where
           unfetched = s.unfetched;
           none_fetched = s.none_fetched;
           unread_is = s.unread_is;
+          tally_is = s.tally_is;
           full = v.full;
           ends = ends_told disk old.first s.seat v.full (λ next h. full_noted next (disk v.chain.store) v.chain.broken v.full (basis.notes (notes.Full next) h)) lines s.guests s.joined.heard;
           under_way = has_merge v.chain.layers;
@@ -291,8 +295,8 @@ module _ {S T : Type 0} (disk : S → Disk) where
         }
 
     -- memory ran out before a call was made
-    pub none_served : (names : List (List ℕ)) (lines : List Line) (unread : ℕ) → unread ≡ 0 → HasBegun disk old → mid ≡ old → IfOk run.transcript (λ text. ⊥) → HasServed disk merges old.first names lines (record { run = run; unread = unread; merged = merged }) after
-    none_served names lines unread no_read begun same_mid none =
+    pub none_served : (names : List (List ℕ)) (lines : List Line) (unread : ℕ) (tally : Tally) → unread ≡ 0 → tally ≡ no_tally → HasBegun disk old → mid ≡ old → IfOk run.transcript (λ text. ⊥) → HasServed disk merges old.first names lines (record { run = run; unread = unread; tally = tally; merged = merged }) after
+    none_served names lines unread tally no_read no_call begun same_mid none =
         let same : v.first ≡ old.first = so.first ∙ ap (λ (s : Shared (Chain S KeepAll T)). s.first) same_mid in
         let empty : v.chain.recorder ≡ [] = so.history ∙ ap (λ (s : Shared (Chain S KeepAll T)). s.chain.recorder) same_mid ∙ ap (λ (s : Shared (Chain S KeepAll T)). s.chain.recorder) begun.fresh ∙ begun.empty in
         let whole : mid.broke ≡ None = ap (λ (s : Shared (Chain S KeepAll T)). s.broke) same_mid ∙ ap (λ (s : Shared (Chain S KeepAll T)). s.broke) begun.fresh in
@@ -325,6 +329,7 @@ module _ {S T : Type 0} (disk : S → Disk) where
           unfetched = 0;
           none_fetched = λ none. refl;
           unread_is = (let none = unread_none (guest_count lines) in omega (arith, no_read, none));
+          tally_is = subst (λ t. AddsUp t (all_outcomes (replicate (guest_count lines) []))) (sym no_call) (none_add_all (guest_count lines));
           full = v.full;
           ends = all_empty _ (flat_map told_of) refl (guest_count lines);
           under_way = has_merge v.chain.layers;
@@ -356,39 +361,39 @@ module _ {S T : Type 0} (disk : S → Disk) where
 
   -- ---- what is left, however far it came
 
-  pub shared_as : (merges : Bool) (n : ℕ) (old mid : Shared (Chain S KeepAll T)) (names : List (List ℕ)) (lines : List Line) (told : List (List ToldCall)) (short : Bool) (unread : ℕ) → (merges ≡ false → n ≡ 0) → (n ≡ 0 → IsShared disk false old names lines mid told short unread)
-      → IsShared disk true old names lines mid told short unread → IsShared disk merges old names lines mid told short unread
-  shared_as false n old mid names lines told short unread alone plain beside = plain (alone refl)
-  shared_as true n old mid names lines told short unread alone plain beside = beside
+  pub shared_as : (merges : Bool) (n : ℕ) (old mid : Shared (Chain S KeepAll T)) (names : List (List ℕ)) (lines : List Line) (told : List (List ToldCall)) (short : Bool) (unread : ℕ) (tally : Tally) → (merges ≡ false → n ≡ 0) → (n ≡ 0 → IsShared disk false old names lines mid told short unread tally)
+      → IsShared disk true old names lines mid told short unread tally → IsShared disk merges old names lines mid told short unread tally
+  shared_as false n old mid names lines told short unread tally alone plain beside = plain (alone refl)
+  shared_as true n old mid names lines told short unread tally alone plain beside = beside
 
-  pub few_told : (merges : Bool) (old mid : Shared (Chain S KeepAll T)) (names : List (List ℕ)) (lines : List Line) (told : List (List ToldCall)) (short : Bool) (unread : ℕ) → IsShared disk merges old names lines mid told short unread → length told ≤ 64
-  few_told merges old mid names lines told short unread (IsShared.was_shared s) = few_guests (length told) (greatest_from 0 lines) (s.joined.count ∙ s.count)
-  few_told merges old mid names lines told short unread (IsShared.no_memory same short_is none no_read) = omega (arith, ap length none)
+  pub few_told : (merges : Bool) (old mid : Shared (Chain S KeepAll T)) (names : List (List ℕ)) (lines : List Line) (told : List (List ToldCall)) (short : Bool) (unread : ℕ) (tally : Tally) → IsShared disk merges old names lines mid told short unread tally → length told ≤ 64
+  few_told merges old mid names lines told short unread tally (IsShared.was_shared s) = few_guests (length told) (greatest_from 0 lines) (s.joined.count ∙ s.count)
+  few_told merges old mid names lines told short unread tally (IsShared.no_memory same short_is none no_read no_call) = omega (arith, ap length none)
 
-  pub called : (merges : Bool) (old mid v : Shared (Chain S KeepAll T)) (merged : Result (Unit {0}) ChainRefusal) → EndsAs disk merges mid v merged → (names : List (List ℕ)) (lines : List Line) (told : List (List ToldCall)) (short : Bool) (unread : ℕ) → IsShared disk merges old names lines mid told short unread
+  pub called : (merges : Bool) (old mid v : Shared (Chain S KeepAll T)) (merged : Result (Unit {0}) ChainRefusal) → EndsAs disk merges mid v merged → (names : List (List ℕ)) (lines : List Line) (told : List (List ToldCall)) (short : Bool) (unread : ℕ) (tally : Tally) → IsShared disk merges old names lines mid told short unread tally
       → short ≡ false → All (IsTold told) v.chain.recorder
-  called merges old mid v merged e names lines told short unread (IsShared.was_shared s) =
+  called merges old mid v merged e names lines told short unread tally (IsShared.was_shared s) =
       let so = ended_so merges mid v merged e in
       all_called disk old.first merges s.lock names lines s.seat told short s.guests s.joined v mid.broke (ap (λ k. steps_of k mid.broke) so.history ∙ s.history) (contains_through (basis_of disk v) (basis_of disk mid) s.seat.basis so.basis s.basis) s.places s.refusals (omega (arith, so.few, s.few))
-  called merges old mid v merged e names lines told short unread (IsShared.no_memory same short_is none no_read) = λ memory. absurd (false_true (sym memory ∙ short_is))
+  called merges old mid v merged e names lines told short unread tally (IsShared.no_memory same short_is none no_read no_call) = λ memory. absurd (false_true (sym memory ∙ short_is))
 
   pub served_so : (merges : Bool) (old mid v : Shared (Chain S KeepAll T)) (merged : Result (Unit {0}) ChainRefusal) → EndsAs disk merges mid v merged → (run : ScriptRun) (after : Disk) → IsEnded (session_of disk v.chain) after run.closed → run.fault ≡ v.fault
       → EndsCounted (disk v.first.store) after v.fault run.closed → IfSome v.broke (λ b. IsErr run.closed) → LeavesHistory (session_of disk v.first) v.chain.recorder v.full v.broke (has_merge v.chain.layers) run.closed after
-      → HasBegun disk old → (names : List (List ℕ)) (lines : List Line) (told : List (List ToldCall)) (short : Bool) (unread : ℕ) → IsShared disk merges old names lines mid told short unread
-      → IfOk run.transcript (λ text. (short ≡ false) × (string_bytes text ≡ serve_text v.chain.recorder told)) → HasServed disk merges old.first names lines (record { run = run; unread = unread; merged = merged }) after
-  served_so merges old mid v merged e run after ended fault counted errs leaves begun names lines told short unread (IsShared.was_shared s) text =
-      all_served merges old mid v merged (ended_so merges mid v merged e) run after ended fault counted errs leaves names lines told short unread s begun.sound.sector text
-  served_so merges old mid v merged e run after ended fault counted errs leaves begun names lines told short unread (IsShared.no_memory same short_is none no_read) text =
-      none_served merges old mid v merged (ended_so merges mid v merged e) run after ended fault counted errs leaves names lines unread no_read begun same (no_text _ run.transcript text)
+      → HasBegun disk old → (names : List (List ℕ)) (lines : List Line) (told : List (List ToldCall)) (short : Bool) (unread : ℕ) (tally : Tally) → IsShared disk merges old names lines mid told short unread tally
+      → IfOk run.transcript (λ text. (short ≡ false) × (string_bytes text ≡ serve_text v.chain.recorder told)) → HasServed disk merges old.first names lines (record { run = run; unread = unread; tally = tally; merged = merged }) after
+  served_so merges old mid v merged e run after ended fault counted errs leaves begun names lines told short unread tally (IsShared.was_shared s) text =
+      all_served merges old mid v merged (ended_so merges mid v merged e) run after ended fault counted errs leaves names lines told short unread tally s begun.sound.sector text
+  served_so merges old mid v merged e run after ended fault counted errs leaves begun names lines told short unread tally (IsShared.no_memory same short_is none no_read no_call) text =
+      none_served merges old mid v merged (ended_so merges mid v merged e) run after ended fault counted errs leaves names lines unread tally no_read no_call begun same (no_text _ run.transcript text)
     where
       no_text : {Z : Type 0} (P : String Z → Type 0) (r : Result (String Z) NoRoom) → IfOk r (λ t. (short ≡ false) × P t) → IfOk r (λ t. ⊥)
       no_text P (Ok t) h = absurd (false_true (sym h.0 ∙ short_is))
       no_text P (Err x) h = tt
 
   -- memory ran out before the chain could be shared, and its session was ended
-  pub unserved_is : (merges : Bool) (first : Chain S KeepAll T) → first.recorder ≡ [] → (names : List (List ℕ)) (lines : List Line) (run : MergeRun) (after : Disk) → IfOk run.run.transcript (λ text. ⊥) → run.unread ≡ 0 → run.merged ≡ Err NoMemory
+  pub unserved_is : (merges : Bool) (first : Chain S KeepAll T) → first.recorder ≡ [] → (names : List (List ℕ)) (lines : List Line) (run : MergeRun) (after : Disk) → IfOk run.run.transcript (λ text. ⊥) → run.unread ≡ 0 → run.tally ≡ no_tally → run.merged ≡ Err NoMemory
       → (merges ≡ true → has_merge first.layers ≡ true) → EndsCounted (disk first.store) after run.run.fault run.run.closed → LeavesHistory (session_of disk first) [] None None (has_merge first.layers) run.run.closed after → HasServed disk merges first names lines run after
-  unserved_is merges first empty names lines run after none no_read merged has counted leaves = record {
+  unserved_is merges first empty names lines run after none no_read no_call merged has counted leaves = record {
     guests = replicate (guest_count lines) [];
     history = [];
     broken = None;
@@ -413,6 +418,7 @@ module _ {S T : Type 0} (disk : S → Disk) where
     unfetched = 0;
     none_fetched = λ none. refl;
     unread_is = (let none = unread_none (guest_count lines) in omega (arith, no_read, none));
+    tally_is = subst (λ t. AddsUp t (all_outcomes (replicate (guest_count lines) []))) (sym no_call) (none_add_all (guest_count lines));
     full = None;
     ends = all_empty _ (flat_map told_of) refl (guest_count lines);
     under_way = has_merge first.layers;

@@ -30,6 +30,8 @@ use Rattle.serve_session.specs.Sealing.{IsSetFor}
 use Rattle.serve_session.specs.Lists.{AreActors, AreFresh, CanWork, HasDone, IsFresh, IsFreshWorker, IsReady, RunsEach, WorksEach, with_splits}
 use Rattle.serve_session.specs.Served.{EachGuest, IsCountedUp, IsRising, Outcome, SomeGuest, forms_of, none_failed, places_in, told_calls, told_guests, unread_in}
 use Rattle.serve_session.proofs.Guests.{each_map, each_snoc, forms_few, some_last, some_left, some_map, told_guests_snoc, unread_few}
+use Rattle.serve_session.specs.Tallies.{AddsUp}
+use Rattle.serve_session.proofs.Tallies.{none_add}
 use Rattle.serve_session.proofs.Hearing.{all_heard_later, from_through, heard_few, knows_more, owns_still}
 
 -- one more was joined
@@ -110,6 +112,7 @@ module _ {S T : Type 0} where
       };
       readers = h.set;
       unread = h.unread;
+      tally = subst (λ t. AddsUp t []) (sym h.tally) none_add;
       kept = λ short. record { all = refl; next = h.next; told = h.told };
     }
       where
@@ -135,6 +138,10 @@ module _ {S T : Type 0} where
     last_actor P n (b ∷ actors) a h =
         let rest = last_actor P (n - 1) actors a h.2 in
         ((h.0, h.1, rest.0), subst (λ k. a.number ≡ k) {x = n - 1 - length actors} {y = n - length (b ∷ actors)} (omega arith) rest.1, rest.2)
+
+    -- it was told of as many calls as there are lines at most
+    pub few_told_of : (a : Actor S T) (run : HasRun disk first lock names lines a) → length run.outcomes ≤ length lines
+    few_told_of a run = omega (arith, heard_few disk first a.guest.seat a.number 1 (forms_of a.number lines) run.outcomes run.hears.heard, forms_few a.number lines)
 
     -- few of its reads failed by a reader
     pub few_unread : (a : Actor S T) (run : HasRun disk first lock names lines a) → length (unread_in run.outcomes) ≤ length lines

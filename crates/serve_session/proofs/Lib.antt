@@ -2,6 +2,7 @@ mod Guests
 mod Hearing
 mod Back
 mod Reading
+mod Tallies
 mod Stepping
 mod Joining
 mod Ending

@@ -149,6 +149,7 @@ module _ {S T : Type 0} (disk : S → Disk) (chain : Chain S KeepAll T) (names :
     unread = subst (λ n. AllByRecursion (λ fault. fault.file < n) (all_unread h.guests)) (files_are disk chain first sealed.met sealed.sealing old counts) h.unread;
     unfetched = h.unfetched;
     unread_is = h.unread_is;
+    tally_is = h.tally_is;
     stopped = h.stopped;
     served = have;
   }

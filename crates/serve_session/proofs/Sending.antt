@@ -19,6 +19,7 @@ use Rattle.copy_workers.proofs.source.SourceReaders.TheSendSync.{the_send as sou
 use Rattle.guest_io.specs.contracts.guest.Guest as guest
 use Rattle.script.proofs.told.ToldCall.TheSendSync as told
 use Rattle.serve_session.specs.contracts.actor.Actor as actor
+use Rattle.serve_session.proofs.tally.Tally.TheSendSync as tally
 
 pub shared_send : (S R : RattleType) (d : store.Ghosts S.Denot R.Denot) (r : reader.Ghosts R.Denot) → IsSend S → IsSend (shared.the_row S R d r)
 shared_send S R d r s =
@@ -36,8 +37,10 @@ actor_send S R d r s k =
     let g = guest_send S R d r s k in
     let t = told.the_send in
     let f = told.the_field_send in
+    let y = tally.the_send in
+    let z = tally.the_field_send in
     recorded_send (actor.the_field S R d r).row _ _ (actor.the_type S R d r).to_one
-    (struct_send (shape (actor.the_type S R d r)) (g, (search (sendable, crosses) depth 30, (search (sendable, crosses) depth 30, (search (sendable, crosses) depth 30, (search (sendable, crosses) depth 30, (search (sendable, crosses) depth 30, tt)))))))
+    (struct_send (shape (actor.the_type S R d r)) (g, (search (sendable, crosses) depth 30, (search (sendable, crosses) depth 30, (search (sendable, crosses) depth 30, (search (sendable, crosses) depth 30, (search (sendable, crosses) depth 30, (search (sendable, crosses) depth 30, tt))))))))
 
 pub worker_send : (S R : RattleType) (d : store.Ghosts S.Denot R.Denot) (r : reader.Ghosts R.Denot) → IsSend S → IsSend R → IsSend (worker.the_row S R d r)
 worker_send S R d r s k =

@@ -163,7 +163,7 @@ module _ {S T : Type 0} (disk : S → Disk) (chain : Chain S KeepAll T) (names :
       go (Some a) (Some b) st (Some s) e g None l = absurd l
       go (Some a) (Some b) st (Some s) e g (Some c) l = files a b s e g st c (l (record (started a leaf others (under begun.1.ids leaf.parts)) { since = s }) (serving a b s e g st) refl)
 
-  pub has_run : HasRunServe (leaf ∷ others) names lines (record { run = run.run; unread = run.unread }) old after drawn now_drawn
+  pub has_run : HasRunServe (leaf ∷ others) names lines (record { run = run.run; unread = run.unread; tally = run.tally }) old after drawn now_drawn
   has_run = record {
     guests = h.guests;
     history = h.history;
@@ -179,12 +179,13 @@ module _ {S T : Type 0} (disk : S → Disk) (chain : Chain S KeepAll T) (names :
         subst (λ n. FaultsAreTold (all_told h.guests) (failed_by run.run.closed) n old.failed_changes after.failed_reads after.failed_changes) (files_are disk chain first sealed.met sealed.sealing old begun.1.counts)
         (record { each = k.each; end = k.end; none = λ none. k.none none ∙ changes_are disk chain first sealed.met sealed.sealing old begun.1.counts });
     unread = subst (λ n. AllByRecursion (λ fault. fault.file < n) (all_unread h.guests)) (files_are disk chain first sealed.met sealed.sealing old begun.1.counts) h.unread;
+    tally_is = h.tally_is;
     unread_is = (let all = h.unread_is in let none = h.none_fetched refl in omega (arith, all, none));
     served = have;
   }
 
 pub serve_ran : {S T : Type 0} (disk : S → Disk) (chain : Chain S KeepAll T) (files : List LinkedFile) (names : List (List ℕ)) (lines : List Line) (run : MergeRun) (old after : Disk) (drawn now : Option (List (List ℕ))) → ServesSealed disk false chain names lines run after
-    → HasStarted Guests files chain.layers old (disk chain.store) drawn now → CanStart files old → chain.layers.geometry.sector ≡ 512 → IsOfDisk files chain.layers.geometry → HasRunServe files names lines (record { run = run.run; unread = run.unread }) old after drawn now
+    → HasStarted Guests files chain.layers old (disk chain.store) drawn now → CanStart files old → chain.layers.geometry.sector ≡ 512 → IsOfDisk files chain.layers.geometry → HasRunServe files names lines (record { run = run.run; unread = run.unread; tally = run.tally }) old after drawn now
 serve_ran disk chain [] names lines run old after drawn now sealed begun can sector geometry = absurd can.line
 serve_ran disk chain (leaf ∷ others) names lines run old after drawn now sealed begun can sector geometry = has_run disk chain names lines run after sealed sector leaf others old drawn now begun geometry
 

@@ -27,6 +27,7 @@ use Rattle.serve_session.specs.Actors.{HasHeard, HasKept, HasReaders, IsActor, I
 use Rattle.guest_io.specs.declared.placed.Placed.{Placed}
 use Rattle.serve_session.specs.Asking.{IsAsked, IsMade, IsTooLong, OnlyReadsMiss, asks_too_many, count_of, emptied, is_want, outcome_of, read_as, reply_in, shown_in, with_answer, with_read}
 use Rattle.serve_session.specs.Served.{Outcome, call_of, counts_behind, none_failed, told_call, unread_in, unread_of}
+use Rattle.serve_session.specs.Tallies.{AddsUp, with_outcome}
 use Rattle.serve_session.proofs.Guests.{told_snoc, unread_count, unread_few}
 use Rattle.serve_session.proofs.Reading.{missed_by, readers_after}
 use Rattle.serve_session.proofs.Hearing.{asked_kept, next_one, nothing_more}
@@ -101,6 +102,7 @@ module _ {S T : Type 0} where
       hears = more_heard (called_form form);
       readers = is.readers;
       unread = is.unread;
+      tally = is.tally;
       kept = λ e. absurd (true_false (sym short ∙ e));
     }
 
@@ -131,7 +133,7 @@ module _ {S T : Type 0} where
           (subst (λ k. IsAsked disk (caller_of k old.guest.next) form room old.guest.seat seat answer) is.number asked)
 
       abbrev outcomes_after : List Outcome
-      outcomes_after = if is_want answer then is.outcomes else is.outcomes ++ outcome_of (shown_in room form) answer ∷ []
+      outcomes_after = with_outcome is.outcomes (shown_in room form) answer
 
       missed : IfOk answer (λ placed. IfErr placed.read (λ fault. IsUnread disk first (call_of form) fault × Rose (counts_behind none_failed (unread_in is.outcomes) fault.file) fault.count))
       missed = go answer only by
@@ -146,9 +148,9 @@ module _ {S T : Type 0} where
           let k = asked_seat disk (caller_of old.guest.number old.guest.next) form room old.guest.seat seat answer asked in
           asked_kept disk first old.number forms is.outcomes form old.guest.seat seat is.hears k.seen k.basis k.refusals kept.all (asked_drawn disk (caller_of old.guest.number old.guest.next) form room old.guest.seat seat answer asked) is.sector room answer asked_by missed
 
-      pub called : (a : Actor S T) → a.guest.seat ≡ seat → a.guest.readers ≡ readers → a.guest.number ≡ old.guest.number → a.guest.next ≡ one_more old.guest.next → a.number ≡ old.number → length a.room.items ≡ 1048576 → a.unread ≡ with_answer old.unread answer
+      pub called : (a : Actor S T) → a.guest.seat ≡ seat → a.guest.readers ≡ readers → a.guest.number ≡ old.guest.number → a.guest.next ≡ one_more old.guest.next → a.number ≡ old.number → length a.room.items ≡ 1048576 → a.unread ≡ with_answer old.unread answer → AddsUp a.tally outcomes_after
           → (a.is_short ≡ false → (is_want answer ≡ false) × (a.told.items ≡ old.told.items ++ told_call names form (outcome_of (shown_in room form) answer) ∷ [])) → IsActor disk first lock names (forms ++ called_form form) a
-      called a seat_is readers_are guest next number rooms unread keeps = subst (λ fs. IsActor disk first lock names (forms ++ fs) a) (sym (ap (λ b. if b then form ∷ [] else []) call)) (record {
+      called a seat_is readers_are guest next number rooms unread tally keeps = subst (λ fs. IsActor disk first lock names (forms ++ fs) a) (sym (ap (λ b. if b then form ∷ [] else []) call)) (record {
         free = subst (λ s. IsFree lock s) (sym seat_is) (asked_free disk (caller_of old.guest.number old.guest.next) form room lock old.guest.seat seat answer asked is.free);
         number = guest ∙ is.number ∙ sym number;
         room = rooms;
@@ -156,6 +158,7 @@ module _ {S T : Type 0} where
         outcomes = outcomes_after;
         hears = subst (λ n. HasHeard disk first n (forms ++ form ∷ []) a.guest.seat outcomes_after) (sym number) (subst (λ s. HasHeard disk first old.number (forms ++ form ∷ []) s outcomes_after) (sym seat_is) heard);
         readers = subst (HasReaders disk first (unread_in outcomes_after)) (sym readers_are) (readers_after disk first is.outcomes (shown_in room form) answer old.guest.readers readers is.readers by);
+        tally = tally;
         unread = unread ∙ unread_more is.outcomes old.unread (shown_in room form) answer is.unread (subst (λ n. n < 2 ^ 32) (sym kept.all) few);
         kept = λ short.
             let k = keeps short in

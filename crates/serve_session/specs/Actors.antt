@@ -33,6 +33,7 @@ use Rattle.shared_chain.specs.Bases.{notes_in}
 use Rattle.shared_chain.specs.Notes.{HasNote}
 use Rattle.shared_chain.specs.Steps.{done_steps, open_by}
 use Rattle.shared_chain.specs.Seats.{IsFree, MergeBreaksAt}
+use Rattle.serve_session.specs.Tallies.{AddsUp}
 use Rattle.serve_session.specs.declared.actor.Actor.{Actor}
 use Rattle.serve_session.specs.Served.{EachGuest, Has, IsCountedUp, IsRising, IsWhole, Outcome, SomeGuest, call_of, counts_behind, entry_of, forms_of, none_failed, places_in, told_calls, told_guests, unread_in}
 
@@ -154,6 +155,7 @@ module _ {S T : Type 0} (disk : S → Disk) (first : Chain S KeepAll T) where
     pub hears : HasHeard actor.number forms actor.guest.seat outcomes
     pub readers : HasReaders (unread_in outcomes) actor.guest.readers
     pub unread : actor.unread ≡ length (unread_in outcomes)
+    pub tally : AddsUp actor.tally outcomes
     pub kept : actor.is_short ≡ false → HasKept names forms actor outcomes
 
   -- a guest that has made all its calls of a script, or those for which there was memory

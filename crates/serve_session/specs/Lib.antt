@@ -8,4 +8,5 @@ pub mod Actors
 pub mod Lists
 pub mod MergeServed
 pub mod Serving
+pub mod Tallies
 pub mod Running

@@ -18,6 +18,8 @@ use Rattle.serve_session.specs.declared.actor.Actor.{Actor}
 use Rattle.shared_chain.specs.Seats.{MergeBreaksAt}
 use Rattle.seats.specs.Counting.{times}
 use Rattle.serve_session.specs.Served.{Outcome, all_unread}
+use Rattle.serve_session.specs.Tallies.{AddsUp, all_outcomes, no_tally}
+use Rattle.serve_session.specs.declared.tally.Tally.{Tally}
 
 module _ {S T : Type 0} where
   -- so many more seats were split from the first
@@ -34,6 +36,7 @@ module _ {S T : Type 0} where
     pub room : length actor.room.items ≡ 1048576
     pub told : actor.told.items ≡ []
     pub unread : actor.unread ≡ 0
+    pub tally : actor.tally ≡ no_tally
     pub memory : actor.is_short ≡ false
 
   -- those from the guest of a number down
@@ -91,12 +94,14 @@ module _ {S T : Type 0} where
       (first : Chain S KeepAll T) (names : List (List ℕ)) (lines : List Line) (told : List (List ToldCall)) (short : Bool) (guests : List (List Outcome)) → AreJoined disk first true lock names lines old told short guests
       → AreJoined disk first true lock names lines new told short guests
 
-  -- the seats of so many guests were joined, each of which drew a ticket for each of its calls at most; so many of their reads failed by a reader
-  pub record HasJoined (disk : S → Disk) (merges : Bool) (first : Chain S KeepAll T) (lock : TableId) (names : List (List ℕ)) (lines : List Line) (count : ℕ) (old new : Known Step (Basis S T)) (told : List (List ToldCall)) (short : Bool) (unread : ℕ) : Type 0 where
+  -- the seats of so many guests were joined, each of which drew a ticket for each of its calls at most; so many of their reads failed by a
+  -- reader, and this is what their calls came to
+  pub record HasJoined (disk : S → Disk) (merges : Bool) (first : Chain S KeepAll T) (lock : TableId) (names : List (List ℕ)) (lines : List Line) (count : ℕ) (old new : Known Step (Basis S T)) (told : List (List ToldCall)) (short : Bool) (unread : ℕ) (tally : Tally) : Type 0 where
     pub guests : List (List Outcome)
     pub joined : AreJoined disk first merges lock names lines new told short guests
     pub count_is : length guests ≡ count
     pub unread_is : unread ≡ length (all_unread guests)
+    pub tally_is : AddsUp tally (all_outcomes guests)
     pub family : new.family ≡ record (old.family) { joins = old.family.joins + count }
     pub first_ticket : new.first_ticket ≡ old.first_ticket
     pub drawn : new.drawn ≤ old.drawn + 2 ^ 20 * count

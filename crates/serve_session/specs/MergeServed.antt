@@ -26,6 +26,7 @@ use Rattle.script_session.specs.Running.{open_by, open_last}
 use Rattle.script_session.specs.Told.{failed_by, sector_size}
 use Rattle.script_session.specs.declared.session.ScriptRun.{ScriptRun}
 use Rattle.serve_session.specs.Served.{AreServed, IsTranscript, Outcome, all_told, all_unread, guest_count}
+use Rattle.serve_session.specs.Tallies.{AddsUp, all_outcomes}
 use Rattle.serve_session.specs.declared.merging.MergeRun.{MergeRun}
 
 -- Where a merge isn't finished at the end for want of room, a file that may be changed is so long, within 1,024 MB of the greatest place that a
@@ -76,6 +77,8 @@ pub record HasServedWith (scope : Scope) (names : List (List ℕ)) (lines : List
   -- and so many of stripes that workers couldn't fetch
   pub unfetched : ℕ
   pub unread_is : run.unread ≡ length (all_unread guests) + unfetched
+  -- and what the guests' calls came to
+  pub tally_is : AddsUp run.tally (all_outcomes guests)
   pub stopped : IfErr run.merged (StopsMerge run.run)
   pub served : WhereBothTold (HasServedOver scope lines guests history broken run.merged run.run.closed) old.told new.told
 

@@ -16,6 +16,7 @@ use Rattle.script_session.specs.Histories.{Break, IsEndTold, IsSoLong, disk_afte
 use Rattle.script_session.specs.Running.{DrawsFor, IsAtRest, drive_of, open_by, open_last}
 use Rattle.script_session.specs.Told.{failed_by, sector_size}
 use Rattle.serve_session.specs.Served.{AreServed, IsTranscript, Outcome, all_told, all_unread, guest_count}
+use Rattle.serve_session.specs.Tallies.{AddsUp, all_outcomes}
 use Rattle.serve_session.specs.declared.session.ServeRun.{ServeRun}
 
 -- What stands behind guests that were told so, over the files of a store. At each moment each image opens from the leaf's name to the disk of
@@ -35,7 +36,7 @@ HaveServed (leaf ∷ others) lines guests history broken closed trace now = HasS
 
 -- A session started, its guests were served, and it ended: what guests were told is one history's, and the transcript, if there is one, is
 -- of all calls of the script. What was told of faults the store counts, but for the reads that failed by a reader of one of its files, which are
--- so many.
+-- so many; and this is what the guests' calls came to.
 pub record HasRunServe (files : List LinkedFile) (names : List (List ℕ)) (lines : List Line) (run : ServeRun) (old new : Disk) (before now : Option (List (List ℕ))) : Type 0 where
   pub guests : List (List Outcome)
   pub history : History
@@ -50,4 +51,5 @@ pub record HasRunServe (files : List LinkedFile) (names : List (List ℕ)) (line
   pub faults : FaultsAreTold (all_told guests) (failed_by run.run.closed) old.files old.failed_changes new.failed_reads new.failed_changes
   pub unread : AllByRecursion (λ fault. fault.file < old.files) (all_unread guests)
   pub unread_is : run.unread ≡ length (all_unread guests)
+  pub tally_is : AddsUp run.tally (all_outcomes guests)
   pub served : WhereBothTold (HaveServed files lines guests history broken run.run.closed) old.told new.told

@@ -30,7 +30,9 @@ use Rattle.shared_chain.specs.Merging.{IsMerged}
 use Rattle.shared_chain.specs.Shared.{Shared}
 use Rattle.serve_session.specs.Actors.{AreJoined}
 use Rattle.serve_session.specs.Served.{AreServed, IsTranscript, Outcome, all_told, all_unread, guest_count}
+use Rattle.serve_session.specs.Tallies.{AddsUp, all_outcomes, no_tally}
 use Rattle.serve_session.specs.declared.merging.MergeRun.{MergeRun}
+use Rattle.serve_session.specs.declared.tally.Tally.{Tally}
 
 -- what a script runs over, in a session that began with this chain, over the disk of this state
 abbrev pub drive_from : {S T : Type 0} → Chain S KeepAll T → State → Drive
@@ -51,7 +53,7 @@ pub record HasBegun {S T : Type 0} (disk : S → Disk) (s : Shared (Chain S Keep
 
 -- Threads shared it, and all seats were joined: what guests were told is what stands in its history, or what broke the session. No turn was
 -- refused, and few events there were; so many reads failed by a reader.
-pub record WasShared {S T : Type 0} (disk : S → Disk) (merges : Bool) (old : Shared (Chain S KeepAll T)) (names : List (List ℕ)) (lines : List Line) (new : Shared (Chain S KeepAll T)) (told : List (List ToldCall)) (short : Bool) (unread : ℕ) : Type 0 where
+pub record WasShared {S T : Type 0} (disk : S → Disk) (merges : Bool) (old : Shared (Chain S KeepAll T)) (names : List (List ℕ)) (lines : List Line) (new : Shared (Chain S KeepAll T)) (told : List (List ToldCall)) (short : Bool) (unread : ℕ) (tally : Tally) : Type 0 where
   pub lock : TableId
   pub seat : Known Step (Basis S T)
   pub guests : List (List Outcome)
@@ -61,6 +63,7 @@ pub record WasShared {S T : Type 0} (disk : S → Disk) (merges : Bool) (old : S
   pub unfetched : ℕ
   pub none_fetched : merges ≡ false → unfetched ≡ 0
   pub unread_is : unread ≡ length (all_unread guests) + unfetched
+  pub tally_is : AddsUp tally (all_outcomes guests)
   pub history : steps_of new.chain.recorder new.broke ≡ seat.seen
   pub basis : Contains (basis_of disk new) seat.basis
   pub places : (p : ℕ) → times p seat.mine ≡ once_between p 1 (length seat.seen + 1)
@@ -68,9 +71,9 @@ pub record WasShared {S T : Type 0} (disk : S → Disk) (merges : Bool) (old : S
   pub few : new.chain.events ≤ 2 ^ 42
 
 -- or memory ran out before a call was made
-pub data IsShared {S T : Type 0} (disk : S → Disk) (merges : Bool) (old : Shared (Chain S KeepAll T)) (names : List (List ℕ)) (lines : List Line) (new : Shared (Chain S KeepAll T)) (told : List (List ToldCall)) (short : Bool) (unread : ℕ) : Type 0 where
-  was_shared : WasShared disk merges old names lines new told short unread → IsShared disk merges old names lines new told short unread
-  no_memory : new ≡ old → short ≡ true → told ≡ [] → unread ≡ 0 → IsShared disk merges old names lines new told short unread
+pub data IsShared {S T : Type 0} (disk : S → Disk) (merges : Bool) (old : Shared (Chain S KeepAll T)) (names : List (List ℕ)) (lines : List Line) (new : Shared (Chain S KeepAll T)) (told : List (List ToldCall)) (short : Bool) (unread : ℕ) (tally : Tally) : Type 0 where
+  was_shared : WasShared disk merges old names lines new told short unread tally → IsShared disk merges old names lines new told short unread tally
+  no_memory : new ≡ old → short ≡ true → told ≡ [] → unread ≡ 0 → tally ≡ no_tally → IsShared disk merges old names lines new told short unread tally
 
 -- a merge was finished, or that was stopped; where there is none nothing was done
 abbrev pub EndsAs : {S T : Type 0} → (S → Disk) → Bool → Shared (Chain S KeepAll T) → Shared (Chain S KeepAll T) → Result (Unit {0}) ChainRefusal → Type 0
@@ -102,6 +105,7 @@ pub record HasServed {S T : Type 0} (disk : S → Disk) (merges : Bool) (first :
   pub unfetched : ℕ
   pub none_fetched : merges ≡ false → unfetched ≡ 0
   pub unread_is : run.unread ≡ length (all_unread guests) + unfetched
+  pub tally_is : AddsUp run.tally (all_outcomes guests)
   pub full : Option ℕ
   pub ends : AllByRecursion (IsEndTold (IsUpTo full)) (all_told guests)
   pub under_way : Bool

@@ -9,9 +9,11 @@ ghost use Rattle.script.specs.Transcript.{outcome_of as line_outcome};
 ghost use Rattle.script.specs.declared.form.Form.{Form as FormValue};
 ghost use Rattle.serve_session.specs.Actors.{HasRun, IsActor, called_form};
 ghost use Rattle.serve_session.specs.Asking.{is_want, outcome_of, place_in, read_as, said_of, shown_in, with_answer, with_read};
-ghost use Rattle.serve_session.specs.Served.{as_line, told_call};
+ghost use Rattle.serve_session.specs.Served.{Outcome, as_line, told_call};
+ghost use Rattle.serve_session.specs.Tallies.{AddsUp, no_tally, with_outcome};
 
 use crate::calls::{MOST_MOVED, SECTOR, call};
+use crate::tally::Tally;
 use guest_io::{Guest, Placed};
 use guest_model::ChainRefusal;
 use read_plan::ReaderSet;
@@ -37,20 +39,23 @@ pub struct Actor<S: Store> {
     told: Vec<ToldCall>,
     // how many of its reads stand in the history and failed by a reader
     unread: u64,
+    // what they came to
+    tally: Tally,
     // memory ran out, in a call or for its text, and no further line was run
     is_short: bool,
 }
 
-/// What a guest leaves: what it was told, how many of its reads failed by a reader, and whether memory ran out.
+/// What a guest leaves: what it was told, how many of its reads failed by a reader, what its calls came to, and whether memory ran out.
 #[derive(Drop)]
 pub struct Left {
     pub told: Vec<ToldCall>,
     pub unread: u64,
+    pub tally: Tally,
     pub is_short: bool,
 }
 
-// The bytes at the front of the room that a read of so many sectors found; one of more than it may name finds none.
-fn read_bytes(room: &[u8], count: u64) -> &[u8]
+/// The bytes at the front of the room that a read of so many sectors found; one of more than it may name finds none.
+pub(crate) fn read_bytes(room: &[u8], count: u64) -> &[u8]
     requires { length room.now ≡ 1048576 }
     ensures { result.now ≡ if nat_lt 2048 count then [] else take (512 * count) room.now }
 {
@@ -149,7 +154,7 @@ fn is_want(answer: Result<Placed, ChainRefusal>) -> bool
 impl<S: Store> Actor<S> {
     /// A guest of this number, which has made no call.
     pub fn new(alloc: Global, guest: Guest<S>, number: u32, room: Vec<u8>) -> Actor<S>
-        ensures { (result.guest ≡ guest) × (result.number ≡ number) × (result.room ≡ room) × (result.told.items ≡ []) × (result.unread ≡ 0) × (result.is_short ≡ false) }
+        ensures { (result.guest ≡ guest) × (result.number ≡ number) × (result.room ≡ room) × (result.told.items ≡ []) × (result.unread ≡ 0) × (result.is_short ≡ false) × (result.tally ≡ no_tally) }
     {
         Actor {
             guest,
@@ -157,8 +162,19 @@ impl<S: Store> Actor<S> {
             room,
             told: Vec::new(alloc),
             unread: 0,
+            tally: Tally::none(),
             is_short: false,
         }
+    }
+
+    // Counts a call by what it was told.
+    fn count(&mut self, form: Form, answer: Result<Placed, ChainRefusal>)
+        requires { length self.old.room.items ≡ 1048576 }
+        ensures tally { (outcomes : List Outcome) → length outcomes < 2 ^ 32 → AddsUp self.old.tally outcomes → AddsUp self.new.tally (with_outcome outcomes (shown_in self.old.room.items form) answer) }
+        ensures only { self.new ≡ record self.old { tally = self.new.tally; unread = with_answer self.old.unread answer } }
+    {
+        self.unread = with_answer(self.unread, answer);
+        self.tally = self.tally.with_call(form, answer, self.room.as_slice());
     }
 
     // Keeps what a call was told.
@@ -213,7 +229,7 @@ impl<S: Store> Actor<S> {
             form,
             self.room.as_mut_slice(),
         );
-        self.unread = with_answer(self.unread, answer);
+        self.count(form, answer);
         if let Err(NoRoom) = self.keep(alloc, names, form, answer) {
             self.is_short = true;
         }
@@ -246,7 +262,7 @@ impl<S: Store> Actor<S> {
 
     /// Its seat and its readers, and what it leaves.
     pub fn end(self) -> (Seat<SharedChain<S>>, ReaderSet<S::R>, Left)
-        ensures { (result.0 ≡ self.guest.seat) × (result.2.told ≡ self.told) × (result.2.unread ≡ self.unread) × (result.2.is_short ≡ self.is_short) × (result.1 ≡ self.guest.readers) }
+        ensures { (result.0 ≡ self.guest.seat) × (result.2.told ≡ self.told) × (result.2.unread ≡ self.unread) × (result.2.is_short ≡ self.is_short) × (result.1 ≡ self.guest.readers) × (result.2.tally ≡ self.tally) }
     {
         let Actor {
             guest,
@@ -254,12 +270,14 @@ impl<S: Store> Actor<S> {
             room: _,
             told,
             unread,
+            tally,
             is_short,
         } = self;
         let (seat, readers) = guest.end();
         let left = Left {
             told,
             unread,
+            tally,
             is_short,
         };
         (seat, readers, left)

@@ -9,8 +9,10 @@ mod merging;
 mod sealing;
 mod serving;
 mod session;
+mod tally;
 mod tools;
 
 pub use merging::{MergeRun, pieces_for, run_serve_leaf_merge, run_serve_merge};
 pub use serving::rooms_for;
 pub use session::{ServeRun, run_serve};
+pub use tally::Tally;

@@ -10,6 +10,7 @@ ghost use Rattle.serve_session.specs.Back.{any_failed};
 ghost use Rattle.serve_session.specs.Served.{guest_count};
 
 use crate::fresh::serve_fresh;
+use crate::tally::Tally;
 use chain_core::{Chain, MergeStartRefusal};
 use guest_model::{ChainRefusal, KeepAll};
 use link_rules::LinkedFile;
@@ -33,6 +34,8 @@ pub struct MergeRun {
     pub run: ScriptRun,
     /// How many of the guests' reads stand in the history and failed by a reader.
     pub unread: u64,
+    /// What the guests' calls came to.
+    pub tally: Tally,
     /// Whether the merge was finished; else what stopped it at the end.
     pub merged: Result<(), ChainRefusal>,
 }

@@ -15,10 +15,12 @@ ghost use Rattle.serve_session.specs.Lists.{AreActors, AreFresh, CanWork, HasDon
 ghost use Rattle.serve_session.specs.Tools.{AreToolsFor};
 ghost use Rattle.serve_session.specs.Served.{greatest_from, guest_count};
 ghost use Rattle.serve_session.specs.Sealing.{IsSetFor};
+ghost use Rattle.serve_session.specs.Tallies.{no_tally};
 ghost use Rattle.serve_session.specs.Serving.{EndsAs, HasBegun, HasServed, IsShared};
 
 use crate::actor::{Actor, Left as GuestLeft, ROOM_LEN};
 use crate::merging::MergeRun;
+use crate::tally::Tally;
 use crate::tools::Tools;
 use claims::{ClaimSeat, Claims};
 use copy_workers::Worker;
@@ -152,9 +154,11 @@ fn beside<
     join_mut(rt, &mut one, &mut other);
 }
 
-// What all guests leave beside what they were told: how many of their reads failed by a reader, and whether memory ran out.
+// What all guests leave beside what they were told: how many of their reads failed by a reader, what their calls came to, and whether memory ran
+// out.
 struct Totals {
     unread: u64,
+    tally: Tally,
     is_short: bool,
 }
 
@@ -179,12 +183,13 @@ fn end_actors<S: Store, N: AsStr>(
     ensures sets { length back.new.items ≡ length actors.old.items }
     ensures capacity { vec_capacity back.new ≡ vec_capacity back.old }
     ensures joined { HasJoined S.disk false chain.now.value.first lock.now (map N.text names.now) lines.now (length actors.old.items) first.old first.new told.new.items result.is_short
-        result.unread }
+        result.unread result.tally }
     ensures back { any_failed back.new.items ≡ nat_lt 0 result.unread }
     ensures few { result.unread ≤ 2 ^ 26 }
     ensures none { actors.new.items ≡ [] }
 {
     let mut unread = 0;
+    let mut tally = Tally::none();
     let mut is_short = false;
     while let Some(actor) = actors.pop() {
         let (seat, readers, left) = actor.end();
@@ -193,13 +198,19 @@ fn end_actors<S: Store, N: AsStr>(
         let GuestLeft {
             told: calls,
             unread: more,
+            tally: heard,
             is_short: short,
         } = left;
         unread += more;
+        tally = tally.and(heard);
         is_short = is_short || short;
         told.push_reserved(ToldCalls::from_vec(calls));
     }
-    Totals { unread, is_short }
+    Totals {
+        unread,
+        tally,
+        is_short,
+    }
 }
 
 // The transcript of a script of which all calls were made, if memory didn't run out.
@@ -322,24 +333,26 @@ fn end_workers<S: Store>(
 }
 
 // What threads left of a chain that they shared: the chain, what each guest was told, the readers of guests and workers, how many reads failed by
-// one, and whether memory ran out.
+// one, what the guests' calls came to, and whether memory ran out.
 struct Left<S: Store> {
     chain: SharedChain<S>,
     told: Vec<ToldCalls>,
     back: Vec<ReaderSet<S::R>>,
     unread: u64,
+    tally: Tally,
     is_short: bool,
 }
 
 // A chain that wasn't shared, as memory ran out for it.
 fn unshared<S: Store>(alloc: Global, chain: SharedChain<S>) -> Left<S>
-    ensures { (result.chain ≡ chain) × (result.told.items ≡ []) × (result.back.items ≡ []) × (result.unread ≡ 0) × (result.is_short ≡ true) }
+    ensures { (result.chain ≡ chain) × (result.told.items ≡ []) × (result.back.items ≡ []) × (result.unread ≡ 0) × (result.is_short ≡ true) × (result.tally ≡ no_tally) }
 {
     Left {
         chain,
         told: Vec::new(alloc),
         back: Vec::new(alloc),
         unread: 0,
+        tally: Tally::none(),
         is_short: true,
     }
 }
@@ -413,8 +426,8 @@ where
     requires sets { (length sets ≡ length rooms.items + length tools.items) × All (IsSetFor S.disk chain.first) sets }
     requires tools { All (AreToolsFor S.disk chain.first) tools.items }
     requires workers { length tools.items ≤ 64 }
-    ensures alone { length tools.items ≡ 0 → IsShared S.disk false chain (map N.text names.now) lines.now result.chain result.told.items result.is_short result.unread }
-    ensures beside { IsShared S.disk true chain (map N.text names.now) lines.now result.chain result.told.items result.is_short result.unread }
+    ensures alone { length tools.items ≡ 0 → IsShared S.disk false chain (map N.text names.now) lines.now result.chain result.told.items result.is_short result.unread result.tally }
+    ensures beside { IsShared S.disk true chain (map N.text names.now) lines.now result.chain result.told.items result.is_short result.unread result.tally }
     ensures back { any_failed result.back.items ≡ nat_lt 0 result.unread }
 {
     let mut rooms = rooms;
@@ -463,7 +476,11 @@ where
     );
     let (guests, hands) = (actors.as_mut_slice(), workers.as_mut_slice());
     run_beside(rt, alloc, &lock, gate, names, lines, guests, &claims, hands);
-    let Totals { unread, is_short } = end_actors(
+    let Totals {
+        unread,
+        tally,
+        is_short,
+    } = end_actors(
         &lock,
         &mut first,
         &mut actors,
@@ -482,6 +499,7 @@ where
         told,
         back,
         unread: unread.saturating_add(unfetched),
+        tally,
         is_short,
     }
 }
@@ -537,6 +555,7 @@ where
         told,
         back,
         unread,
+        tally,
         is_short,
     } = left;
     let merged = end_merge(&mut chain, last);
@@ -550,6 +569,7 @@ where
     let run = MergeRun {
         run,
         unread,
+        tally,
         merged,
     };
     (store, run, back)
@@ -560,6 +580,7 @@ pub(crate) fn unserved(met: Option<StoreFault>, closed: Result<(), StoreFault>) 
     ensures transcript { IfOk result.run.transcript (λ text. ⊥) }
     ensures fault { result.run.fault ≡ met }
     ensures unread { result.unread ≡ 0 }
+    ensures tally { result.tally ≡ no_tally }
     ensures closed { result.run.closed ≡ closed }
     ensures merged { result.merged ≡ Err ChainRefusal.NoRoom }
 {
@@ -571,6 +592,7 @@ pub(crate) fn unserved(met: Option<StoreFault>, closed: Result<(), StoreFault>) 
     MergeRun {
         run,
         unread: 0,
+        tally: Tally::none(),
         merged: Err(ChainRefusal::NoRoom),
     }
 }

@@ -9,6 +9,7 @@ ghost use Rattle.serve_session.specs.Back.{any_failed};
 ghost use Rattle.serve_session.specs.Served.{guest_count};
 
 use crate::fresh::serve_fresh;
+use crate::tally::Tally;
 use chain_core::{Chain, Mode, StartRefusal};
 use guest_model::KeepAll;
 use link_rules::LinkedFile;
@@ -27,6 +28,8 @@ pub struct ServeRun {
     pub run: ScriptRun,
     /// How many of the guests' reads stand in the history and failed by a reader.
     pub unread: u64,
+    /// What the guests' calls came to.
+    pub tally: Tally,
 }
 
 /// Runs a script of `serve` in a session over the files of a chain, each guest's calls in the script's order and in a thread of its own
@@ -75,6 +78,7 @@ where
     let run = ServeRun {
         run: served.run,
         unread: served.unread,
+        tally: served.tally,
     };
     (store, Ok(run), back)
 }

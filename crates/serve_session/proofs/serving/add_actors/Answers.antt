@@ -31,6 +31,7 @@ loop-room-preserved g c =
             told = c.new.ensures.3;
             unread = c.new.ensures.4;
             memory = c.new.ensures.5;
+            tally = c.new.ensures.6;
           }));
       sets = taken.0;
       many_sets = omega (arith, fewer_sets, pushed, i.many_sets);

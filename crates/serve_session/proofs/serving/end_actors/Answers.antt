@@ -9,7 +9,9 @@ use Rattle.read_plan.specs.Reading.{has_failed}
 use Rattle.serve_session.specs.Lists.{AreActors}
 use Rattle.serve_session.proofs.Back.{any_more}
 use Rattle.serve_session.proofs.Guests.{all_unread_count, forms_few}
-use Rattle.serve_session.proofs.Joining.{few_unread, join_more, last_actor, one_joined}
+use Rattle.serve_session.specs.Tallies.{AddsUp, all_outcomes}
+use Rattle.serve_session.proofs.Joining.{few_told_of, few_unread, join_more, last_actor, one_joined}
+use Rattle.serve_session.proofs.Tallies.{all_outcomes_snoc, both_add}
 use Rattle.serve_session.proofs.serving.end_actors.Goals as goal
 use Rattle.serve_session.proofs.serving.end_actors.Goals.{then-is_short, else-is_short}
 
@@ -59,6 +61,9 @@ loop-actor-preserved g c =
     ] in
     let unread_now = all_unread_count i.guests outcomes in
     let unread_most = few_unread disk c.args.chain.now.value.first c.args.lock.now names c.args.lines.now a last.2 in
+    let outcomes_now = all_outcomes_snoc i.guests outcomes in
+    let outcomes_few = few_told_of disk c.args.chain.now.value.first c.args.lock.now names c.args.lines.now a last.2 in
+    let length_now : length (all_outcomes (i.guests ++ outcomes ∷ [])) ≡ length (all_outcomes i.guests) + length outcomes = ap length outcomes_now ∙ length-append (all_outcomes i.guests) outcomes in
     let drawn : c.join.new.first.drawn ≡ c.loop-actor.first.drawn + a.guest.seat.drawn = ap (λ s. s.drawn) met.0 in
     let joined = one_joined disk c.args.chain.now.value.first c.args.lock.now names c.args.lines.now c.loop-actor.first c.join.new.first c.loop-actor.told.items c.loop-actor.is_short i.guests i.joined a last.2 (last.1 ∙ omega (arith, i.count, popped)) met.0 met.1 met.2 in
     record {
@@ -68,6 +73,10 @@ loop-actor-preserved g c =
       left = last.0;
       count = omega (arith, more, i.count, popped);
       unread = omega (arith, i.unread, c.end-seat.ensures.2, last.2.unread, unread_now);
+      tally = subst (AddsUp c.and-tally.result) (sym outcomes_now)
+          (both_add (all_outcomes i.guests) outcomes c.loop-actor.tally c.end-seat.result.2.tally c.and-tally.result i.tally (subst (λ t. AddsUp t outcomes) (sym c.end-seat.ensures.5) last.2.tally)
+          (omega (arith, i.few_outcomes, i.count, c.requires.guests, outcomes_few, c.requires.few)) c.and-tally.ensures.seen c.and-tally.ensures.refused);
+      few_outcomes = omega (arith, i.few_outcomes, length_now, outcomes_few, c.requires.few, more);
       few_unread = omega (arith, i.few_unread, unread_now, unread_most, c.requires.few, more);
       family = join_more c.args.first.now.family c.loop-actor.first.family c.join.new.first.family (length i.guests) (length (i.guests ++ outcomes ∷ [])) i.family (ap (λ s. s.family) c.join.ensures.both) more;
       first_ticket = ap (λ s. s.first_ticket) c.join.ensures.both ∙ i.first_ticket;

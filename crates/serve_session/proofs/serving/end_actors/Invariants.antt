@@ -3,6 +3,7 @@ use Rattle.serve_session.specs.Actors.{AreJoined, HasRun}
 use Rattle.serve_session.specs.Back.{any_failed}
 use Rattle.serve_session.specs.Lists.{AreActors}
 use Rattle.serve_session.specs.Served.{Outcome, all_unread}
+use Rattle.serve_session.specs.Tallies.{AddsUp, all_outcomes}
 use Rattle.serve_session.proofs.serving.end_actors.Given as goal
 
 -- the seats of the actors that were taken are joined
@@ -14,6 +15,8 @@ invariant-loop-actor g l = record {
   count : length guests + length l.actors.items ≡ length l.fn.actors.items;
   unread : l.unread ≡ length (all_unread guests);
   back : any_failed l.back.items ≡ nat_lt 0 l.unread;
+  tally : AddsUp l.tally (all_outcomes guests);
+  few_outcomes : length (all_outcomes guests) ≤ 2 ^ 20 * length guests;
   few_unread : length (all_unread guests) ≤ 2 ^ 20 * length guests;
   family : l.first.family ≡ record (l.fn.first.family) { joins = l.fn.first.family.joins + length guests };
   first_ticket : l.first.first_ticket ≡ l.fn.first.first_ticket;

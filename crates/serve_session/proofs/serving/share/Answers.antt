@@ -117,6 +117,7 @@ returns-clause-alone g c none =
           let sum = sat_none c.end_actors-unread.result.unread c.end_workers-unfetched.result c.saturating_add.result
           (c.end_workers-unfetched.ensures.alone (workers ∙ c.run_beside.ensures.workers.count ∙ ap length c.as_mut_slice-hands.ensures.value ∙ c.add_workers.ensures.count ∙ none)) (omega (arith, few)) c.saturating_add.ensures in
           omega (arith, sum, j.unread_is));
+      tally_is = j.tally_is;
       history = c.close-chain.ensures.history;
       basis = c.close-chain.ensures.basis;
       places = c.close-chain.ensures.places;
@@ -156,6 +157,7 @@ returns-clause-beside g c =
           (let few = c.end_actors-unread.ensures.few in
           let least = sat_least c.end_actors-unread.result.unread c.end_workers-unfetched.result c.saturating_add.result (omega (arith, few)) c.saturating_add.ensures in
           omega (arith, least, j.unread_is));
+      tally_is = j.tally_is;
       history = c.close-chain.ensures.history;
       basis = c.close-chain.ensures.basis;
       places = c.close-chain.ensures.places;
