@@ -107,6 +107,38 @@ static TWO: Guests = Guests {
     disk: "1 read 0 2048 = 512*aa 2560*00 512*55 1044480*00 512*cc\n2 read 2048 2048 = 512*cc 1048064*00\n3 read 4096 2048 = 512*44 512*bb 1047552*00\n4 read 6144 2048 = 1048064*00 512*dd\n",
 };
 
+static FOUR: Guests = Guests {
+    script: "1 write 0 1 aa\n2 write 2049 2 bb\n3 trim 4096 1\n4 read 6144 1\n1 read 4 4\n2 read 2048 4\n3 read 4096 2\n4 write 6144 1 ee\n1 trim 6 1\n2 flush\n3 write 4100 1 cc\n4 read 6143 2\n1 read 5 2\n2 write 2050 1 dd\n3 read 4099 3\n4 flush\n",
+    calls: 16,
+    told: &[
+        &[
+            "1 1 write 0 1 aa = done",
+            "1 2 read 4 4 = 512*00 512*33 512*55 512*00",
+            "1 3 trim 6 1 = done",
+            "1 4 read 5 2 = 512*33 512*00",
+        ],
+        &[
+            "2 1 write 2049 2 bb = done",
+            "2 2 read 2048 4 = 512*22 1024*bb 512*00",
+            "2 3 flush = done",
+            "2 4 write 2050 1 dd = done",
+        ],
+        &[
+            "3 1 trim 4096 1 = done",
+            "3 2 read 4096 2 = 1024*00",
+            "3 3 write 4100 1 cc = done",
+            "3 4 read 4099 3 = 512*00 512*cc 512*00",
+        ],
+        &[
+            "4 1 read 6144 1 = 512*66",
+            "4 2 write 6144 1 ee = done",
+            "4 3 read 6143 2 = 512*00 512*ee",
+            "4 4 flush = done",
+        ],
+    ],
+    disk: "1 read 0 2048 = 512*aa 2048*00 512*33 1045504*00\n2 read 2048 2048 = 512*22 512*bb 512*dd 1047040*00\n3 read 4096 2048 = 2048*00 512*cc 1046016*00\n4 read 6144 2048 = 512*ee 1048064*00\n",
+};
+
 /// A host of the chain.
 pub fn chain<R: Abort + Threads + Wait + Sync>(rt: &R, alloc: Global) -> MemHost
     ensures { WhereTold (hosted_by result).folder AllIdle }
@@ -227,14 +259,14 @@ fn ask_served<R: Abort + Threads + Wait + Sync>(
 
 #[test]
 fn leaf_merges_beside_guests(rt: HostRuntime) {
-    for (guests, workers) in [(&NONE, 2u32), (&ONE, 4), (&TWO, 2), (&TWO, 64)] {
+    for (guests, workers) in [(&NONE, 2u32), (&ONE, 4), (&TWO, 64), (&FOUR, 3)] {
         ask_served(&rt, rt.alloc(), &LEAF, guests, workers);
     }
 }
 
 #[test]
 fn merges_beside_guests(rt: HostRuntime) {
-    for (guests, workers) in [(&NONE, 2u32), (&ONE, 0), (&ONE, 1), (&TWO, 3)] {
+    for (guests, workers) in [(&NONE, 2u32), (&ONE, 0), (&TWO, 1), (&FOUR, 3)] {
         ask_served(&rt, rt.alloc(), &MIDDLE, guests, workers);
     }
 }
