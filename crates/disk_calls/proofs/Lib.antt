@@ -1,2 +1,3 @@
 pub mod CallRuns
+pub mod Through
 mod Whole

@@ -1,21 +1,22 @@
 -- A disk as one guest calls it (profile): what it is asked, what it tells, and what the guest knows of the history by that.
 use Rattle.std.specs.Prelude.{◌≡◌, ℕ, ◌%◌, ⊤, List, [], ◌∷◌, ◌++◌, length, Option, Some, None, Result, Ok, Err}
 use Rattle.guest_model.specs.declared.call.Call.{Call}
-use Rattle.guest_model.specs.declared.call.Call.TheVariants.{Read, Write}
+use Rattle.guest_model.specs.declared.call.Call.TheVariants.{Flush, Read, Write}
 use Rattle.guest_model.specs.declared.call.Reply.{Reply}
+use Rattle.guest_model.specs.declared.call.Reply.TheVariants.{Done}
 use Rattle.guest_model.specs.declared.refusal.ChainRefusal.{ChainRefusal}
 use Rattle.guest_model.specs.declared.refusal.ChainRefusal.TheVariants.{ReadFault}
 use Rattle.guest_model.specs.Calls.{Disk, reply}
 use Rattle.guest_model.specs.History.{History, replay}
 use Rattle.vx_base.specs.declared.parts.Geometry.{Geometry}
 
--- What a guest asks: a call, or a write that outlasts a crash once it is answered. That one is no call of the model yet; where it
--- becomes one, this type is that of calls.
+-- What a guest asks: a call, or a write that outlasts a crash once it is answered. That one is no call of the model yet, but a Write and a
+-- Flush behind it; where it becomes one, this type is that of calls.
 pub data Asked : Type 0 where
   plain : Call → Asked
   through : ℕ → List ℕ → Asked
 
--- the call that stands in the history for it
+-- the call that stands in the history at the place that is told of it
 abbrev pub noted : Asked → Call
 noted (plain call) = call
 noted (through first bytes) = Write first bytes
@@ -66,22 +67,27 @@ pub record IsNoted (call : Call) (place : ℕ) (old new : Known) : Type 0 where
   }
   pub last : place ≡ length new.seen
 
--- What was told of a call is true, from what the guest knew before to what it knows behind it. A call that was done stands in the
--- history at the place that was told, and its reply is the one of the disk there; a sector has z bytes. One that was refused doesn't
--- stand in it, but for a read of which a part couldn't be read behind its turn.
-pub data IsTrueOf (z : ℕ) (call : Call) (old new : Known) : Told → Type 0 where
-  was_done : {place : ℕ} {said : Reply} → (n : IsNoted call place old new) → said ≡ reply (replay z old.opening (old.seen ++ n.others)) call
-      → IsTrueOf z call old new (Ok (place, said))
-  was_refused : {refusal : ChainRefusal} → (others : History) → new ≡ behind old others → IsTrueOf z call old new (Err refusal)
-  was_lost : {first count place file failed : ℕ} → call ≡ Read first count → IsNoted call place old new
-      → IsTrueOf z call old new (Err (ReadFault file failed))
+-- What was told of a call is true, from what the guest knew before to what it knows behind it; a sector has z bytes. A call that was done
+-- stands in the history at the place that was told, and its reply is the one of the disk there. A write that outlasts a crash stands in it as
+-- a Write at that place, and behind it, others' calls between them perhaps, stands a Flush of the same guest: so much is flushed before it is
+-- told. A refused call doesn't stand in it, but for a read of which a part couldn't be read behind its turn, and for such a write whose Flush was
+-- refused.
+pub data IsTrueOf (z : ℕ) (old new : Known) : Asked → Told → Type 0 where
+  was_done : {call : Call} {place : ℕ} {said : Reply} → (n : IsNoted call place old new) → said ≡ reply (replay z old.opening (old.seen ++ n.others)) call
+      → IsTrueOf z old new (plain call) (Ok (place, said))
+  was_flushed : {first place flushed : ℕ} {bytes : List ℕ} → (mid : Known) → IsNoted (Write first bytes) place old mid → IsNoted Flush flushed mid new
+      → IsTrueOf z old new (through first bytes) (Ok (place, Done))
+  was_refused : {asked : Asked} {refusal : ChainRefusal} → (others : History) → new ≡ behind old others → IsTrueOf z old new asked (Err refusal)
+  was_unflushed : {first place : ℕ} {bytes : List ℕ} {refusal : ChainRefusal} → (mid : Known) → IsNoted (Write first bytes) place old mid → (others : History) → new ≡ behind mid others
+      → IsTrueOf z old new (through first bytes) (Err refusal)
+  was_lost : {first count place file failed : ℕ} → IsNoted (Read first count) place old new → IsTrueOf z old new (plain (Read first count)) (Err (ReadFault file failed))
 
 -- the same where a disk tells what its guest knows, which it does always or never
 abbrev pub Answers : ℕ → Telling (Option Known)
 Answers z None asked said None = ⊤
 Answers z None asked said (Some new) = ⊥
 Answers z (Some old) asked said None = ⊥
-Answers z (Some old) asked said (Some new) = IsTrueOf z (noted asked) old new said
+Answers z (Some old) asked said (Some new) = IsTrueOf z old new asked said
 
 -- What a disk says of a call keeps its size, and what it tells of the history is true.
 pub record IsTold (size_before size_behind : Geometry) (old : Option Known) (asked : Asked) (said : Told) (new : Option Known) : Type 0 where

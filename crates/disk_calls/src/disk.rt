@@ -44,7 +44,7 @@ pub trait DiskCalls {
         requires { IsWhole (size self.old).sector (length bytes.now) }
         ensures told { tells self.old (plain (calls.Write first bytes.now)) (told replies.Done result) self.new };
 
-    /// Writes whole sectors from `first` on, which outlast a crash once it has answered its place.
+    /// Writes whole sectors from `first` on, which outlast a crash once it has answered its place: a Write there, and a Flush behind it.
     fn write_through(&mut self, first: u64, bytes: &[u8]) -> Result<u64, ChainRefusal>
         requires { IsWhole (size self.old).sector (length bytes.now) }
         ensures told { tells self.old (through first bytes.now) (told replies.Done result) self.new };

@@ -15,7 +15,7 @@ use Rattle.guest_model.specs.declared.refusal.ChainRefusal.{ChainRefusal}
 use Rattle.guest_model.specs.Calls.{Disk, changes, content, is_named, reply, bytes_of}
 use Rattle.guest_model.specs.History.{History, replay, sector_at}
 use Rattle.guest_model.proofs.HistoryLaws.{length-replay, replay_unchanged, sector_at-replay_push}
-use Rattle.disk_calls.specs.Disks.{IsNoted, IsTrueOf, noted, told, was_done, was_refused}
+use Rattle.disk_calls.specs.Disks.{IsNoted, IsTrueOf, plain, told, was_done, was_refused}
 use Rattle.nbd_tests.specs.Told.{Holds, blank, known_of, places_to}
 
 -- ---- what is told
@@ -29,7 +29,7 @@ push_len h e = omega (arith, length-append h (e ∷ []))
 -- a call that was done and noted
 pub is_done : (bytes now : List ℕ) (h h' : History) (call : Call) (place : ℕ) (said : Reply) → length now ≡ length bytes
     → h' ≡ h ++ entry call ∷ [] → place ≡ length h' → said ≡ reply (replay 512 (blank (length bytes / 512)) h) call
-    → IsTrueOf 512 call (known_of bytes h) (known_of now h') (Ok (place, said))
+    → IsTrueOf 512 (known_of bytes h) (known_of now h') (plain call) (Ok (place, said))
 is_done bytes now h h' call place said len e at answer =
     let whole : (h ++ []) ++ entry call ∷ [] ≡ h' = ap (λ (l : History). l ++ entry call ∷ []) (append-nil h) ∙ sym e in
     let count : length h' ≡ suc (length h) = ap length e ∙ push_len h (entry call) in
@@ -46,7 +46,7 @@ is_done bytes now h h' call place said len e at answer =
 
 -- one that was refused
 pub is_refused : (bytes now : List ℕ) (h h' : History) (call : Call) (refusal : ChainRefusal) → now ≡ bytes → h' ≡ h
-    → IsTrueOf 512 call (known_of bytes h) (known_of now h') (Err refusal)
+    → IsTrueOf 512 (known_of bytes h) (known_of now h') (plain call) (Err refusal)
 is_refused bytes now h h' call refusal same e =
     was_refused [] (ap (λ (b : List ℕ). known_of b h') same ∙ ap (known_of bytes) e ∙ ap (λ l. record (known_of bytes h) { seen = l }) (sym (append-nil h)))
 
@@ -222,14 +222,14 @@ holds_blank n = record {
 
 -- a call that wasn't noted
 pub not_done : (bytes now : List ℕ) (h h' : History) (call : Call) (said : Reply) (r : Result ℕ ChainRefusal) → IsErr r → now ≡ bytes → h' ≡ h
-    → IsTrueOf 512 call (known_of bytes h) (known_of now h') (told said r)
+    → IsTrueOf 512 (known_of bytes h) (known_of now h') (plain call) (told said r)
 not_done bytes now h h' call said (Ok place) err same e = cc
 not_done bytes now h h' call said (Err refusal) err same e = is_refused bytes now h h' call refusal same e
 
 -- a call that changes nothing
 pub still_told : (bytes : List ℕ) (h h' : History) (call : Call) (said : Reply) (r : Result ℕ ChainRefusal)
     → IfOk r (λ place. h' ≡ h ++ entry call ∷ []) → IfOk r (λ place. place ≡ length h') → OnErr r (h' ≡ h) → said ≡ reply (replay 512 (blank (length bytes / 512)) h) call
-    → IsTrueOf 512 call (known_of bytes h) (known_of bytes h') (told said r)
+    → IsTrueOf 512 (known_of bytes h) (known_of bytes h') (plain call) (told said r)
 still_told bytes h h' call said (Ok place) noted at same answer = is_done bytes bytes h h' call place said refl noted at answer
 still_told bytes h h' call said (Err refusal) noted at same answer = is_refused bytes bytes h h' call refusal refl same
 

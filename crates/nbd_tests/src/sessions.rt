@@ -494,7 +494,7 @@ fn calls_stand_in_the_history(rt: HostRuntime) {
         0,
         served.end.is_ok() && !served.fault && !served.no_room,
     );
-    ask(&rt, 1, disk.history.len() == 6);
+    ask(&rt, 1, disk.history.len() == 8);
     ask(
         &rt,
         2,

@@ -4,7 +4,7 @@ ghost use Rattle.std.specs.Prelude.{◌≡◌, ◌≤◌, ◌<◌, ◌+◌, ◌*
 ghost use Rattle.guest_model.specs.declared.call.Call.TheVariants.{Flush, Read, Trim, Write};
 ghost use Rattle.guest_model.specs.declared.call.Reply.TheVariants.{Bytes, Done};
 ghost use Rattle.guest_model.specs.Calls.{call_of};
-ghost use Rattle.disk_calls.specs.Disks.{IsTrueOf, IsWhole, told};
+ghost use Rattle.disk_calls.specs.Disks.{IsTrueOf, IsWhole, plain, through, told};
 ghost use Rattle.nbd_tests.specs.Told.{Holds, known_of, size_of};
 
 use disk_calls::DiskCalls;
@@ -72,7 +72,7 @@ fn read_of(
     requires whole { IsWhole 512 (length buf.old) }
     requires holds { Holds history.old bytes.now }
     ensures holds { Holds history.new bytes.now }
-    ensures told { IsTrueOf 512 (Read first (length buf.new / 512)) (known_of bytes.now history.old) (known_of bytes.now history.new) (told (Bytes buf.new) result) }
+    ensures told { IsTrueOf 512 (known_of bytes.now history.old) (known_of bytes.now history.new) (plain (Read first (length buf.new / 512))) (told (Bytes buf.new) result) }
 {
     let count = buf.len() as u64 / 512;
     let at = place(bytes.len(), first, count)?;
@@ -90,7 +90,7 @@ fn write_to(
     requires whole { IsWhole 512 (length with.now) }
     requires holds { Holds history.old bytes.old }
     ensures holds { Holds history.new bytes.new }
-    ensures told { IsTrueOf 512 (Write first with.now) (known_of bytes.old history.old) (known_of bytes.new history.new) (told Done result) }
+    ensures told { IsTrueOf 512 (known_of bytes.old history.old) (known_of bytes.new history.new) (plain (Write first with.now)) (told Done result) }
 {
     let at = place(bytes.len(), first, with.len() as u64 / 512)?;
     let placed = note(history, CallRef::Write { first, bytes: with })?;
@@ -107,7 +107,7 @@ fn trim_of(
 ) -> Result<u64, ChainRefusal>
     requires holds { Holds history.old bytes.old }
     ensures holds { Holds history.new bytes.new }
-    ensures told { IsTrueOf 512 (Trim first count) (known_of bytes.old history.old) (known_of bytes.new history.new) (told Done result) }
+    ensures told { IsTrueOf 512 (known_of bytes.old history.old) (known_of bytes.new history.new) (plain (Trim first count)) (told Done result) }
 {
     let at = place(bytes.len(), first, count)?;
     let placed = note(history, CallRef::Trim { first, count })?;
@@ -119,9 +119,26 @@ fn trim_of(
 fn flush_of(bytes: &[u8], history: &mut KeepAll) -> Result<u64, ChainRefusal>
     requires holds { Holds history.old bytes.now }
     ensures holds { Holds history.new bytes.now }
-    ensures told { IsTrueOf 512 Flush (known_of bytes.now history.old) (known_of bytes.now history.new) (told Done result) }
+    ensures told { IsTrueOf 512 (known_of bytes.now history.old) (known_of bytes.now history.new) (plain Flush) (told Done result) }
 {
     note(history, CallRef::Flush)
+}
+
+// Writes whole sectors, and flushes before it answers.
+fn write_through_to(
+    bytes: &mut [u8],
+    history: &mut KeepAll,
+    first: u64,
+    with: &[u8],
+) -> Result<u64, ChainRefusal>
+    requires whole { IsWhole 512 (length with.now) }
+    requires holds { Holds history.old bytes.old }
+    ensures holds { Holds history.new bytes.new }
+    ensures told { IsTrueOf 512 (known_of bytes.old history.old) (known_of bytes.new history.new) (through first with.now) (told Done result) }
+{
+    let placed = write_to(bytes, history, first, with)?;
+    flush_of(bytes, history)?;
+    Ok(placed)
 }
 
 impl DiskCalls for ToldDisk {
@@ -152,7 +169,7 @@ impl DiskCalls for ToldDisk {
     }
 
     fn write_through(&mut self, first: u64, bytes: &[u8]) -> Result<u64, ChainRefusal> {
-        write_to(&mut self.bytes, &mut self.history, first, bytes)
+        write_through_to(&mut self.bytes, &mut self.history, first, bytes)
     }
 
     fn trim(&mut self, first: u64, count: u64) -> Result<u64, ChainRefusal> {
