@@ -21,6 +21,12 @@ use Rattle.nbd_front.specs.declared.desk.Desk.{Desk}
 use Rattle.nbd_front.specs.declared.next.Next.{Next}
 use Rattle.nbd_front.specs.declared.next.Next.TheVariants.{Options, Requests, End}
 
+-- nothing was read or replied yet
+pub record IsFresh (desk : Desk) : Type 0 where
+  pub empty : desk.intake.end ≡ desk.intake.start
+  pub at : desk.intake.at ≡ 0
+  pub tally : desk.tally ≡ record { messages = 0; fault = false; no_room = false }
+
 -- what was read ahead
 abbrev pub ahead : Intake → List ℕ
 ahead i = take (i.end - i.start) (drop i.start i.room.items)

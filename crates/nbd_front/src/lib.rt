@@ -20,8 +20,9 @@ mod taking;
 mod tally;
 mod writing;
 
-pub use connection::serve;
-pub use desk::Room;
+pub use connection::{serve, serve_with};
+pub use desk::{Desk, Room};
+pub use export::Export;
 pub use laws::{one_reading, pieces_cover};
 pub use refusal::NbdRefusal;
 pub use served::Served;
