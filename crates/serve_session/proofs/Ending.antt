@@ -188,7 +188,7 @@ begins_noted disk f less = none_noted disk.failed_reads disk.files f less
 
 -- ---- the end of a session
 
-reads_stay : (s : Session) (after : Disk) (closed : Result (Unit {0}) StoreFault) → IsEnded s after closed → after.failed_reads ≡ s.disk.failed_reads
+pub reads_stay : (s : Session) (after : Disk) (closed : Result (Unit {0}) StoreFault) → IsEnded s after closed → after.failed_reads ≡ s.disk.failed_reads
 reads_stay s after closed e = go s.broken refl closed refl
   where
     go : (o : Option StoreFault) → s.broken ≡ o → (r : Result (Unit {0}) StoreFault) → closed ≡ r → after.failed_reads ≡ s.disk.failed_reads
@@ -196,7 +196,7 @@ reads_stay s after closed e = go s.broken refl closed refl
     go None is (Ok done) same = ap (λ (d : Disk). d.failed_reads) (subst (λ r. OnOk r (after ≡ record (s.disk) { told = after.told })) same (e.counts is))
     go None is (Err f) same = ap (λ (d : Disk). d.failed_reads) (subst (λ r. IfErr r (SomeChangeFailed (IsOfSession s.layers) s.disk after)) same (e.fails is)).fails.stays
 
-files_stay : (s : Session) (after : Disk) (closed : Result (Unit {0}) StoreFault) → IsEnded s after closed → after.files ≡ s.disk.files
+pub files_stay : (s : Session) (after : Disk) (closed : Result (Unit {0}) StoreFault) → IsEnded s after closed → after.files ≡ s.disk.files
 files_stay s after closed e = go s.broken refl closed refl
   where
     go : (o : Option StoreFault) → s.broken ≡ o → (r : Result (Unit {0}) StoreFault) → closed ≡ r → after.files ≡ s.disk.files
@@ -204,12 +204,12 @@ files_stay s after closed e = go s.broken refl closed refl
     go None is (Ok done) same = ap (λ (d : Disk). d.files) (subst (λ r. OnOk r (after ≡ record (s.disk) { told = after.told })) same (e.counts is))
     go None is (Err f) same = ap (λ (d : Disk). d.files) (subst (λ r. IfErr r (SomeChangeFailed (IsOfSession s.layers) s.disk after)) same (e.fails is)).fails.stays
 
-broken_tells : (s : Session) (after : Disk) (closed : Result (Unit {0}) StoreFault) (f : StoreFault) → IsEnded s after closed → s.broken ≡ Some f → failed_by closed ≡ Some f
+pub broken_tells : (s : Session) (after : Disk) (closed : Result (Unit {0}) StoreFault) (f : StoreFault) → IsEnded s after closed → s.broken ≡ Some f → failed_by closed ≡ Some f
 broken_tells s after closed f e is = ap failed_by (subst (λ o. IfSome o (λ f. (closed ≡ Err f) × (after ≡ s.disk))) is e.broken).0
 
 -- ---- the call that broke a session
 
-to_break : (b : Breach) (guest number : ℕ) (forms : List Form) (outcomes : List Outcome) → HasBreacher b guest number forms outcomes → (k : Break) × HasBreaker k forms outcomes × ((s : ℕ) → open_by (Some k) s ≡ false → opens_by (Some b) s ≡ false)
+pub to_break : (b : Breach) (guest number : ℕ) (forms : List Form) (outcomes : List Outcome) → HasBreacher b guest number forms outcomes → (k : Break) × HasBreaker k forms outcomes × ((s : ℕ) → open_by (Some k) s ≡ false → opens_by (Some b) s ≡ false)
 to_break b guest number forms [] h = absurd h
 to_break b guest number [] (o ∷ outcomes) h = absurd h
 to_break b guest number (f ∷ forms) (o ∷ outcomes) (inr h) = let k = to_break b guest (number + 1) forms outcomes h in (k.0, inr k.1, k.2)

@@ -58,7 +58,7 @@ use Rattle.serve_session.specs.declared.tally.Tally.{Tally}
 use Rattle.serve_session.proofs.Tallies.{none_add_all}
 use Rattle.serve_session.proofs.Ending.{all_called, faults_told, first_is, served_all, transcript_is, unread_of_store, which}
 
-any_ok : {T E P : Type 0} (r : Result T E) → P → OnOk r P
+pub any_ok : {T E P : Type 0} (r : Result T E) → P → OnOk r P
 any_ok (Ok done) p = p
 any_ok (Err e) p = tt
 
@@ -74,11 +74,11 @@ unread_none : (n : ℕ) → length (all_unread (replicate n [])) ≡ 0
 unread_none zero = refl
 unread_none (suc n) = unread_none n
 
-changed_end : (files : ℕ) (after : Disk) (r : Result (Unit {0}) StoreFault) → after.files ≡ files → IfErr r (CountsChange after) → IfSome (failed_by r) (IsFailedChange files after.failed_changes)
+pub changed_end : (files : ℕ) (after : Disk) (r : Result (Unit {0}) StoreFault) → after.files ≡ files → IfErr r (CountsChange after) → IfSome (failed_by r) (IsFailedChange files after.failed_changes)
 changed_end files after (Ok done) same k = tt
 changed_end files after (Err f) same k = (subst (λ n. f.file < n) same k.0, k.1, k.2)
 
-changed_none : (old after : Disk) (r : Result (Unit {0}) StoreFault) → OnOk r (after.failed_changes ≡ old.failed_changes) → failed_by r ≡ None → after.failed_changes ≡ old.failed_changes
+pub changed_none : (old after : Disk) (r : Result (Unit {0}) StoreFault) → OnOk r (after.failed_changes ≡ old.failed_changes) → failed_by r ≡ None → after.failed_changes ≡ old.failed_changes
 changed_none old after (Ok done) k e = k
 changed_none old after (Err f) k e = absurd (some_none e)
 
@@ -147,13 +147,13 @@ module _ {S T : Type 0} (disk : S → Disk) where
 
   -- what is known of a chain behind the end of its merge, if it has one
   pub record EndedSo (merges : Bool) (mid v : Shared (Chain S KeepAll T)) (merged : Result (Unit {0}) ChainRefusal) : Type 0 where
-    first : v.first ≡ mid.first
-    history : v.chain.recorder ≡ mid.chain.recorder
-    basis : Contains (basis_of disk v) (basis_of disk mid)
-    broke : (v.broke ≡ mid.broke) ⊎ ((merges ≡ true) × (mid.broke ≡ None) × (v.broke ≡ Some merge_breach))
-    finished : merges ≡ true → OnOk merged (has_merge v.chain.layers ≡ false)
-    stopped : IfErr merged (StopsEnd disk v)
-    few : v.chain.events ≤ mid.chain.events + 2 ^ 34
+    pub first : v.first ≡ mid.first
+    pub history : v.chain.recorder ≡ mid.chain.recorder
+    pub basis : Contains (basis_of disk v) (basis_of disk mid)
+    pub broke : (v.broke ≡ mid.broke) ⊎ ((merges ≡ true) × (mid.broke ≡ None) × (v.broke ≡ Some merge_breach))
+    pub finished : merges ≡ true → OnOk merged (has_merge v.chain.layers ≡ false)
+    pub stopped : IfErr merged (StopsEnd disk v)
+    pub few : v.chain.events ≤ mid.chain.events + 2 ^ 34
 
   merge_broke : (mid v : Shared (Chain S KeepAll T)) (merged : Result (Unit {0}) ChainRefusal) → v.broke ≡ broke_after mid.broke merge_breach (as_answer merged) → (v.broke ≡ mid.broke) ⊎ ((true ≡ true) × (mid.broke ≡ None) × (v.broke ≡ Some merge_breach))
   merge_broke mid v merged = go merged
@@ -180,7 +180,7 @@ module _ {S T : Type 0} (disk : S → Disk) where
       go (Err NoPiece) e = inl e
       go (Err NoMemory) e = inl e
 
-  ended_so : (merges : Bool) (mid v : Shared (Chain S KeepAll T)) (merged : Result (Unit {0}) ChainRefusal) → EndsAs disk merges mid v merged → EndedSo merges mid v merged
+  pub ended_so : (merges : Bool) (mid v : Shared (Chain S KeepAll T)) (merged : Result (Unit {0}) ChainRefusal) → EndsAs disk merges mid v merged → EndedSo merges mid v merged
   ended_so false mid v merged e = record {
     first = ap (λ (s : Shared (Chain S KeepAll T)). s.first) e.0;
     history = ap (λ (s : Shared (Chain S KeepAll T)). s.chain.recorder) e.0;

@@ -21,13 +21,14 @@ use Rattle.shared_chain.specs.Bases.{Contains, together}
 use Rattle.shared_chain.specs.Seats.{IsFree, MergeBreaksAt}
 use Rattle.shared_chain.specs.Steps.{done_steps, merge_breach}
 use Rattle.shared_chain.specs.declared.basis.Step.TheVariants.{Broke}
-use Rattle.turn_lock.proofs.Fronts.{starts-through}
+use Rattle.turn_lock.proofs.Fronts.{starts-itself, starts-through}
+use Rattle.shared_chain.specs.Laws.{contains_itself, contains_through}
 use Rattle.copy_workers.specs.declared.worker.Worker.{Worker}
 use Rattle.serve_session.specs.declared.actor.Actor.{Actor}
 use Rattle.serve_session.specs.Actors.{AreHeard, AreJoined, HasHeard, HasRun, IsActor, IsFrom, OwnsAt}
 use Rattle.claims.specs.Seats.{Counter}
 use Rattle.serve_session.specs.Sealing.{IsSetFor}
-use Rattle.serve_session.specs.Lists.{AreActors, AreFresh, CanWork, HasDone, IsFresh, IsFreshWorker, IsReady, RunsEach, WorksEach, with_splits}
+use Rattle.serve_session.specs.Lists.{AreActors, AreFresh, CanWork, HasDone, IsFresh, IsFreshWorker, IsReady, RunsEach, WorkersJoin, WorksEach, with_splits}
 use Rattle.serve_session.specs.Served.{EachGuest, IsCountedUp, IsRising, Outcome, SomeGuest, forms_of, none_failed, places_in, told_calls, told_guests, unread_in}
 use Rattle.serve_session.proofs.Guests.{each_map, each_snoc, forms_few, some_last, some_left, some_map, told_guests_snoc, unread_few}
 use Rattle.serve_session.specs.Tallies.{AddsUp}
@@ -40,6 +41,56 @@ join_more f now new n m is new_is more = new_is ∙ ap with_join is ∙ ap (λ k
 
 nothing_own : (p : ℕ) → 0 < times p [] → ⊥
 nothing_own p less = absurd (omega (arith, less))
+
+breaks_later : (old new : List Step) (p : ℕ) → StartsWith new old → MergeBreaksAt old p → MergeBreaksAt new p
+breaks_later old new p starts k = record { before = k.before; begins = starts-through new old (done_steps k.before ++ Broke merge_breach ∷ []) starts k.begins; place_is = k.place_is }
+
+-- ---- workers of a merge
+
+module _ {S T : Type 0} where
+  -- none was joined yet
+  pub none_join : (seat : Known Step (Basis S T)) → WorkersJoin seat seat
+  none_join seat = record {
+    lock = refl;
+    turn = refl;
+    leads = refl;
+    seen = starts-itself seat.seen;
+    basis = contains_itself seat.basis;
+    refusals = omega arith;
+    own = λ p own. inl own;
+  }
+
+  -- one more
+  module _ (lock : TableId) (old seat new : Known Step (Basis S T)) (j : WorkersJoin old seat) (w : Worker S T) (done : HasDone lock w) (both : new ≡ together_of together seat w.seat) (seen : StartsWith new.seen seat.seen × StartsWith new.seen w.seat.seen)
+      (basis : Contains new.basis seat.basis × Contains new.basis w.seat.basis) where
+    own_of : (p : ℕ) → (0 < times p old.mine) ⊎ MergeBreaksAt seat.seen p → (0 < times p old.mine) ⊎ MergeBreaksAt new.seen p
+    own_of p (inl own) = inl own
+    own_of p (inr breaks) = inr (breaks_later seat.seen new.seen p seen.0 breaks)
+
+    own_now : (p : ℕ) → 0 < times p new.mine → (0 < times p old.mine) ⊎ MergeBreaksAt new.seen p
+    own_now p own = go (cases_eq (times p seat.mine) 0)
+      where
+        mine : times p new.mine ≡ times p seat.mine + times p w.seat.mine
+        mine = ap (λ (s : Known Step (Basis S T)). times p s.mine) both ∙ times-append p seat.mine w.seat.mine
+
+        positive : (n : ℕ) → n ≢ 0 → 0 < n
+        positive zero ne = absurd (ne refl)
+        positive (suc n) ne = omega arith
+
+        go : (times p seat.mine ≡ 0) ⊎ (times p seat.mine ≢ 0) → (0 < times p old.mine) ⊎ MergeBreaksAt new.seen p
+        go (inl none) = inr (breaks_later w.seat.seen new.seen p seen.1 (done.owns p (omega (arith, own, mine, none))))
+        go (inr some) = own_of p (j.own p (positive (times p seat.mine) some))
+
+    pub one_joins : WorkersJoin old new
+    one_joins = record {
+      lock = ap (λ (s : Known Step (Basis S T)). s.lock) both ∙ j.lock;
+      turn = ap (λ (s : Known Step (Basis S T)). s.turn) both ∙ j.turn;
+      leads = ap (λ (s : Known Step (Basis S T)). s.family.is_first) both ∙ j.leads;
+      seen = starts-through new.seen seat.seen old.seen seen.0 j.seen;
+      basis = contains_through new.basis seat.basis old.basis basis.0 j.basis;
+      refusals = let sum : new.refusals ≡ seat.refusals + w.seat.refusals = ap (λ (s : Known Step (Basis S T)). s.refusals) both in omega (arith, sum, j.refusals);
+      own = own_now;
+    }
 
 module _ {S T : Type 0} where
   -- one more was split off
@@ -225,18 +276,11 @@ module _ {S T : Type 0} where
 
     -- ---- workers of a merge
 
-    breaks_later : (old new : List Step) (p : ℕ) → StartsWith new old → MergeBreaksAt old p → MergeBreaksAt new p
-    breaks_later old new p starts k = record { before = k.before; begins = starts-through new old (done_steps k.before ++ Broke merge_breach ∷ []) starts k.begins; place_is = k.place_is }
-
     -- in a session with a merge a place may be the merge's
     pub wider_joined : (seat : Known Step (Basis S T)) (told : List (List ToldCall)) (short : Bool) (guests : List (List Outcome)) → AreJoined disk first false lock names lines seat told short guests → AreJoined disk first true lock names lines seat told short guests
     wider_joined seat told short guests j = record { free = j.free; leads = j.leads; knows = j.knows; heard = j.heard; order = j.order; unread = j.unread; owns = λ p own. inl (j.owns p own); count = j.count; kept = j.kept }
 
-    module _ (seat new : Known Step (Basis S T)) (told : List (List ToldCall)) (short : Bool) (guests : List (List Outcome)) (j : AreJoined disk first true lock names lines seat told short guests) (w : Worker S T) (done : HasDone lock w)
-        (both : new ≡ together_of together seat w.seat) (seen : StartsWith new.seen seat.seen × StartsWith new.seen w.seat.seen) (basis : Contains new.basis seat.basis × Contains new.basis w.seat.basis) where
-      refused_too : seat.refusals ≤ new.refusals
-      refused_too = let both_of : new.refusals ≡ seat.refusals + w.seat.refusals = ap (λ (s : Known Step (Basis S T)). s.refusals) both in omega (arith, both_of)
-
+    module _ (seat new : Known Step (Basis S T)) (told : List (List ToldCall)) (short : Bool) (guests : List (List Outcome)) (j : AreJoined disk first true lock names lines seat told short guests) (workers : WorkersJoin seat new) where
       abbrev Hears : Known Step (Basis S T) → ℕ → List Outcome → Type 0
       Hears s guest outcomes = AreHeard disk first s guest 1 (forms_of guest lines) outcomes
 
@@ -244,32 +288,22 @@ module _ {S T : Type 0} where
       OwnsBy s p guest outcomes = OwnsAt s.seen p guest (forms_of guest lines) outcomes
 
       still_owns : (p : ℕ) → SomeGuest (OwnsBy seat p) 1 guests ⊎ MergeBreaksAt seat.seen p → SomeGuest (OwnsBy new p) 1 guests ⊎ MergeBreaksAt new.seen p
-      still_owns p (inl own) = inl (some_map (OwnsBy seat p) (OwnsBy new p) 1 guests (λ g os. owns_still seat.seen new.seen p g (forms_of g lines) os seen.0) own)
-      still_owns p (inr breaks) = inr (breaks_later seat.seen new.seen p seen.0 breaks)
+      still_owns p (inl own) = inl (some_map (OwnsBy seat p) (OwnsBy new p) 1 guests (λ g os. owns_still seat.seen new.seen p g (forms_of g lines) os workers.seen) own)
+      still_owns p (inr breaks) = inr (breaks_later seat.seen new.seen p workers.seen breaks)
 
-      worker_owns : (p : ℕ) → 0 < times p new.mine → SomeGuest (OwnsBy new p) 1 guests ⊎ MergeBreaksAt new.seen p
-      worker_owns p own = go (cases_eq (times p seat.mine) 0)
-        where
-          mine : times p new.mine ≡ times p seat.mine + times p w.seat.mine
-          mine = ap (λ (s : Known Step (Basis S T)). times p s.mine) both ∙ times-append p seat.mine w.seat.mine
+      owns_by : (p : ℕ) → (0 < times p seat.mine) ⊎ MergeBreaksAt new.seen p → SomeGuest (OwnsBy new p) 1 guests ⊎ MergeBreaksAt new.seen p
+      owns_by p (inl own) = still_owns p (j.owns p own)
+      owns_by p (inr breaks) = inr breaks
 
-          positive : (n : ℕ) → n ≢ 0 → 0 < n
-          positive zero ne = absurd (ne refl)
-          positive (suc n) ne = omega arith
-
-          go : (times p seat.mine ≡ 0) ⊎ (times p seat.mine ≢ 0) → SomeGuest (OwnsBy new p) 1 guests ⊎ MergeBreaksAt new.seen p
-          go (inl none) = inr (breaks_later w.seat.seen new.seen p seen.1 (done.owns p (omega (arith, own, mine, none))))
-          go (inr some) = still_owns p (j.owns p (positive (times p seat.mine) some))
-
-      pub worker_joined : AreJoined disk first true lock names lines new told short guests
-      worker_joined = record {
-        free = (ap (λ (s : Known Step (Basis S T)). s.lock) both ∙ j.free.0, ap (λ (s : Known Step (Basis S T)). s.turn) both ∙ j.free.1);
-        leads = ap (λ (s : Known Step (Basis S T)). s.family.is_first) both ∙ j.leads;
-        knows = from_through disk first new.basis seat.basis basis.0 j.knows;
-        heard = each_map (Hears seat) (Hears new) 1 guests (λ g os. all_heard_later disk first seat new g 1 (forms_of g lines) os seen.0 (knows_more disk first new seat basis.0 refused_too)) j.heard;
+      pub workers_joined : AreJoined disk first true lock names lines new told short guests
+      workers_joined = record {
+        free = (workers.lock ∙ j.free.0, workers.turn ∙ j.free.1);
+        leads = workers.leads ∙ j.leads;
+        knows = from_through disk first new.basis seat.basis workers.basis j.knows;
+        heard = each_map (Hears seat) (Hears new) 1 guests (λ g os. all_heard_later disk first seat new g 1 (forms_of g lines) os workers.seen (knows_more disk first new seat workers.basis workers.refusals)) j.heard;
         order = j.order;
         unread = j.unread;
-        owns = worker_owns;
+        owns = λ p own. owns_by p (workers.own p own);
         count = j.count;
         kept = j.kept;
       }

@@ -1,15 +1,15 @@
-mod Guests
-mod Hearing
-mod Back
-mod Reading
-mod Tallies
-mod Stepping
-mod Joining
-mod Ending
-mod Filled
-mod Final
-mod Sealed
-mod Unserved
-mod Sessions
-mod MergeSessions
-mod Sending
+pub mod Guests
+pub mod Hearing
+pub mod Back
+pub mod Reading
+pub mod Tallies
+pub mod Stepping
+pub mod Joining
+pub mod Ending
+pub mod Filled
+pub mod Final
+pub mod Sealed
+pub mod EndedEarly
+pub mod Sessions
+pub mod MergeSessions
+pub mod Sending

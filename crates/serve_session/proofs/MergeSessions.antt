@@ -54,7 +54,7 @@ use Rattle.serve_session.proofs.Filled.{long_up}
 use Rattle.serve_session.proofs.Sessions.{changes_are, counts_change, files_are, last_as, quiet_since, whole_as}
 
 -- what holds of an end that didn't fail, where the merge was stopped
-stays_by : (P Q : Type 0) (merged : Result (Unit {0}) ChainRefusal) (closed : Result (Unit {0}) StoreFault) → IfErr merged (λ x. OnOk closed P) → OnOk closed (P → Q) → IfErr merged (λ x. OnOk closed Q)
+pub stays_by : (P Q : Type 0) (merged : Result (Unit {0}) ChainRefusal) (closed : Result (Unit {0}) StoreFault) → IfErr merged (λ x. OnOk closed P) → OnOk closed (P → Q) → IfErr merged (λ x. OnOk closed Q)
 stays_by P Q (Ok done) closed p f = tt
 stays_by P Q (Err x) (Ok done) p f = f p
 stays_by P Q (Err x) (Err fault) p f = tt

@@ -59,7 +59,7 @@ module _ (z z' : ℕ) (o o' : GuestDisk) (leaf leaf' : Way) (h h' : History) (no
       (subst (λ d. EachOpens leaf' (λ s. false) (replay z d h') now) eo (subst (λ l. EachOpens l (λ s. false) (replay z o h') now) el (subst (λ k. EachOpens leaf (λ s. false) (replay z o k) now) eh all)))
 
 -- where the leaf isn't merged the session goes on over it
-goes_on : (v later : State) → merges_leaf v.rest ≡ false → GoesOn v later ⊎ HasRetired v later → GoesOn v later
+pub goes_on : (v later : State) → merges_leaf v.rest ≡ false → GoesOn v later ⊎ HasRetired v later → GoesOn v later
 goes_on v later none (inl on) = on
 goes_on v later none (inr retired) = absurd (false_true (sym none ∙ retired.merges))
 

@@ -1,12 +1,14 @@
 -- The guests of a script, one after the other.
-use Rattle.std.specs.Prelude.{◌≡◌, ◌+◌, ◌-◌, ◌*◌, ◌^◌, ◌<◌, ◌≤◌, ⊤, ℕ, Bool, false, true, List, [], ◌∷◌, length, slice_index_or}
+use Rattle.std.specs.Prelude.{◌≡◌, ◌⊎◌, ◌+◌, ◌-◌, ◌*◌, ◌^◌, ◌<◌, ◌≤◌, ⊤, ℕ, Bool, false, true, List, [], ◌∷◌, length, slice_index_or}
 use Rattle.store_model.specs.Disk.{Disk, Sealed}
 use Rattle.guest_io.specs.Guests.{HaveReaders}
 use Rattle.guest_model.specs.declared.recorder.KeepAll.{KeepAll}
 use Rattle.chain_core.specs.declared.chain.Chain.{Chain}
 use Rattle.script.specs.declared.form.Line.{Line}
 use Rattle.script.specs.declared.told.ToldCall.{ToldCall}
+use Rattle.turn_lock.specs.Histories.{StartsWith}
 use Rattle.turn_lock.specs.Seats.{Known, TableId, split_off}
+use Rattle.shared_chain.specs.Bases.{Contains}
 use Rattle.shared_chain.specs.declared.basis.Basis.{Basis}
 use Rattle.shared_chain.specs.declared.basis.Step.{Step}
 use Rattle.shared_chain.specs.Seats.{HasWorked, IsFree}
@@ -88,11 +90,16 @@ module _ {S T : Type 0} where
     pub drawn : worker.seat.drawn ≤ 2 ^ 34
     pub failed : HaveFailed worker.reads worker.unfetched
 
-  -- what guests were told stands of a seat into which those of a merge's workers were joined
-  abbrev pub WorkersJoin : (S → Disk) → TableId → Known Step (Basis S T) → Known Step (Basis S T) → Type 0
-  WorkersJoin disk lock old new =
-      (first : Chain S KeepAll T) (names : List (List ℕ)) (lines : List Line) (told : List (List ToldCall)) (short : Bool) (guests : List (List Outcome)) → AreJoined disk first true lock names lines old told short guests
-      → AreJoined disk first true lock names lines new told short guests
+  -- Seats of a merge's workers were joined into this one: it has seen and knows what it had, and what is its own beside that is a step of the merge that
+  -- broke the session.
+  pub record WorkersJoin (old new : Known Step (Basis S T)) : Type 0 where
+    pub lock : new.lock ≡ old.lock
+    pub turn : new.turn ≡ old.turn
+    pub leads : new.family.is_first ≡ old.family.is_first
+    pub seen : StartsWith new.seen old.seen
+    pub basis : Contains new.basis old.basis
+    pub refusals : old.refusals ≤ new.refusals
+    pub own : (p : ℕ) → 0 < times p new.mine → (0 < times p old.mine) ⊎ MergeBreaksAt new.seen p
 
   -- the seats of so many guests were joined, each of which drew a ticket for each of its calls at most; so many of their reads failed by a
   -- reader, and this is what their calls came to

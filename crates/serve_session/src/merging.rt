@@ -51,8 +51,8 @@ pub fn pieces_for(alloc: Global, workers: u32) -> Result<Vec<Piece>, NoRoom>
     Ok(pieces)
 }
 
-// How many stripes of 1 MB a disk has; fewer than 2^32.
-fn stripes_of(files: &[LinkedFile]) -> u32 {
+/// How many stripes of 1 MB the disk of a chain's files has; fewer than 2^32.
+pub fn stripes_of(files: &[LinkedFile]) -> u32 {
     match files.first() {
         Some(leaf) => {
             let stripes = leaf.parts.geometry.sectors.div_ceil(STRIPE);

@@ -14,11 +14,11 @@ use std::alloc::Global;
 use store_model::{SealFault, Store, StoreFault};
 
 /// What a session left that ended before a guest was served.
-pub(crate) struct Unserved<S: Store> {
-    pub(crate) store: S,
+pub struct Unserved<S: Store> {
+    pub store: S,
     /// The fault of the read that failed; none where memory ran out.
-    pub(crate) met: Option<StoreFault>,
-    pub(crate) closed: Result<(), StoreFault>,
+    pub met: Option<StoreFault>,
+    pub closed: Result<(), StoreFault>,
 }
 
 // The fault by which a seal failed, if memory didn't run out.
@@ -33,7 +33,7 @@ fn fault_in(fault: SealFault) -> Option<StoreFault>
 
 /// Seals what a session only reads that has just begun, and makes a set of readers of it for each of so many guests. Where a read fails, or
 /// memory runs out, the session ends.
-pub(crate) fn seal<S: Store>(
+pub fn seal<S: Store>(
     alloc: Global,
     chain: Chain<S, KeepAll>,
     guests: u32,

@@ -231,8 +231,8 @@ fn transcript_of(
     }
 }
 
-// A worker for each one's tools, with seats and readers of its own; there is room for them.
-fn add_workers<S: Store>(
+/// A worker for each one's tools, with seats and readers of its own; there is room for them.
+pub fn add_workers<S: Store>(
     lock: &TurnLock<SharedChain<S>>,
     first: &mut Seat<SharedChain<S>>,
     claims: &Claims,
@@ -299,9 +299,9 @@ where
     );
 }
 
-// Joins the seats of all workers, and keeps their readers, for which there is room. Answers how many stripes they couldn't fetch, as a reader
-// failed.
-fn end_workers<S: Store>(
+/// Joins the seats of all workers, and keeps their readers, for which there is room. Answers how many stripes they couldn't fetch, as a reader
+/// failed.
+pub fn end_workers<S: Store>(
     lock: &TurnLock<SharedChain<S>>,
     first: &mut Seat<SharedChain<S>>,
     workers: &mut Vec<Worker<S>>,
@@ -314,7 +314,7 @@ fn end_workers<S: Store>(
     requires reserved { length back.old.items + length workers.old.items ≤ vec_capacity back.old }
     ensures back { any_failed back.new.items ≡ (any_failed back.old.items || nat_lt 0 result) }
     ensures alone { length workers.old.items ≡ 0 → result ≡ 0 }
-    ensures joined { WorkersJoin S.disk lock.now first.old first.new }
+    ensures joined { WorkersJoin first.old first.new }
     ensures family { first.new.family ≡ record first.old.family { joins = first.old.family.joins + length workers.old.items } }
     ensures free { IsFree lock.now first.new }
     ensures same { length workers.old.items ≡ 0 → first.new ≡ first.old }
@@ -504,8 +504,8 @@ where
     }
 }
 
-// Finishes the merge, if there is one.
-fn end_merge<S: Store>(
+/// Finishes the merge, if there is one.
+pub fn end_merge<S: Store>(
     chain: &mut SharedChain<S>,
     last: Option<&mut Piece>,
 ) -> Result<(), ChainRefusal>

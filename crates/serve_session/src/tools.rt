@@ -17,13 +17,13 @@ const PAGES: u32 = 16;
 
 /// What a worker is given: room for a stripe, and what it reads the source of the merge by, where that is only read.
 #[derive(Drop)]
-pub(crate) struct Tools {
-    pub(crate) piece: Piece,
-    pub(crate) source: Option<SealedSource>,
+pub struct Tools {
+    pub piece: Piece,
+    pub source: Option<SealedSource>,
 }
 
 /// Tools of a worker for each piece.
-pub(crate) fn tools_for<S: Store>(
+pub fn tools_for<S: Store>(
     alloc: Global,
     chain: &Chain<S, KeepAll>,
     pieces: Vec<Piece>,

@@ -1,7 +1,7 @@
 use Rattle.std.proofs.Common.{None, ap, map, subst, sym}
 use Rattle.std.specs.Prelude.{All, is_some}
 use Rattle.serve_session.specs.Tools.{AreToolsFor}
-use Rattle.serve_session.proofs.Unserved.{ended_unserved, ended_unshared, was_served}
+use Rattle.serve_session.proofs.EndedEarly.{ended_unserved, ended_unshared, was_served}
 use Rattle.serve_session.proofs.fresh.serve_fresh.Goals as goal
 
 pub returns-in-Err-clause-served : goal.returns-in-Err-clause-served

@@ -8,7 +8,7 @@ use Rattle.read_plan.specs.Reading.{has_failed}
 use Rattle.serve_session.specs.Back.{any_failed}
 use Rattle.serve_session.specs.Lists.{HasDone}
 use Rattle.serve_session.proofs.Back.{any_sat, sat_some}
-use Rattle.serve_session.proofs.Joining.{join_more, worker_joined}
+use Rattle.serve_session.proofs.Joining.{join_more, none_join, one_joins}
 use Rattle.serve_session.proofs.serving.end_workers.Goals as goal
 
 pub join-requires-clause-own : goal.join-requires-clause-own
@@ -25,7 +25,6 @@ join-requires-clause-free g c =
 
 pub loop-worker-preserved : goal.loop-worker-preserved
 loop-worker-preserved g c =
-    let disk = g.S.Store.disk in
     let i = c.loop-worker.invariant in
     let w = c.in-Some.worker in
     let left = All-pop (HasDone c.args.lock.now) c.loop-worker.workers.items c.pop.new.self.items c.pop.result c.pop.ensures.items i.done in
@@ -37,7 +36,7 @@ loop-worker-preserved g c =
     record {
       taken = i.taken + 1;
       count = omega (arith, popped, i.count);
-      joined = λ first names lines told short guests j. worker_joined disk first c.args.lock.now names lines c.loop-worker.first c.join.new.first told short guests (i.joined first names lines told short guests j) w done met.0 met.1 met.2;
+      joined = one_joins c.args.lock.now c.args.first.now c.loop-worker.first c.join.new.first i.joined w done met.0 met.1 met.2;
       done = left.0;
       family = join_more c.args.first.now.family c.loop-worker.first.family c.join.new.first.family i.taken (i.taken + 1) i.family (ap (λ s. s.family) c.join.ensures.both) (omega arith);
       free = (ap (λ s. s.lock) c.join.ensures.both ∙ i.free.0, ap (λ s. s.turn) c.join.ensures.both ∙ i.free.1);

@@ -10,7 +10,7 @@ abbrev pub invariant-loop-worker : goal.invariant-loop-worker
 invariant-loop-worker g l = record {
   taken : ℕ;
   count : taken + length l.workers.items ≡ length l.fn.workers.items;
-  joined : WorkersJoin g.S.Store.disk l.lock l.fn.first l.first;
+  joined : WorkersJoin l.fn.first l.first;
   done : All (HasDone l.lock) l.workers.items;
   family : l.first.family ≡ record (l.fn.first.family) { joins = l.fn.first.family.joins + taken };
   free : IsFree l.lock l.first;

@@ -10,7 +10,7 @@ use Rattle.layer_session.proofs.Equal.{false_true}
 use Rattle.serve_session.proofs.Back.{sat_least, sat_none, sat_some}
 use Rattle.serve_session.proofs.Final.{few_guests, few_turns, made_all, made_first, made_ready, made_run}
 use Rattle.serve_session.proofs.Guests.{written_all}
-use Rattle.serve_session.proofs.Joining.{all_done, fresh_can, wider_joined}
+use Rattle.serve_session.proofs.Joining.{all_done, fresh_can, wider_joined, workers_joined}
 use Rattle.serve_session.proofs.serving.share.Goals as goal
 
 pub run_beside-requires-clause-guests : goal.run_beside-requires-clause-guests
@@ -139,7 +139,7 @@ returns-clause-beside g c =
     let actors = ap length (written_all c.add_actors.new.actors.len c.run_beside.new.actors (drop (length c.run_beside.new.actors) c.add_actors.new.actors.items) guests) in
     let hands : c.add_workers.new.workers.len ≡ length c.run_beside.new.workers = c.add_workers.new.workers.ok.0 ∙ ap length (sym c.as_mut_slice-hands.ensures.value) ∙ sym c.run_beside.ensures.workers.count in
     let workers = ap length (written_all c.add_workers.new.workers.len c.run_beside.new.workers (drop (length c.run_beside.new.workers) c.add_workers.new.workers.items) hands) in
-    let wide = c.end_workers-unfetched.ensures.joined first names lines told short j.guests (wider_joined disk first lock names lines c.end_actors-unread.new.first told short j.guests j.joined) in
+    let wide = workers_joined disk first lock names lines c.end_actors-unread.new.first c.end_workers-unfetched.new.first told short j.guests (wider_joined disk first lock names lines c.end_actors-unread.new.first told short j.guests j.joined) c.end_workers-unfetched.ensures.joined in
     let n_is = actors ∙ c.run_beside.ensures.guests.count ∙ ap length c.as_mut_slice-guests.ensures.value ∙ c.add_actors.ensures.count ∙ c.requires.count in
     let m_is = workers ∙ c.run_beside.ensures.workers.count ∙ ap length c.as_mut_slice-hands.ensures.value ∙ c.add_workers.ensures.count in
     let bounds = few_turns disk lock _ c.in-Ok-new.made.1 c.add_actors.new.first c.add_workers.new.first c.end_actors-unread.new.first c.end_workers-unfetched.new.first _ _ _ _ (greatest_from 0 lines) c.close-chain.result.chain.events
