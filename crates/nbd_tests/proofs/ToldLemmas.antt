@@ -7,7 +7,7 @@ use lib.Seq.{drop_at}
 use Rattle.vx_base.specs.Fields.{bytes_at, written_over, zeros}
 use Rattle.vx_base.proofs.ByteLists.{length-overwritten}
 use Rattle.guest_model.specs.declared.call.Call.{Call}
-use Rattle.guest_model.specs.declared.call.Call.TheVariants.{Read, Write, Trim}
+use Rattle.guest_model.specs.declared.call.Call.TheVariants.{Flush, Read, Trim, Write}
 use Rattle.guest_model.specs.declared.call.Reply.{Reply}
 use Rattle.guest_model.specs.declared.call.Reply.TheVariants as replies
 use Rattle.guest_model.specs.declared.call.Entry.{Entry}
@@ -15,7 +15,7 @@ use Rattle.guest_model.specs.declared.refusal.ChainRefusal.{ChainRefusal}
 use Rattle.guest_model.specs.Calls.{Disk, changes, content, is_named, reply, bytes_of}
 use Rattle.guest_model.specs.History.{History, replay, sector_at}
 use Rattle.guest_model.proofs.HistoryLaws.{length-replay, replay_unchanged, sector_at-replay_push}
-use Rattle.disk_calls.specs.Disks.{IsNoted, IsTrueOf, plain, told, was_done, was_refused}
+use Rattle.disk_calls.specs.Disks.{IsNoted, IsTrueOf, Known, plain, through, told, was_done, was_flushed, was_refused, was_unflushed}
 use Rattle.nbd_tests.specs.Told.{Holds, blank, known_of, places_to}
 
 -- ---- what is told
@@ -237,3 +237,22 @@ pub still_holds : (bytes : List ℕ) (h h' : History) (call : Call) (r : Result 
     → IfOk r (λ place. h' ≡ h ++ entry call ∷ []) → OnErr r (h' ≡ h) → Holds h bytes → Holds h' bytes
 still_holds bytes h h' call (Ok place) still noted same holds = subst (λ k. Holds k bytes) (sym noted) (holds_still h call bytes still holds)
 still_holds bytes h h' call (Err refusal) still noted same holds = subst (λ k. Holds k bytes) (sym same) holds
+
+-- ---- a write that is flushed before it is told
+
+-- the Write was refused
+pub write_refused : (old new : Known) (first : ℕ) (with : List ℕ) (e : ChainRefusal) (r : Result ℕ ChainRefusal) → IsErr r → IsTrueOf 512 old new (plain (Write first with)) (told replies.Done (Err e))
+    → IsTrueOf 512 old new (through first with) (told replies.Done r)
+write_refused old new first with e (Ok place) err h = cc
+write_refused old new first with e (Err refusal) err (was_refused others is) = was_refused others is
+
+-- it was done, and the Flush was refused
+pub flush_refused : (old mid new : Known) (first : ℕ) (with : List ℕ) (place : ℕ) (e : ChainRefusal) (r : Result ℕ ChainRefusal) → IsErr r → IsTrueOf 512 old mid (plain (Write first with)) (told replies.Done (Ok place))
+    → IsTrueOf 512 mid new (plain Flush) (told replies.Done (Err e)) → IsTrueOf 512 old new (through first with) (told replies.Done r)
+flush_refused old mid new first with place e (Ok p) err w h = cc
+flush_refused old mid new first with place e (Err refusal) err (was_done noted said) (was_refused others is) = was_unflushed mid noted others is
+
+-- both were done
+pub both_done : (old mid new : Known) (first : ℕ) (with : List ℕ) (place flushed : ℕ) → IsTrueOf 512 old mid (plain (Write first with)) (told replies.Done (Ok place)) → IsTrueOf 512 mid new (plain Flush) (told replies.Done (Ok flushed))
+    → IsTrueOf 512 old new (through first with) (told replies.Done (Ok place))
+both_done old mid new first with place flushed (was_done noted said) (was_done flush done) = was_flushed mid noted flush
