@@ -24,10 +24,10 @@ returns-clause-bytes g c = has_read c.args.files.now _ _ _ c.requires.idle c.req
 
 pub returns-clause-moments : goal.returns-clause-moments
 returns-clause-moments g c =
-    back_attaches c.args.files.now _ _ _ c.requires.idle c.requires.once c.requires.opened c.in_ok-store.ensures.ok (g.H.S.Store.disk c.sectors_of-read.new.store) (told_kept _ _ c.sectors_of-read.result c.sectors_of-read.ensures.store) _ c.give_back.ensures.folder c.give_back.ensures.untold
+    back_attaches c.args.files.now _ _ _ c.requires.idle c.requires.once c.requires.opened c.in_ok-store.ensures.ok (g.H.S.Store.disk c.sectors_of-read.new.store) (told_kept _ _ c.sectors_of-read.result c.sectors_of-read.ensures.store) _ c.give_back.ensures.folder (λ none. c.give_back.ensures.untold)
     c.give_back.ensures.past c.give_back.ensures.count
 
 pub returns-clause-leaves : goal.returns-clause-leaves
 returns-clause-leaves g c =
-    back_left c.args.files.now _ _ _ c.requires.idle c.requires.once c.requires.opened c.in_ok-store.ensures.ok (g.H.S.Store.disk c.sectors_of-read.new.store) (told_kept _ _ c.sectors_of-read.result c.sectors_of-read.ensures.store) _ c.give_back.ensures.folder c.give_back.ensures.untold
+    back_left c.args.files.now _ _ _ c.requires.idle c.requires.once c.requires.opened c.in_ok-store.ensures.ok (g.H.S.Store.disk c.sectors_of-read.new.store) (told_kept _ _ c.sectors_of-read.result c.sectors_of-read.ensures.store) _ c.give_back.ensures.folder (λ none. c.give_back.ensures.untold)
     c.give_back.ensures.past c.give_back.ensures.count c.sectors_of-read.result c.sectors_of-read.ensures.store

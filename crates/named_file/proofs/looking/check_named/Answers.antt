@@ -21,7 +21,7 @@ give_back-requires g c = are_away c.args.name.now _ _ _ (lent_as c.args.name.now
 
 pub returns-in_err-found-clause-leaves : goal.returns-in_err-found-clause-leaves
 returns-in_err-found-clause-leaves g c =
-    fault_left c.args.name.now _ _ _ _ _ c.in_ok-store.ensures.ok c.check-found.ensures.kept c.requires.idle c.give_back.ensures.folder c.give_back.ensures.untold c.give_back.ensures.count c.give_back.ensures.past
+    fault_left c.args.name.now _ _ _ _ _ c.in_ok-store.ensures.ok c.check-found.ensures.kept c.requires.idle c.give_back.ensures.folder (λ none. c.give_back.ensures.untold) c.give_back.ensures.count c.give_back.ensures.past
     c.from_residual-in_err-found.result c.in_err-found.field-0.0 c.from_residual-in_err-found.ensures.1 c.in_err-found.ensures.store
 
 pub returns-in_err-found-clause-moments : goal.returns-in_err-found-clause-moments
@@ -33,7 +33,7 @@ returns-clause-answer g c = found_there c.args.name.now _ _ _ c.in_ok-found.fiel
 
 pub returns-clause-leaves : goal.returns-clause-leaves
 returns-clause-leaves g c =
-    looked_left c.args.name.now _ _ _ _ _ c.in_ok-store.ensures.ok c.check-found.ensures.kept c.requires.idle c.give_back.ensures.folder c.give_back.ensures.untold c.give_back.ensures.count c.give_back.ensures.past
+    looked_left c.args.name.now _ _ _ _ _ c.in_ok-store.ensures.ok c.check-found.ensures.kept c.requires.idle c.give_back.ensures.folder (λ none. c.give_back.ensures.untold) c.give_back.ensures.count c.give_back.ensures.past
     c.in_ok-found.field-0 c.in_ok-found.ensures.store
 
 pub returns-clause-moments : goal.returns-clause-moments

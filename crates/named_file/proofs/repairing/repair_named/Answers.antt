@@ -29,7 +29,7 @@ returns-clause-answer g c =
 pub returns-clause-leaves : goal.returns-clause-leaves
 returns-clause-leaves g c =
     leaves_in c.args.name.now _ _ (g.H.Host.hosted c.give_back.new.self) _ (g.H.S.Store.disk c.repair-repaired.new.store) c.requires.idle c.in_ok-store.ensures.ok c.repair-repaired.ensures.only c.repair-repaired.ensures.moments c.give_back.ensures.folder
-    c.give_back.ensures.untold c.give_back.ensures.count c.give_back.ensures.past c.repair-repaired.result c.repair-repaired.ensures.store
+    (λ none. c.give_back.ensures.untold) c.give_back.ensures.count c.give_back.ensures.past c.repair-repaired.result c.repair-repaired.ensures.store
 
 pub returns-clause-only : goal.returns-clause-only
 returns-clause-only g c =
