@@ -1,11 +1,15 @@
 # What the measurements of the program share: a folder of their own, the program, scripts in qemu-io's words, and the time of a command.
+# The program is the one that the launcher runs, or another one that the variable `program` names from the root on.
 set -e
 top=$(cd "$(dirname "$0")/.." && pwd)
 work=$(mktemp -d)
 trap 'rm -rf "$work"' EXIT
 cd "$work"
-"$top/vhdx" --version > /dev/null
-program=$top/crates/vhdx/out/vhdx
+if [ -z "$program" ]; then
+  "$top/vhdx" --version > /dev/null
+  program=$top/crates/vhdx/out/vhdx
+  [ -x "$program" ] || program=$top/dist/vhdx
+fi
 
 # The calls of scripts once more, as qemu-io takes them: it counts bytes.
 as_qemu() {
