@@ -2,8 +2,8 @@
 """How long a guest's writes take inside a merge: by the program's `serve`, and by qemu's live commit.
 
     waits.py serve PROGRAM CALLS SOURCE     merges SOURCE.vhdx of leaf.vhdx by two workers beside the guests of a script
-    waits.py commit CALLS GUESTS FILE ..    commits the last of the files but one, or the last one where two are named, into the first,
-                                            with the same calls made over NBD by so many guests: FILE is FORMAT:NAME
+    waits.py commit CALLS FILE FILE ..      commits the second file, above the first, into it, with the same calls made over NBD on the last
+                                            one, which may be the second: FILE is FORMAT:NAME
 
 Prints the merge's seconds and peak memory, and of the guests' writes that were made inside it how many they are, their median, the 99th
 percentile and the longest.
@@ -81,8 +81,19 @@ class Probes:
             os.write(events, (line + "\n").encode())
         os.close(events)
 
+    def clear(self):
+        """Takes the probes away, also those of a run that was stopped."""
+        if self.room.exists():
+            (self.room / "trace").write_text("")
+            if (self.room / "events/waits/enable").exists():
+                (self.room / "events/waits/enable").write_text("0")
+            self.room.rmdir()
+        known = (TRACING / "uprobe_events").read_text().split()
+        self.tell(["-" + word[1:] for word in known if word[1:].startswith(":waits/")])
+
     def __enter__(self):
-        self.room.mkdir(exist_ok=True)
+        self.clear()
+        self.room.mkdir()
         for kind, name in PROBED.items():
             at = f"{self.program}:{offset_of(self.program, name):#x}"
             self.tell([f"p:waits/{kind} {at}", f"r:waits/{kind}_end {at}"])
@@ -91,9 +102,7 @@ class Probes:
         return self
 
     def __exit__(self, *_):
-        (self.room / "events/waits/enable").write_text("0")
-        self.room.rmdir()
-        self.tell([f"-:waits/{kind}{end}" for kind in PROBED for end in ("", "_end")])
+        self.clear()
 
     def spans(self):
         """The calls of each probed function, from start to end."""

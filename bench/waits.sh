@@ -22,14 +22,16 @@ done
 
 load() { cut -d ' ' -f 1 /proc/loadavg; }
 
-# Files anew, with the pieces in the middle one and in the leaf what guests write, or all in the leaf.
+# Files anew: the pieces in a middle file, and in the leaf what guests write; or the pieces in the leaf, over the base.
 fresh() {
   rm -f base.vhdx middle.vhdx leaf.vhdx
   "$program" make dynamic base.vhdx --sectors "$sectors" > /dev/null
-  "$program" make child middle.vhdx --parent base.vhdx > /dev/null
-  [ "$2" = middle ] && "$program" steps middle.vhdx < "pieces$1" > /dev/null
-  "$program" make child leaf.vhdx --parent middle.vhdx > /dev/null
-  if [ "$2" = leaf ]; then "$program" steps leaf.vhdx < "pieces$1"; else "$program" steps leaf.vhdx < "writes$1"; fi > /dev/null
+  "$program" make child "$2.vhdx" --parent base.vhdx > /dev/null
+  "$program" steps "$2.vhdx" < "pieces$1" > /dev/null
+  if [ "$2" = middle ]; then
+    "$program" make child leaf.vhdx --parent middle.vhdx > /dev/null
+    "$program" steps leaf.vhdx < "writes$1" > /dev/null
+  fi
   sync
 }
 
