@@ -66,6 +66,15 @@ def shuffled(guests, chance):
     return order
 
 
+def disk_behind(seed):
+    """The disk that a load leaves."""
+    writes, guests = load(seed)
+    disk = bytearray(SECTORS * SECTOR)
+    run(disk, writes)
+    run(disk, [call for calls in guests for call in calls])
+    return disk
+
+
 def lines(seed, order=None):
     writes, guests = load(seed)
     calls = order(guests) if order else [call for calls in guests for call in calls]

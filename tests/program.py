@@ -4,8 +4,8 @@
     tests/program.py PROGRAM
 
 Each block of README.md and docs/USE.md that shows a command is run, in order, and prints what stands there, but for identifiers. Then come
-statuses and texts, files that can't be read or written, a disk that is full, runs that are killed, and two runs at once over one chain. It
-works in a new folder, takes less than a minute, and ends with the line 'N passed, M failed'.
+statuses and texts, files that can't be read or written, a disk that is full, runs that are killed, two runs at once over one chain, and 20
+generated loads. It works in a new folder, takes about a minute, and ends with the line 'N passed, M failed'.
 """
 import os
 import pathlib
@@ -20,6 +20,8 @@ import tempfile
 import threading
 
 TOP = pathlib.Path(__file__).resolve().parent.parent
+sys.path.insert(0, str(TOP / "compare"))
+import loads
 ID = re.compile(r"\{[0-9a-f]{8}(-[0-9a-f]{4}){3}-[0-9a-f]{12}\}")
 SECTORS = 2097152
 ROUNDS = 100
@@ -283,6 +285,33 @@ def check_child(folder):
     tell("a child made beside a merge", well, why)
 
 
+def check_loads(program, room):
+    """A load prints what its calls give on one thread by the model of compare/, whatever its threads did, and leaves that disk."""
+    for seed in range(20):
+        folder = Folder(program, room / f"load{seed}")
+        folder.path.mkdir()
+        wanted = loads.lines(seed)
+        folder.check(f"load {seed}", ["load", str(seed)], 0, wanted)
+        names = [line.split(" ")[0] for line in folder.run("info", "load4.vhdx")[1].split("\n")[:-1]]
+        tell(f"the files of load {seed}", names == ["load4.vhdx", "load3.vhdx", "load1.vhdx", "load0.vhdx"], names)
+        if seed == 0:
+            again = Folder(program, room / "load0again")
+            again.path.mkdir()
+            again.check("load 0 again", ["load", "0"], 0, wanted)
+            folder.check("a load where its files are", ["load", "1"], 1, "refused 27 NameTaken load0.vhdx\n")
+            disk = loads.disk_behind(seed)
+            for first in (0, 32_760, 55_456, 65_530, 98_300, 131_056):
+                found = [line.split(" ")[1] for line in folder.run("dump", "load4.vhdx", str(first), "16")[1].split("\n")[:-1]]
+                there = [disk[512 * s : 512 * s + 512].hex() for s in range(first, first + 16)]
+                tell(f"sectors of load 0 from {first} on", found == there, first)
+        shutil.rmtree(folder.path)
+    folder = Folder(program, room / "load-parent-taken")
+    folder.path.mkdir()
+    folder.run("make", "dynamic", "load3.vhdx", "--sectors", "8")
+    folder.check("a load whose fourth file is there", ["load", "0"], 1, "refused 27 NameTaken load3.vhdx\n")
+    folder.check("a load without a seed", ["load"], 2, "", folder.run("--help")[1])
+
+
 def main():
     if len(sys.argv) != 2:
         raise SystemExit(__doc__)
@@ -305,6 +334,7 @@ def main():
             check_workers(folder, workers)
         check_pairs(folder)
         check_child(folder)
+        check_loads(program, room)
     print(f"{sum(results)} passed, {len(results) - sum(results)} failed")
     return 0 if all(results) else 1
 

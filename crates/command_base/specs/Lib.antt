@@ -5,6 +5,7 @@ pub mod Dump
 pub mod Ends
 pub mod Folders
 pub mod Info
+pub mod MakeRuns
 pub mod Making
 pub mod Printed
 pub mod Refusals

@@ -5,4 +5,5 @@ pub mod MadeShow
 pub mod Mended
 pub mod Ranges
 pub mod Reading
+pub mod Said
 pub mod Showing

@@ -3,7 +3,7 @@ use Rattle.std.proofs.Common.{◌≡◌, ℕ, zero, suc, ◌+◌, ◌*◌, ◌/�
 use Rattle.std.specs.Int.{bit_at}
 use Rattle.std.specs.Prelude.{All, Contains, replicate, slice_index, unwrap_or}
 use Rattle.std.specs.List.{AllByRecursion}
-use Rattle.std.proofs.lemmas.List.{append-nil, drop-drop, drop_more, length-drop, take_all, length-replicate, take-append-drop}
+use Rattle.std.proofs.lemmas.List.{append-nil, drop-drop, drop_more, length-drop, length-take-le, take_all, length-replicate, take-append-drop}
 use Rattle.std.proofs.lemmas.List.Elements.{All-contains}
 use Rattle.std.proofs.lemmas.Nat.Bits.{bit_at-zero}
 use Rattle.std.proofs.Math.Nat.{mul-le-mul_left}
@@ -17,7 +17,7 @@ use Rattle.std.specs.Result.{IsErrAnd}
 use Rattle.store_model.specs.Trace.{Trace}
 use Rattle.guest_model.specs.Calls.{bytes_of}
 use Rattle.guest_model.specs.Calls as guest
-use Rattle.guest_model.specs.History.{sector_at}
+use Rattle.guest_model.specs.History.{IsSized, sector_at}
 use Rattle.chain_model.specs.Images.{members_of}
 use Rattle.chain_model.specs.Layers.{Layer, flat, through}
 use Rattle.chain_model.specs.Members.{disk_of, layers_of}
@@ -123,6 +123,21 @@ zeros_len : (n : ℕ) → length (zeros n) ≡ n
 unfolding zeros
 zeros_len n = length-replicate n 0
 
+-- sectors of which each has z bytes
+sized_from : (z n first : ℕ) (disk : guest.Disk) → first + n ≤ length disk → ((i : ℕ) → i < n → length (sector_at disk (first + i)) ≡ z) → IsSized z (take n (drop first disk))
+sized_from z zero first disk within each = λ k d low. absurd (omega (arith, low))
+sized_from z (suc n) first disk within each =
+    let first_is : drop first disk ≡ sector_at disk first ∷ drop (first + 1) disk = drop_more disk first [] (omega (arith, within)) in
+    let here : length (sector_at disk first) ≡ z = ap (λ k. length (sector_at disk k)) (sym (add-zero first)) ∙ each 0 (omega arith) in
+    let rest : IsSized z (take n (drop (first + 1) disk)) =
+    sized_from z n (first + 1) disk (omega (arith, within))
+    (λ i low. let number : first + 1 + i ≡ first + (i + 1) = omega arith in ap (λ k. length (sector_at disk k)) number ∙ each (i + 1) (omega (arith, low))) in
+    subst (λ xs. IsSized z (take (suc n) xs)) (sym first_is) (both (sector_at disk first) (take n (drop (first + 1) disk)) here rest)
+  where
+    both : (s : List ℕ) (xs : guest.Disk) → length s ≡ z → IsSized z xs → IsSized z (s ∷ xs)
+    both s xs here rest zero d low = here
+    both s xs here rest (suc k) d low = rest k d (omega (arith, low))
+
 -- What was read through all layers into zeros is the disk that is seen through them.
 pub found_sectors : (z sectors first count m : ℕ) (layers : List Layer) (mask out : List ℕ) → first + count ≤ sectors
     → AddsOwned (through layers) z first count 0 (replicate m 0) mask (zeros (z * count)) out → out ≡ bytes_of (take count (drop first (flat z sectors layers)))
@@ -133,6 +148,20 @@ found_sectors z sectors first count m layers mask out within adds =
     layers_are_added.bytes (through layers) z first count 0 (replicate m 0) mask (zeros (z * count)) out (λ k h. none_found m (0 + k)) adds i below
     ∙ ap (unwrap_or (through layers (first + i))) (zeros_within (z * count) (z * i) z (omega (arith, room))) ∙ sym (sector_at-flat z sectors layers (first + i) (omega (arith, within, below))))
 
+-- and each sector of it has z bytes
+found_sized : (z sectors first count m : ℕ) (layers : List Layer) (mask out : List ℕ) → first + count ≤ sectors
+    → AddsOwned (through layers) z first count 0 (replicate m 0) mask (zeros (z * count)) out → IsSized z (take count (drop first (flat z sectors layers)))
+unfolding bytes_at
+found_sized z sectors first count m layers mask out within adds =
+    sized_from z count first (flat z sectors layers) (omega (arith, within, length-flat z sectors layers))
+    (λ i below.
+    let room : z * (i + 1) ≤ z * count = mul-le-mul_left z (omega (arith, below)) in
+    let long : length out ≡ z * count = adds.len ∙ zeros_len (z * count) in
+    ap (λ (s : List ℕ). length s) (sym
+    (layers_are_added.bytes (through layers) z first count 0 (replicate m 0) mask (zeros (z * count)) out (λ k h. none_found m (0 + k)) adds i below
+    ∙ ap (unwrap_or (through layers (first + i))) (zeros_within (z * count) (z * i) z (omega (arith, room))) ∙ sym (sector_at-flat z sectors layers (first + i) (omega (arith, within, below)))))
+    ∙ length-take-le z (drop (z * i) out) (omega (arith, length-drop (z * i) out, long, room)))
+
 -- the same of a store's files
 pub sectors_read : (files : List LinkedFile) (geometry : Geometry) (t : Trace) (first count m : ℕ) (mask old out : List ℕ) → HasGeometry files geometry → first + count ≤ geometry.sectors → old ≡ zeros (geometry.sector * count)
     → AddsOwned (through (layers_of (members_of (placed_from 0 files t)))) geometry.sector first count 0 (replicate m 0) mask old out → out ≡ bytes_of (take count (drop first (disk_of (members_of (placed_from 0 files t)))))
@@ -141,6 +170,15 @@ sectors_read (f ∷ files) geometry t first count m mask old out has within zero
     let layers = layers_of (members_of (placed_from 0 (f ∷ files) t)) in
     found_sectors geometry.sector geometry.sectors first count m layers mask out within (subst (λ o. AddsOwned (through layers) geometry.sector first count 0 (replicate m 0) mask o out) zeroed adds)
     ∙ ap (λ (g : Geometry). bytes_of (take count (drop first (flat g.sector g.sectors layers)))) (sym has)
+
+pub sectors_sized : (files : List LinkedFile) (geometry : Geometry) (t : Trace) (first count m : ℕ) (mask old out : List ℕ) → HasGeometry files geometry → geometry.sector ≡ 512 → first + count ≤ geometry.sectors → old ≡ zeros (geometry.sector * count)
+    → AddsOwned (through (layers_of (members_of (placed_from 0 files t)))) geometry.sector first count 0 (replicate m 0) mask old out → IsSized 512 (take count (drop first (disk_of (members_of (placed_from 0 files t)))))
+sectors_sized [] geometry t first count m mask old out has sector within zeroed adds = absurd has
+sectors_sized (f ∷ files) geometry t first count m mask old out has sector within zeroed adds =
+    let layers = layers_of (members_of (placed_from 0 (f ∷ files) t)) in
+    let sized = found_sized geometry.sector geometry.sectors first count m layers mask out within (subst (λ o. AddsOwned (through layers) geometry.sector first count 0 (replicate m 0) mask o out) zeroed adds) in
+    subst (λ z. IsSized z (take count (drop first (disk_of (members_of (placed_from 0 (f ∷ files) t)))))) sector
+    (subst (λ (g : Geometry). IsSized geometry.sector (take count (drop first (flat g.sector g.sectors layers)))) (sym has) sized)
 
 pub served_sector : (files : List LinkedFile) (geometry : Geometry) → All IsServed files → HasGeometry files geometry → geometry.sector ≡ 512
 served_sector [] geometry served has = absurd has

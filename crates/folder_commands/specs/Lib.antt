@@ -1,3 +1,4 @@
 pub mod Laws
+pub mod News
 pub mod Parents
 pub mod Repairs

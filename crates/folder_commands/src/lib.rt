@@ -13,5 +13,6 @@ mod sectors;
 pub use checking::check;
 pub use commands::{dump, info};
 pub use laws::{new_files_show, one_answer};
-pub use making::make;
+pub use making::{NewFileRefusal, make, make_new, say_made};
 pub use repairing::repair;
+pub use sectors::sectors_of;

@@ -1,6 +1,6 @@
 //! The command that makes files.
 
-ghost use Rattle.std.specs.Prelude.{◌≡◌, ◌≤◌, ◌<◌, ◌*◌, All, length, ◌++◌, IfOk, OnOk, MatchResult};
+ghost use Rattle.std.specs.Prelude.{◌≡◌, ◌≤◌, ◌<◌, ◌*◌, All, length, ◌++◌, IfOk, None, OnOk};
 ghost use Rattle.command_line.specs.Requests.{child as child_of, plain_file};
 ghost use Rattle.chain_model.specs.Members.{NoneTwice};
 ghost use Rattle.link_rules.specs.Chains.{most_files, names_of};
@@ -13,9 +13,10 @@ ghost use Rattle.shown_ids.specs.Shown.{shown};
 ghost use Rattle.store_model.specs.Disk.{WhereTold};
 ghost use Rattle.store_model.specs.File.{seen};
 ghost use Rattle.store_model.specs.Trace.{file_of};
-ghost use Rattle.command_base.specs.Causes.{AnswersBy, LeavesStore, meaning_of_chain, meaning_of_make};
+ghost use Rattle.command_base.specs.Causes.{AnswersBy, LeavesStore, meaning_of_chain};
 ghost use Rattle.folder_commands.specs.Parents.{OpensParent};
-ghost use Rattle.command_base.specs.Commands.{AreOpened, AreOpenedFrom, IsNewFile, LeavesFollowed, LeavesRead, MakeEnded, OnlyAttaches, Reports, shown_from};
+ghost use Rattle.command_base.specs.Commands.{AreOpened, AreOpenedFrom, IsNewFile, LeavesFollowed, LeavesRead, MakeEnded, OnlyAttaches, shown_from};
+ghost use Rattle.folder_commands.specs.News.{EndsMaking, HasTypedParent, SaysMade, of_file};
 ghost use Rattle.command_base.specs.Making.{ShowIds, made_line};
 ghost use Rattle.printing.specs.Sent.{Sent};
 ghost use Rattle.vhdx_format.specs.AllocationTables.{IsBlockSize};
@@ -25,6 +26,7 @@ ghost use Rattle.vx_base.specs.Names.{IsName};
 
 use command_base::{ChainRefusal, attach, check_lengths, leaf_of, refuse_chain, refuse_making};
 use command_line::NewFile;
+use grown_chains::are_types;
 use link_rules::{Linked, LinkedFile, order};
 use make_file::{MakeRefusal, make_child, make_dynamic, make_fixed};
 use printing::{Status, out_of_memory, send_told};
@@ -32,6 +34,17 @@ use shown_ids::{CollectFault, collect};
 use std::alloc::{AllocError, Global};
 use store_model::{Host, Ids, Sink, Store};
 use vx_base::{Guid, Name, NoRoom, Parts};
+
+/// Why a new file isn't made.
+#[derive(Drop)]
+pub enum NewFileRefusal {
+    /// The files of its parent's chain aren't read.
+    Parent(ChainRefusal),
+    /// The file itself isn't made.
+    File(MakeRefusal),
+    /// Memory ran out before anything was looked at.
+    NoRoom,
+}
 
 /// What a parent's name leads to, and the identifiers that the files of its chain show.
 #[derive(Drop)]
@@ -51,16 +64,31 @@ fn made_said<K: Sink>(out: &mut K, name: &str, len: u64) -> Status
     }
 }
 
-// Prints whether the file of this name was made, of how many bytes.
-fn tell<K: Sink>(alloc: Global, out: &mut K, name: &str, made: Result<u64, MakeRefusal>) -> Status
+/// Prints whether the file of this name was made, of how many bytes.
+pub fn say_made<K: Sink>(
+    alloc: Global,
+    out: &mut K,
+    name: &str,
+    made: Result<u64, NewFileRefusal>,
+) -> Status
     requires { length name.now ≤ 255 }
-    ensures { MatchResult made (λ len. Sent (K.written out.old) (K.written out.new) (K.faults out.old) (K.faults out.new) Status.Done
-        (made_line name.now len) result)
-        (λ refusal. Reports (meaning_of_make name.now refusal) (K.written out.old) (K.written out.new) (K.faults out.old) (K.faults out.new) result) }
+    ensures { SaysMade name.now made (K.written out.old) (K.written out.new) (K.faults out.old) (K.faults out.new) result }
 {
     match made {
         Ok(len) => made_said(out, name, len),
-        Err(refusal) => refuse_making(alloc, out, name, refusal),
+        Err(NewFileRefusal::Parent(refusal)) => refuse_chain(alloc, out, refusal),
+        Err(NewFileRefusal::File(refusal)) => refuse_making(alloc, out, name, refusal),
+        Err(NewFileRefusal::NoRoom) => out_of_memory(out),
+    }
+}
+
+// The same answer, of a file that has no parent, or whose parent's chain is opened.
+fn of_file(made: Result<u64, MakeRefusal>) -> Result<u64, NewFileRefusal>
+    ensures { result ≡ of_file made }
+{
+    match made {
+        Ok(len) => Ok(len),
+        Err(refusal) => Err(NewFileRefusal::File(refusal)),
     }
 }
 
@@ -158,29 +186,30 @@ fn open_parent<H: Host>(
 }
 
 // Makes a child, once its parent's chain is opened.
-fn child<H: Host, I: Ids, K: Sink>(
+fn child<H: Host, I: Ids>(
     alloc: Global,
     host: &mut H,
     ids: &mut I,
-    out: &mut K,
     name: &str,
     parent: &str,
     block: u32,
-) -> Status
+) -> Result<u64, NewFileRefusal>
     requires idle { WhereTold (H.hosted host.old).folder AllIdle }
     requires name { IsName name.now }
     requires parent { IsName parent.now }
     requires block { IsBlockSize (megabyte * block) }
-    ensures { MakeEnded name.now (child_of parent.now block) (outside (H.hosted host.old) (I.drawn ids.old))
-        (outside (H.hosted host.new) (I.drawn ids.new)) (K.written out.old) (K.written out.new) (K.faults out.old) (K.faults out.new) result }
+    ensures ended { EndsMaking name.now (child_of parent.now block) (outside (H.hosted host.old) (I.drawn ids.old)) (outside (H.hosted host.new) (I.drawn ids.new)) result }
+    ensures untold { OnOk result ((H.hosted host.old).folder ≡ None → (H.hosted host.new).folder ≡ None) }
+    ensures typed { OnOk result (HasTypedParent (child_of parent.now block) (H.hosted host.old).folder) }
 {
     let (own, above) = match names_of_both(alloc, name, parent) {
         Ok(names) => names,
-        Err(AllocError) => return out_of_memory(out),
+        Err(AllocError) => return Err(NewFileRefusal::NoRoom),
     };
     match open_parent(alloc, host, &above) {
         Ok(ParentChain { linked, known }) => {
             let leaf = leaf_of(linked.files.as_slice());
+            are_types(leaf);
             let shown = known.as_slice();
             let made = make_child(
                 alloc,
@@ -192,9 +221,9 @@ fn child<H: Host, I: Ids, K: Sink>(
                 shown,
                 block,
             );
-            tell(alloc, out, name, made)
+            of_file(made)
         }
-        Err(refusal) => refuse_chain(alloc, out, refusal),
+        Err(refusal) => Err(NewFileRefusal::Parent(refusal)),
     }
 }
 
@@ -207,6 +236,38 @@ fn names_of_both(alloc: Global, name: &str, parent: &str) -> Result<(Name, Name)
     let own = Name::from_checked(alloc, name)?;
     let above = Name::from_checked(alloc, parent)?;
     Ok((own, above))
+}
+
+/// Makes the new file of this name. Answers its length in bytes.
+pub fn make_new<H: Host, I: Ids>(
+    alloc: Global,
+    host: &mut H,
+    ids: &mut I,
+    name: &str,
+    file: NewFile<'_>,
+) -> Result<u64, NewFileRefusal>
+    requires idle { WhereTold (H.hosted host.old).folder AllIdle }
+    requires name { IsName name.now }
+    requires file { IsNewFile (plain_file file) }
+    ensures ended { EndsMaking name.now (plain_file file.entry) (outside (H.hosted host.old) (I.drawn ids.old)) (outside (H.hosted host.new) (I.drawn ids.new)) result }
+    ensures untold { OnOk result ((H.hosted host.old).folder ≡ None → (H.hosted host.new).folder ≡ None) }
+    ensures typed { OnOk result (HasTypedParent (plain_file file.entry) (H.hosted host.old).folder) }
+{
+    let own = match Name::from_checked(alloc, name) {
+        Ok(own) => own,
+        Err(AllocError) => return Err(NewFileRefusal::NoRoom),
+    };
+    match file {
+        NewFile::Fixed { sectors, block } => {
+            let made = make_fixed(alloc, host, ids, &own, sectors, block);
+            of_file(made)
+        }
+        NewFile::Dynamic { sectors, block } => {
+            let made = make_dynamic(alloc, host, ids, &own, sectors, block);
+            of_file(made)
+        }
+        NewFile::Child { parent, block } => child(alloc, host, ids, name, parent, block),
+    }
 }
 
 /// Makes the new file of this name, and prints its line, or why it isn't made.
@@ -224,19 +285,6 @@ pub fn make<H: Host, I: Ids, K: Sink>(
     ensures { MakeEnded name.now (plain_file file.entry) (outside (H.hosted host.old) (I.drawn ids.old))
         (outside (H.hosted host.new) (I.drawn ids.new)) (K.written out.old) (K.written out.new) (K.faults out.old) (K.faults out.new) result }
 {
-    let own = match Name::from_checked(alloc, name) {
-        Ok(own) => own,
-        Err(AllocError) => return out_of_memory(out),
-    };
-    match file {
-        NewFile::Fixed { sectors, block } => {
-            let made = make_fixed(alloc, host, ids, &own, sectors, block);
-            tell(alloc, out, name, made)
-        }
-        NewFile::Dynamic { sectors, block } => {
-            let made = make_dynamic(alloc, host, ids, &own, sectors, block);
-            tell(alloc, out, name, made)
-        }
-        NewFile::Child { parent, block } => child(alloc, host, ids, out, name, parent, block),
-    }
+    let made = make_new(alloc, host, ids, name, file);
+    say_made(alloc, out, name, made)
 }

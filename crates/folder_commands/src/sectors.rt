@@ -4,6 +4,7 @@ ghost use Rattle.std.specs.Prelude.{◌≡◌, ◌<◌, ◌≤◌, ◌+◌, ◌*
 ghost use Rattle.chain_model.specs.Images.{members_of};
 ghost use Rattle.chain_model.specs.Members.{NoneTwice, disk_of};
 ghost use Rattle.guest_model.specs.Calls.{bytes_of};
+ghost use Rattle.guest_model.specs.History.{IsSized};
 ghost use Rattle.link_rules.specs.Chains.{most_files, names_of};
 ghost use Rattle.link_rules.specs.Effects.{IsServed, LeavesBy};
 ghost use Rattle.link_rules.specs.Folders.{AllIdle, contents};
@@ -50,8 +51,8 @@ fn layers_of(alloc: Global, files: &[LinkedFile]) -> Result<Vec<ReadLayer>, NoRo
     Ok(layers)
 }
 
-// The sectors' bytes as the store's files have them, which are a chain with these numbers.
-fn sectors_of<S: Store>(
+/// The bytes of this many sectors, at most 2,048, as the store's files have them, which are a chain with these numbers.
+pub fn sectors_of<S: Store>(
     alloc: Global,
     store: &mut S,
     files: &[LinkedFile],
@@ -70,6 +71,7 @@ fn sectors_of<S: Store>(
     ensures bytes { IfOk result (λ bytes. WhereTold (S.disk store.old).told
         (λ trace. bytes ≡ bytes_of (take count (drop first (disk_of (members_of (placed_from 0 files.now trace))))))) }
     ensures len { IfOk result (λ bytes. length bytes ≡ sector_size * count) }
+    ensures sized { IfOk result (λ bytes. WhereTold (S.disk store.old).told (λ trace. IsSized sector_size (take count (drop first (disk_of (members_of (placed_from 0 files.now trace))))))) }
     ensures store { LeavesStore (S.disk store.old) (S.disk store.new) result }
 {
     check_lengths(store, files.len() as u32)?;

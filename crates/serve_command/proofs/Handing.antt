@@ -1,10 +1,10 @@
 -- Readers of sealed files come back before the store does.
-use Rattle.std.proofs.Common.{◌≡◌, ◌≢◌, ◌<◌, ◌≤◌, ◌++◌, ◌∷◌, ◌||◌, ℕ, zero, suc, Bool, true, false, List, [], length, map, Option, Result, Ok, Err, refl, sym, ap, ap₂, subst, ◌∙◌, arith}
+use Rattle.std.proofs.Common.{◌≡◌, ◌≢◌, ◌<◌, ◌≤◌, ◌++◌, ◌∷◌, ◌||◌, ℕ, zero, suc, Bool, true, false, List, [], length, map, Option, Some, None, Result, Ok, Err, refl, sym, ap, ap₂, subst, ◌∙◌, arith}
 use Rattle.std.specs.Prelude.{IfErr, IfOk, OnErr, nat_lt, option_map}
 use Rattle.std.proofs.lemmas.Bool.{lt-ltb, ltb-true}
 use Rattle.store_model.specs.Cause.{Rose}
 use Rattle.store_model.specs.Disk.{Disk as StoreDisk, Sealed, WhereTold}
-use Rattle.store_model.specs.Folder.{HasFailed, Hosted, KeepsStore, RoseWhere, given_back}
+use Rattle.store_model.specs.Folder.{HasFailed, Held, Hosted, KeepsStore, RoseWhere, given_back, without}
 use Rattle.chain_core.specs.declared.starting.Mode.TheVariants.{Guests}
 use Rattle.link_rules.specs.Chains.{names_of}
 use Rattle.link_rules.specs.declared.linked.Linked.{Linked}
@@ -13,7 +13,7 @@ use Rattle.script.specs.declared.form.Line.{Line}
 use Rattle.serve_session.specs.Back.{any_failed}
 use Rattle.serve_session.specs.declared.merging.MergeRun.{MergeRun}
 use Rattle.command_base.specs.Commands.{Lends}
-use Rattle.serve_command.specs.Guests.{HasServedBy, ServedWith}
+use Rattle.serve_command.specs.Guests.{HasServedBy, ServedWith, TellsAlike}
 use Rattle.steps_command.specs.Sessions.{HasNotRunWith, IsLinkedChain, NotRunOver}
 use Rattle.steps_command.specs.declared.refusal.StepsRefusal.{StepsRefusal}
 use Rattle.serve_command.proofs.ServedOver.{served_not_run, served_ran}
@@ -82,12 +82,27 @@ counted_as b unread a c is h = record {
   none = λ no. h.none (λ e. no (ltb-true 0 unread (sym is ∙ e)));
 }
 
+-- what a folder without some files is told of is what it was
+none_before : (f : List Held → List Held) (o : Option (List Held)) → option_map f o ≡ None → o ≡ None
+none_before f None e = refl
+none_before f (Some x) e = let never : Some (f x) ≡ None = e in cc
+
 -- ---- over what was linked
 
 module _ (merge : Option (List ℕ)) (linked : Linked) (files : List LinkedFile) (names : List (List ℕ)) (lines : List Line) (old mid risen now : Hosted) (lent disk : StoreDisk) (before after : Option (List (List ℕ)))
     (same : files ≡ linked.files) (named : names ≡ names_of files) (chain : IsLinkedChain linked old) (lends : Lends (names_of files) old mid lent) (sets : List (List Sealed))
     (folder : risen.folder ≡ mid.folder) (past : risen.past ≡ mid.past) (rose : RoseWhere (any_failed sets ≡ true) mid.faults risen.faults)
     (back_is : WhereTold disk.told (λ trace. now.folder ≡ option_map (given_back trace) risen.folder)) (past_is : KeepsStore disk risen now) (count : RoseWhere (HasFailed disk) risen.faults now.faults) where
+  -- the folder that is away is told as it was
+  lent_alike : mid.folder ≡ option_map (without (names_of files)) old.folder
+  lent_alike = ap (λ (h : Hosted). h.folder) lends.host_is
+
+  back_alike : (risen.folder ≡ None → now.folder ≡ None) → (now.folder ≡ None → risen.folder ≡ None) → TellsAlike old.folder now.folder
+  back_alike untold told = record {
+    untold = λ none. untold (folder ∙ lent_alike ∙ ap (option_map (without (names_of files))) none);
+    told = λ none. none_before (without (names_of files)) old.folder (sym (folder ∙ lent_alike) ∙ told none);
+  }
+
   -- the host as if its readers had come back before it lent the files
   abbrev as_before : Hosted
   as_before = record old { faults = risen.faults }
@@ -104,14 +119,15 @@ module _ (merge : Option (List ℕ)) (linked : Linked) (files : List LinkedFile)
   rose_before : RoseWhere (any_failed sets ≡ true) old.faults risen.faults
   rose_before = subst (λ n. RoseWhere (any_failed sets ≡ true) n risen.faults) (ap (λ (h : Hosted). h.faults) lends.host_is) rose
 
-  pub back_ran : (result : Result MergeRun StepsRefusal) → IfOk result (λ run. any_failed sets ≡ nat_lt 0 run.unread) → IfOk result (λ run. HasServedBy merge files names lines run lent disk before after)
+  pub back_ran : (risen.folder ≡ None → now.folder ≡ None) → (now.folder ≡ None → risen.folder ≡ None) → (result : Result MergeRun StepsRefusal) → IfOk result (λ run. any_failed sets ≡ nat_lt 0 run.unread) → IfOk result (λ run. HasServedBy merge files names lines run lent disk before after)
       → IfOk result (λ run. ServedWith merge linked lines run old now before after)
-  back_ran (Ok run) back ran = record {
+  back_ran untold told (Ok run) back ran = record {
+    tells = back_alike untold told;
     faults = risen.faults;
     readers = counted_as (any_failed sets) run.unread old.faults risen.faults back rose_before;
     over = served_ran merge linked files names lines as_before risen lent disk before after same named chain_then lends_then now back_is past_is count (Ok run) ran;
   }
-  back_ran (Err r) back ran = tt
+  back_ran untold told (Err r) back ran = tt
 
   pub back_not_run : (result : Result MergeRun StepsRefusal) → OnErr result (any_failed sets ≡ false) → IfErr result (HasNotRunWith Guests merge files lent disk before after) → IfErr result (NotRunOver Guests merge linked old now before after)
   back_not_run (Ok run) back none = tt

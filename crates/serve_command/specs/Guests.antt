@@ -61,6 +61,11 @@ HasServedBy (Some name) files names lines run old new before now = HasServedMerg
 
 -- ---- over a folder
 
+-- a folder is told where it was told before
+pub record TellsAlike (before now : Option (List Held)) : Type 0 where
+  pub untold : before ≡ None → now ≡ None
+  pub told : now ≡ None → before ≡ None
+
 -- why a merge isn't finished, if it isn't
 abbrev pub stopped_by : Result (Unit {0}) ChainRefusal → Option ChainRefusal
 stopped_by (Ok done) = None
@@ -96,8 +101,10 @@ pub record ServedOver (merge : Option (List ℕ)) (linked : Linked) (lines : Lis
   pub stopped : IfErr run.merged (λ refusal. (merge ≢ None) × StopsMerge run.run refusal)
   pub served : WhereTold old.folder (λ folder. ServedIn merge linked lines guests history broken run.merged run.run.closed folder old new)
 
--- So they were, once their readers had come back, by which the host's count rose exactly where a read had failed by one.
+-- So they were, once their readers had come back, by which the host's count rose exactly where a read had failed by one. The host tells its folder
+-- where it told it before.
 pub record ServedWith (merge : Option (List ℕ)) (linked : Linked) (lines : List Line) (run : MergeRun) (old new : Hosted) (before now : Option (List (List ℕ))) : Type 0 where
+  pub tells : TellsAlike old.folder new.folder
   pub faults : ℕ
   pub readers : RoseWhere (0 < run.unread) old.faults faults
   pub over : ServedOver merge linked lines run (record old { faults = faults }) new before now

@@ -1,5 +1,5 @@
 -- What a run does, from what its commands do.
-use Rattle.std.proofs.Common.{◌≡◌, ◌≢◌, ◌⊎◌, ℕ, Bool, List, Option, Some, None, refl, inl, inr, sym, ap, subst, ◌∙◌}
+use Rattle.std.proofs.Common.{◌≡◌, ◌≢◌, ◌⊎◌, ℕ, Bool, List, [], Option, Some, None, refl, inl, inr, sym, ap, subst, ◌∙◌}
 use Rattle.std.specs.Prelude.{MatchOption, codes, option_map}
 use Rattle.std.proofs.lemmas.Option.{same_Some}
 use Rattle.command_line.specs.Requests.{File, Wish, plain}
@@ -18,9 +18,12 @@ use Rattle.link_rules.proofs.Safe.{none_safely}
 use Rattle.command_base.specs.Folders.{IsReplayedIn, OnlyFollows}
 use Rattle.printing.specs.Sent.{Sent, cut, whole}
 use Rattle.command_base.specs.Ends.{Ends, HasMerge}
-use Rattle.vhdx_app.specs.Runs.{AskMerge, FollowsFirst, IsMerging, IsRun, IsRunAlone, Runs, StartsNoThread, no_memory, serving, usage}
+use Rattle.vhdx_app.specs.Runs.{AskMerge, FollowsFirst, IsMerging, IsRun, IsRunAlone, Runs, StartsNoThread, StartsThreads, no_memory, serving, usage}
 use Rattle.script.specs.declared.form.ScriptKind.TheVariants as kinds
 use Rattle.serve_command.specs.Serves as serves
+use Rattle.load_command.specs.Commands.{load_file, load_name}
+use Rattle.load_command.specs.Loads as loads
+use Rattle.load_command.specs.declared.commands.Command.TheVariants.{Make}
 use Rattle.steps_command.specs.Steps as steps
 use Rattle.command_base.specs.Worlds.{World, world}
 use Rattle.printing.specs.declared.status.Status.{Status}
@@ -66,27 +69,27 @@ module _ (words : List (List ℕ)) (told : Option Request) (h : MatchOption told
     ends = ends;
   }
 
-  -- the same without threads, if it isn't asked for guests to be served
-  pub told_alone : (request : Request) → told ≡ Some request → (before now : World) (status : Status) → Runs (plain request) before now status → Ends (AskMerge words) before now status
-      → ((leaf : List ℕ) (workers : ℕ) (merge : Option (List ℕ)) → plain request ≡ wish.serve leaf workers merge → ⊥) → IsRunAlone words before now status
+  -- the same without threads, if none are asked for
+  pub told_alone : (request : Request) → told ≡ Some request → (before now : World) (status : Status) → Runs (plain request) before now status → Ends (AskMerge words) before now status → (StartsThreads (plain request) → ⊥) → IsRunAlone words before now status
   told_alone request is before now status runs ends other = record {
     alone = λ none. told_is_run request is before now status runs ends;
-    other = λ leaf workers merge asks. absurd (other leaf workers merge (asked_once words (plain request) (wish.serve leaf workers merge) (asked words told request is h) asks));
+    other = λ w asks starts. absurd (other (subst StartsThreads (sym (asked_once words (plain request) w (asked words told request is h) asks)) starts));
   }
 
-  -- guests are to be served, and nothing is done
-  pub serve_alone : (request : Request) → told ≡ Some request → (leaf : List ℕ) (workers : ℕ) (merge : Option (List ℕ)) → plain request ≡ wish.serve leaf workers merge → (before : World) (status : Status) → status ≡ Usage → IsRunAlone words before before status
-  serve_alone request is leaf workers merge same before status ended = record {
-    alone = λ none. absurd (none leaf workers merge (subst (Asks words) same (asked words told request is h)));
-    other = λ l w m asks. usage ended refl;
+  -- they are, and nothing is done
+  pub serve_alone : (request : Request) → told ≡ Some request → StartsThreads (plain request) → (before : World) (status : Status) → status ≡ Usage → IsRunAlone words before before status
+  serve_alone request is starts before status ended = record {
+    alone = λ none. absurd (none (plain request) (asked words told request is h) starts);
+    other = λ w asks starts. usage ended refl;
   }
 
-  -- what is asked for where guests are to be served, and where they aren't
+  -- what is asked for where threads are, and where none are
   pub serve_asked : (w : Wish) → serving (option_map plain told) ≡ Some w → Asks words w
   serve_asked w is = go told refl is
     where
       by_wish : (v : Wish) → Asks words v → serving (Some v) ≡ Some w → Asks words w
       by_wish (wish.serve l n m) asks e = subst (Asks words) (same_Some (wish.serve l n m) w e) asks
+      by_wish (wish.load seed) asks e = subst (Asks words) (same_Some (wish.load seed) w e) asks
       by_wish (wish.dump l first count) asks e = cc
       by_wish (wish.make name file) asks e = cc
       by_wish (wish.info l) asks e = cc
@@ -101,24 +104,32 @@ module _ (words : List (List ℕ)) (told : Option Request) (h : MatchOption told
       go (Some request) t e = by_wish (plain request) (asked words told request t h) e
 
   pub serve_unasked : serving (option_map plain told) ≡ None → StartsNoThread words
-  serve_unasked is leaf workers merge asks = go told refl is
+  serve_unasked is w asks starts = go told refl is
     where
-      by_wish : (w : Wish) → w ≡ wish.serve leaf workers merge → serving (Some w) ≡ None → ⊥
-      by_wish w same e = let never : ◌≡◌ {A = Option Wish} (Some (wish.serve leaf workers merge)) None = ap (λ x. serving (Some x)) (sym same) ∙ e in cc
+      by_wish : (v : Wish) → StartsThreads v → serving (Some v) ≡ None → ⊥
+      by_wish (wish.serve l n m) starts e = cc
+      by_wish (wish.load seed) starts e = cc
+      by_wish (wish.dump l first count) starts e = starts
+      by_wish (wish.make name file) starts e = starts
+      by_wish (wish.info l) starts e = starts
+      by_wish (wish.steps l merge read_only) starts e = starts
+      by_wish (wish.check name) starts e = starts
+      by_wish (wish.repair name) starts e = starts
+      by_wish wish.help starts e = starts
+      by_wish wish.version starts e = starts
 
       go : (t : Option Request) → told ≡ t → serving (option_map plain t) ≡ None → ⊥
-      go None t e = none_asked t (wish.serve leaf workers merge) asks
-      go (Some request) t e = by_wish (plain request) (asked_once words (plain request) (wish.serve leaf workers merge) (asked words told request t h) asks) e
+      go None t e = none_asked t w asks
+      go (Some request) t e = by_wish (plain request) (subst StartsThreads (sym (asked_once words (plain request) w (asked words told request t h) asks)) starts) e
 
-  -- guests were served
-  pub served_is_run : (leaf : List ℕ) (workers : ℕ) (merge : Option (List ℕ)) → serving (option_map plain told) ≡ Some (wish.serve leaf workers merge) → (before now : World) (status : Status) → Runs (wish.serve leaf workers merge) before now status → Ends (HasMerge merge) before now status
-      → IsRun words before now status
-  served_is_run leaf workers merge is before now status runs ends =
-      let asks = serve_asked (wish.serve leaf workers merge) is in
+  -- a command that starts threads has run
+  pub served_is_run : (w : Wish) → serving (option_map plain told) ≡ Some w → (before now : World) (status : Status) → Runs w before now status → Ends (IsMerging w) before now status → IsRun words before now status
+  served_is_run w is before now status runs ends =
+      let asks = serve_asked w is in
       record {
-        asked = λ w also. subst (λ w. Runs w before now status) (asked_once words (wish.serve leaf workers merge) w asks also) runs;
-        nothing = λ nothing. absurd (nothing (wish.serve leaf workers merge) asks);
-        ends = merge_ends_by (wish.serve leaf workers merge) asks before now status ends;
+        asked = λ v also. subst (λ v. Runs v before now status) (asked_once words w v asks also) runs;
+        nothing = λ nothing. absurd (nothing w asks);
+        ends = merge_ends_by w asks before now status ends;
       }
 
   -- nothing was told, and nothing is done
@@ -130,7 +141,7 @@ module _ (words : List (List ℕ)) (told : Option Request) (h : MatchOption told
   }
 
   pub none_alone : told ≡ None → (before : World) (status : Status) → status ≡ Usage → Ends (AskMerge words) before before status → IsRunAlone words before before status
-  none_alone is before status ended ends = record { alone = λ none. none_is_run is before status ended ends; other = λ leaf workers merge asks. usage ended refl }
+  none_alone is before status ended ends = record { alone = λ none. none_is_run is before status ended ends; other = λ w asks starts. usage ended refl }
 
 -- ---- the commands
 
@@ -165,6 +176,10 @@ sent_quiet : (meant : Status) (before after : Option (List ℕ)) (old new : ℕ)
 sent_quiet meant before after old new text status (whole is sent same) fault = same
 sent_quiet meant before after old new text status (cut is n sent rose) fault = absurd (fault is)
 
+no_memory_done : {before after : Option (List ℕ)} {old new : ℕ} {text : List ℕ} {status : Status} → Sent before after old new NoMemory text status → status ≡ Done → ⊥
+no_memory_done (whole is sent same) done = let never : NoMemory ≡ Done = sym is ∙ done in cc
+no_memory_done (cut is n sent rose) done = let never : Fault ≡ Done = sym is ∙ done in cc
+
 module _ (host : Hosted) (drawn : Option (List (List ℕ))) (left : Option (List ℕ)) (rises : ℕ) (sunk after : Option (List ℕ)) (old new : ℕ) (status : Status) (idle : WhereTold host.folder AllIdle) where
   pub sent_ends : (meant : Status) (text : List ℕ) → (meant ≡ Fault → ⊥) → Sent sunk after old new meant text status → {merges : Type 0} → Ends merges (world host drawn left rises sunk old) (world host drawn left rises after new) status
   sent_ends meant text none sent = record {
@@ -196,6 +211,21 @@ module _ (host : Hosted) (drawn : Option (List (List ℕ))) (left : Option (List
     drawn = inl refl;
     unread = refl;
   }
+  no_memory_runs sent (wish.load seed) =
+      loads.stopped
+      (record {
+        done = [];
+        command = Make 0;
+        left = _;
+        split = refl;
+        mid = outside host drawn;
+        last = None;
+        have_done = (refl, refl);
+        stops = loads.by_itself None
+            (record { printed = record { meant = NoMemory; text = codes "no memory\n"; said = refl; sent = sent }; kept = λ done fault. looks_still (load_file 0) host; others = adds_none (load_name 0) (load_file 0) host; moments = still_making (load_name 0) (load_file 0) host; unread = refl }, refl)
+            (λ done. no_memory_done sent done);
+      })
+      refl
   no_memory_runs sent wish.help = record { printed = record { meant = NoMemory; text = codes "no memory\n"; said = refl; sent = sent }; stays = refl }
   no_memory_runs sent wish.version = record { printed = record { meant = NoMemory; text = codes "no memory\n"; said = refl; sent = sent }; stays = refl }
 
@@ -208,7 +238,7 @@ module _ (host : Hosted) (drawn : Option (List (List ℕ))) (left : Option (List
   }
 
   pub no_memory_alone : (words : List (List ℕ)) → Sent sunk after old new NoMemory (codes "no memory\n") status → IsRunAlone words (world host drawn left rises sunk old) (world host drawn left rises after new) status
-  no_memory_alone words sent = record { alone = λ none. no_memory_is_run words sent; other = λ leaf workers merge asks. no_memory refl sent }
+  no_memory_alone words sent = record { alone = λ none. no_memory_is_run words sent; other = λ w asks starts. no_memory refl sent }
 
 pub usage_ends : (host : Hosted) (drawn : Option (List (List ℕ))) (left : Option (List ℕ)) (rises : ℕ) (sunk : Option (List ℕ)) (old : ℕ) (status : Status) → WhereTold host.folder AllIdle → status ≡ Usage → {merges : Type 0} → Ends merges (world host drawn left rises sunk old) (world host drawn left rises sunk old) status
 usage_ends host drawn left rises sunk old status idle is = record { rose = λ fault. let e : Usage ≡ Fault = sym is ∙ fault in cc; quiet = λ fault. (refl, refl, refl); home = home_still host.folder host.folder idle refl; idle = λ fault none f told. idle }

@@ -1,21 +1,22 @@
 -- What a run does, by what the words ask for; and, at the end, all that is promised of one (`IsRun`).
 use Rattle.std.specs.Prelude.{◌≡◌, ◌≢◌, ◌⊎◌, ⊤, ℕ, List, Option, Some, None, codes, option_map}
-use Rattle.command_line.specs.Requests.{File as NewFile, Wish, check, dump, help, info, make, repair, serve, steps, version}
+use Rattle.command_line.specs.Requests.{Wish, check, dump, help, info, load, make, repair, serve, steps, version}
 use Rattle.command_line.specs.Words.{Asks, AsksNothing, help_text, version_text}
-use Rattle.make_file.specs.Makes.{Outside, outside}
 use Rattle.link_rules.specs.Folders.{contents}
 use Rattle.link_rules.specs.Touches.{IsOnWay, TouchesSafely}
 use Rattle.command_base.specs.Ends.{Ends, HasMerge}
 use Rattle.command_base.specs.Folders.{IsReplayedIn, OnlyFollows}
-use Rattle.command_base.specs.Making.{AddsOnly, LooksAt, MakesSafely}
+use Rattle.command_base.specs.MakeRuns.{RunsMake}
 use Rattle.printing.specs.Sent.{Sent}
-use Rattle.command_base.specs.Printed.{IsDumpText, IsInfoText, IsMakeText, IsOwnText, Prints}
+use Rattle.command_base.specs.Printed.{IsDumpText, IsInfoText, IsOwnText, Prints}
 use Rattle.command_base.specs.Checks.{RunsCheck}
 use Rattle.folder_commands.specs.Repairs.{RunsRepair}
 use Rattle.serve_command.specs.Serves.{RunsServe}
 use Rattle.steps_command.specs.Steps.{RunsSteps}
 use Rattle.command_base.specs.Worlds.{World}
-use Rattle.vhdx_app.specs.declared.program.ServeWish.{ServeWish}
+use Rattle.load_command.specs.Loads.{RunsLoad}
+use Rattle.vhdx_app.specs.declared.program.ThreadWish.{ThreadWish}
+use Rattle.vhdx_app.specs.declared.program.ThreadWish.TheVariants as threads
 use Rattle.printing.specs.declared.status.Status.{Status}
 use Rattle.printing.specs.declared.status.Status.TheVariants.{Done, Refused, Usage, Fault, NoMemory}
 
@@ -37,17 +38,6 @@ pub record RunsShowing (leaf : List ℕ) (is_text : Status → List ℕ → Type
   pub printed : Prints is_text before now status
   pub follows : FollowsFirst leaf before now status
 
-abbrev pub outside_of : World → Outside
-outside_of w = outside w.host w.drawn
-
--- At most the one file is added, at its end or at any moment; none is where no fault ended the run and it isn't done.
-pub record RunsMake (name : List ℕ) (file : NewFile) (before now : World) (status : Status) : Type 0 where
-  pub printed : Prints (IsMakeText name file (outside_of before) (outside_of now)) before now status
-  pub kept : status ≢ Done → status ≢ Fault → LooksAt file before.host.folder now.host.folder
-  pub others : AddsOnly name file before.host.folder now.host.folder
-  pub moments : MakesSafely name file before.host now.host
-  pub unread : now.left ≡ before.left
-
 -- a text of the program's own is printed, and nothing else is done
 pub record RunsText (own : List ℕ) (before now : World) (status : Status) : Type 0 where
   pub printed : Prints (IsOwnText own) before now status
@@ -62,6 +52,7 @@ Runs (steps leaf merge read_only) before now status = RunsSteps leaf merge read_
 Runs (serve leaf workers merge) before now status = RunsServe leaf merge before now status
 Runs (check name) before now status = RunsCheck name before now status
 Runs (repair name) before now status = RunsRepair name before now status
+Runs (load seed) before now status = RunsLoad seed before now status
 Runs help before now status = RunsText help_text before now status
 Runs version before now status = RunsText version_text before now status
 
@@ -74,6 +65,7 @@ pub data RunsNothing (before now : World) (status : Status) : Type 0 where
 abbrev pub IsMerging : Wish → Type 0
 IsMerging (steps leaf merge read_only) = HasMerge merge
 IsMerging (serve leaf workers merge) = HasMerge merge
+IsMerging (load seed) = ⊤
 IsMerging other = ⊥
 
 abbrev pub AskMerge : List (List ℕ) → Type 0
@@ -95,21 +87,29 @@ pub record IsRun (words : List (List ℕ)) (before now : World) (status : Status
 
 -- ---- without threads
 
--- the wish, if guests are to be served
+-- the wish, if it is for threads
 abbrev pub serving : Option Wish → Option Wish
 serving (Some (serve leaf workers merge)) = Some (serve leaf workers merge)
+serving (Some (load seed)) = Some (load seed)
 serving other = None
 
 -- the same of the code's value
-abbrev pub wish_of : ServeWish → Wish
-wish_of g = serve g.leaf.now g.workers (option_map (λ s. s.now) g.merge)
+abbrev pub wish_of : ThreadWish → Wish
+wish_of (threads.Serve g) = serve g.leaf.now g.workers (option_map (λ s. s.now) g.merge)
+wish_of (threads.Load seed) = load seed
+
+-- what starts threads
+abbrev pub StartsThreads : Wish → Type 0
+StartsThreads (serve leaf workers merge) = ⊤
+StartsThreads (load seed) = ⊤
+StartsThreads other = ⊥
 
 -- no thread is asked for
 abbrev pub StartsNoThread : List (List ℕ) → Type 0
-StartsNoThread words = (leaf : List ℕ) (workers : ℕ) (merge : Option (List ℕ)) → Asks words (serve leaf workers merge) → ⊥
+StartsNoThread words = (wish : Wish) → Asks words wish → StartsThreads wish → ⊥
 
 -- A run without threads is one of the command that the words ask for, if it starts none; and if it does, nothing is done: the status says so, or
 -- it is told that memory ran out.
 pub record IsRunAlone (words : List (List ℕ)) (before now : World) (status : Status) : Type 0 where
   pub alone : StartsNoThread words → IsRun words before now status
-  pub other : (leaf : List ℕ) (workers : ℕ) (merge : Option (List ℕ)) → Asks words (serve leaf workers merge) → RunsNothing before now status
+  pub other : (wish : Wish) → Asks words wish → StartsThreads wish → RunsNothing before now status

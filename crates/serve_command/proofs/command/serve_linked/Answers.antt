@@ -48,7 +48,8 @@ pub returns-clause-ran : goal.returns-clause-ran
 returns-clause-ran g c =
     back_ran (source_of c.args.merging) c.args.linked.now c.as_slice-files.result.now c.as_slice.result.now c.args.lines.now (g.H.Host.hosted c.args.host.now) (g.H.Host.hosted c.attach.new.host) (g.H.Host.hosted c.give_back_sets.new.host) (g.H.Host.hosted c.give_back.new.self)
     (g.H.S.Store.disk c.in_ok-store.store) (g.H.S.Store.disk c.serve_lent-store.result.0) (g.I.Ids.drawn c.args.ids.now) (g.I.Ids.drawn c.serve_lent-store.new.ids) c.as_slice-files.ensures (c.as_slice.ensures ∙ c.in_ok-names.ensures) c.requires.chain c.in_ok-store.ensures.ok
-    c.serve_lent-store.result.2.items c.give_back_sets.ensures.folder c.give_back_sets.ensures.past c.give_back_sets.ensures.count c.give_back.ensures.folder c.give_back.ensures.past c.give_back.ensures.count c.serve_lent-store.result.1 c.serve_lent-store.ensures.back c.serve_lent-store.ensures.ran
+    c.serve_lent-store.result.2.items c.give_back_sets.ensures.folder c.give_back_sets.ensures.past c.give_back_sets.ensures.count c.give_back.ensures.folder c.give_back.ensures.past c.give_back.ensures.count c.give_back.ensures.untold c.give_back.ensures.told c.serve_lent-store.result.1 c.serve_lent-store.ensures.back
+    c.serve_lent-store.ensures.ran
 
 pub returns-clause-err : goal.returns-clause-err
 returns-clause-err g c =

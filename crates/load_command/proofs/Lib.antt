@@ -1,0 +1,11 @@
+pub mod Ending
+pub mod Loaded
+pub mod Made
+pub mod Named
+pub mod Runs
+pub mod ServedWell
+pub mod Sessions
+pub mod Shown
+pub mod Stepping
+pub mod Summed
+pub mod Writes

@@ -1,0 +1,5 @@
+pub mod Commands
+pub mod Growing
+pub mod Loads
+pub mod Stops
+pub mod Sums
