@@ -3,6 +3,7 @@
 use crate::asking::{ask, done};
 use crate::questions::Question;
 use guest_model::{CallRef, Caller, ChainRefusal, KeepAll, KeepMarks, Recorder};
+use ledger::Ledger;
 use std::process::Abort;
 
 /// A disk of 1 GB, in sectors.
@@ -79,4 +80,19 @@ fn calls_are_kept(rt: HostRuntime) {
     ask(&rt, 5, second.guest == 7);
     ask(&rt, 6, second.no == 2);
     note_some(&rt, &mut KeepMarks::new());
+}
+
+#[test]
+fn calls_are_told(rt: HostRuntime) {
+    let mut keeping = Ledger::keeping(rt.alloc());
+    note_some(&rt, &mut keeping);
+    let Some(entries) = keeping.entries() else {
+        panic!(rt; "no entries are kept");
+    };
+    assert!(rt; entries.len() == 2);
+    ask(&rt, 7, entries[0].caller().no == 1);
+    ask(&rt, 8, entries[1].caller().no == 2);
+    let mut telling = Ledger::telling(rt.alloc());
+    note_some(&rt, &mut telling);
+    ask(&rt, 9, telling.entries().is_none());
 }
