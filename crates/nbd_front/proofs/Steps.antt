@@ -1,5 +1,5 @@
 -- The steps of a session.
-use Rattle.std.proofs.Common.{◌≡◌, ◌≢◌, ◌≤◌, ◌<◌, ℕ, suc, ◌+◌, ◌-◌, ◌^◌, ◌++◌, ◌||◌, Bool, true, false, List, [], ◌∷◌, length, take, drop, Option, Ok, Err, Result, refl, sym, ap, subst, ◌∙◌, arith, append_assoc, zero-add, length-append, length-take, length-drop, inl, inr}
+use Rattle.std.proofs.Common.{◌≡◌, ◌≢◌, ◌≤◌, ◌<◌, ℕ, suc, ◌+◌, ◌-◌, ◌*◌, ◌^◌, ◌++◌, ◌||◌, Bool, true, false, List, [], ◌∷◌, length, take, drop, Option, Ok, Err, Result, refl, sym, ap, subst, ◌∙◌, arith, append_assoc, zero-add, length-append, length-take, length-drop, inl, inr}
 use Rattle.std.specs.Io.KnownBytes.{Consumes, Appends, prepend_known}
 use Rattle.std.proofs.KnownBytes.{Consumes-trans, Consumes-nil, Appends-nil, Appends-trans, prepend_known-nil}
 use Rattle.std.proofs.lemmas.List.{append-nil}
@@ -17,12 +17,12 @@ use Rattle.nbd_front.specs.declared.request.Request.{Request}
 use Rattle.nbd_front.specs.declared.served.Served.{Served}
 use Rattle.nbd_front.specs.declared.refusal.NbdRefusal.{NbdRefusal}
 use Rattle.nbd_front.specs.declared.refusal.NbdRefusal.TheVariants as refusals
-use Rattle.nbd_front.specs.Wire.{counted, data_len, greeting}
+use Rattle.nbd_front.specs.Wire.{counted, data_len, greeting, most_calls, most_messages}
 use Rattle.nbd_front.specs.Messages.{Phase, greeted, haggling, client_flags, flags_spelled, over, transmitting, cut_short, Message, begun, named, aborted, other_option, Spells, nothing, message, IsOption, IsRequest, write_begun, name_spelled, abort_spelled, other_spelled}
 use Rattle.nbd_front.specs.Calls.{AreMade, calls_begun}
 use Rattle.nbd_front.specs.Replies.{answer_to, is_answered_by}
 use Rattle.nbd_front.specs.Sessions.{Exchange, World, IsServed, MakesCalls, all_answers, all_calls, earlier, least_sent, was_answered_by, IsSent, IsSpent, CountsFaults, EndsAs, of_write, other_name}
-use Rattle.nbd_front.specs.Parts.{Stand, Session, Leads, IsEnded, IsSourceEnd, CountsSource, TakesFlags, TakesOption, phase_behind, stand, ahead, unread}
+use Rattle.nbd_front.specs.Parts.{Stand, Session, Leads, IsEnded, IsSourceEnd, CountsSource, TakesFlags, TakesOption, left_for, phase_behind, stand, ahead, unread}
 use Rattle.nbd_front.proofs.Taken.{counted_more}
 use Rattle.nbd_front.proofs.Sent.{take_both}
 
@@ -118,7 +118,7 @@ no_more n = omega arith
 pub one_more : (n m : ℕ) → m ≡ n + 1 → m ≤ n + 1
 one_more n m e = omega arith
 
--- a source's end or fault isn't that more messages came than are counted
+-- a source's end or fault isn't that as many messages came as are served
 pub spent_of_source : (T : Type 0) (r : NbdRefusal) (before now messages : ℕ) → CountsSource {T = T} (Err r) before now → IsSpent (Err r) messages
 spent_of_source T (refusals.Cut place) before now messages h = tt
 spent_of_source T (refusals.Magic place) before now messages h = tt
@@ -129,16 +129,21 @@ spent_of_source T (refusals.Source fault) before now messages h = tt
 spent_of_source T (refusals.Sink fault) before now messages h = absurd h
 spent_of_source T refusals.Spent before now messages h = absurd h
 
+-- one message more, with few calls
+few_behind : (calls more : List Answered) (left all : ℕ) → length calls ≤ most_calls → suc left ≤ all → length more ≤ most_calls * left → length (calls ++ more) ≤ most_calls * all
+few_behind calls more left all some goes few = omega (arith, length-append calls more)
+
 -- ---- a message that was answered
 
 module _ {D : Type 0} {tells : Telling D} (e : Export) (p q : Phase) (a b : Stand D) (m : Message) (bytes : List ℕ) (calls : List Answered)
     (spells : Spells e p bytes m q) (taken : Consumes a.world.left b.world.left bytes) (at : b.at ≡ counted a.at (length bytes))
     (makes : MakesCalls e m calls) (runs : Runs tells a.world.disk calls b.world.disk) (messages : b.messages ≤ a.messages + 1)
+    (some : length calls ≤ most_calls)
     (fault : b.fault ≡ (a.fault || is_answered_by 5 e m calls)) (no_room : b.no_room ≡ (a.no_room || is_answered_by 12 e m calls))
     (source : b.world.source_faults ≡ a.world.source_faults) where
   -- and its answer was sent
-  pub leads_on : Appends a.world.written b.world.written (answer_to e m calls) → b.world.sink_faults ≡ a.world.sink_faults → Leads tells e p a q b
-  leads_on sent sink c result s = record {
+  pub leads_on : suc (left_for q b.messages) ≤ left_for p a.messages → Appends a.world.written b.world.written (answer_to e m calls) → b.world.sink_faults ≡ a.world.sink_faults → Leads tells e p a q b
+  leads_on goes sent sink c result s = record {
     exchanges = record { message = m; calls = calls } ∷ s.exchanges;
     bytes = bytes ++ s.bytes;
     last = s.last;
@@ -155,12 +160,13 @@ module _ {D : Type 0} {tells : Telling D} (e : Export) (p q : Phase) (a b : Stan
     ends = subst (λ k. EndsAs e s.last k s.tail c.world.left result)
         (ap (λ k. counted k (length s.bytes)) at ∙ counted_more a.at (length bytes) (length s.bytes) ∙ ap (counted a.at) (sym (length-append bytes s.bytes))) s.ends;
     spent = spent_behind result a.messages b.messages (length s.exchanges) messages s.spent;
+    few = few_behind calls (all_calls s.exchanges) (left_for q b.messages) (left_for p a.messages) some goes s.few;
   }
 
   -- and its answer was cut by a fault of the sink
-  pub cut_in_answer : (f : SinkFault) → (n : ℕ) × Appends a.world.written b.world.written (take n (answer_to e m calls)) → Rose a.world.sink_faults b.world.sink_faults
+  pub cut_in_answer : 0 < left_for p a.messages → (f : SinkFault) → (n : ℕ) × Appends a.world.written b.world.written (take n (answer_to e m calls)) → Rose a.world.sink_faults b.world.sink_faults
       → f.count ≡ b.world.sink_faults → Session tells e p a b (Err (refusals.Sink f))
-  cut_in_answer f sent rose told = record {
+  cut_in_answer more f sent rose told = record {
     exchanges = record { message = m; calls = calls } ∷ [];
     bytes = bytes ++ [];
     last = q;
@@ -175,6 +181,7 @@ module _ {D : Type 0} {tells : Telling D} (e : Export) (p q : Phase) (a b : Stan
     counts = (source, rose, told);
     ends = refl;
     spent = tt;
+    few = few_behind calls [] 0 (left_for p a.messages) some more (omega arith);
   }
 
 -- ---- the end
@@ -195,6 +202,7 @@ is_over e a = record {
   counts = (refl, refl);
   ends = (refl, refl);
   spent = tt;
+  few = omega arith;
 }
 
 -- between two messages
@@ -217,6 +225,7 @@ is_ended e p a b refusal fits ended disk written fault no_room counts spent = re
   counts = counts;
   ends = subst (λ k. EndsAs e p k ended.tail b.world.left (Err refusal)) (same_count a.at fits) ended.ends;
   spent = spent;
+  few = omega arith;
 }
   where
     same_count : (n : ℕ) → n < 2 ^ 64 → n ≡ counted n 0
@@ -242,8 +251,8 @@ pub is_cut_in_write : {D : Type 0} {tells : Telling D} (e : Export) (a b : Stand
     → AreMade (calls_begun e.geometry r text) calls → Runs tells a.world.disk calls b.world.disk
     → IsSourceEnd (counted a.at (length (magic ++ head ++ text))) b.world.left refusal
     → b.world.written ≡ a.world.written → b.fault ≡ a.fault → b.no_room ≡ a.no_room → CountsFaults (Err refusal) a.world b.world
-    → IsSpent (Err refusal) (a.messages + 1) → Session tells e transmitting a b (Err refusal)
-is_cut_in_write {tells = tells} e a b r magic head text calls refusal is few taken made runs why written fault no_room counts spent = record {
+    → IsSpent (Err refusal) (a.messages + 1) → length calls ≤ most_calls → a.messages < 2 ^ 48 → Session tells e transmitting a b (Err refusal)
+is_cut_in_write {tells = tells} e a b r magic head text calls refusal is few taken made runs why written fault no_room counts spent some more = record {
   exchanges = record { message = begun r text; calls = calls } ∷ [];
   bytes = (magic ++ head ++ text) ++ [];
   last = cut_short;
@@ -258,6 +267,7 @@ is_cut_in_write {tells = tells} e a b r magic head text calls refusal is few tak
   counts = counts;
   ends = ended_in_write e _ _ b.world.left refusal (ap (λ (l : List ℕ). counted a.at (length l)) (sym (append-nil (magic ++ head ++ text)))) (fits a.at _) why;
   spent = spent;
+  few = few_behind calls [] 0 (left_for transmitting a.messages) some (omega (arith, more)) (omega arith);
 }
   where
     fits : (at n : ℕ) → counted at n < 2 ^ 64
@@ -319,8 +329,8 @@ module _ (e : Export) (flags at at' : ℕ) (left left' : Option (List ℕ)) (nam
     ends = other_name (subst (λ k. IsOption k t.magic t.head t.text) n t.is) (t.named_some b) (λ f. t.named_other b (f ∙ sym same));
   }
 
--- more messages came than are counted
-pub is_given_up : {D : Type 0} {tells : Telling D} (e : Export) (p : Phase) (a : Stand D) → a.at < 2 ^ 64 → 2 ^ 64 - 1 ≤ a.messages → Session tells e p a a (Err refusals.Spent)
+-- as many messages came as are served
+pub is_given_up : {D : Type 0} {tells : Telling D} (e : Export) (p : Phase) (a : Stand D) → a.at < 2 ^ 64 → most_messages ≤ a.messages → Session tells e p a a (Err refusals.Spent)
 is_given_up e p a fits spent = is_ended e p a a refusals.Spent fits (record { tail = []; taken = Consumes-nil a.world.left; ends = refl }) refl refl refl refl (refl, refl) (omega arith)
 
 -- the last message was read
@@ -334,7 +344,7 @@ leads_further {tells = tells} e p a b c on r more leads s = subst (λ o. Leads t
 pub leads_flags : {D : Type 0} {tells : Telling D} (e : Export) (a b : Stand D) (flags : ℕ) → TakesFlags a.at b.at a.world.left b.world.left flags → b.world.disk ≡ a.world.disk → b.messages ≡ a.messages → b.world.written ≡ a.world.written
     → b.fault ≡ a.fault → b.no_room ≡ a.no_room → b.world.source_faults ≡ a.world.source_faults → b.world.sink_faults ≡ a.world.sink_faults → Leads tells e greeted a (haggling flags) b
 leads_flags e a b flags t disk messages written fault no_room source sink =
-    leads_on e greeted (haggling flags) a b (client_flags flags) t.bytes [] spelled t.taken t.count refl disk (subst (λ n. n ≤ a.messages + 1) (sym messages) (no_more a.messages)) (fault ∙ or_none a.fault) (no_room ∙ or_none a.no_room) source
+    leads_on e greeted (haggling flags) a b (client_flags flags) t.bytes [] spelled t.taken t.count refl disk (subst (λ n. n ≤ a.messages + 1) (sym messages) (no_more a.messages)) (omega arith) (fault ∙ or_none a.fault) (no_room ∙ or_none a.no_room) source (omega (arith, messages))
     (subst (λ k. Appends a.world.written k []) (sym written) (Appends-nil a.world.written)) sink
   where
     spelled : Spells e greeted t.bytes (client_flags flags) (haggling flags)
@@ -364,6 +374,7 @@ greeting_cut tells known e a b f left disk source sent rose told = record {
   counts = (source, rose, told);
   ends = refl;
   spent = tt;
+  few = omega arith;
 }
 
 none_ahead : (i : Intake) (left : Option (List ℕ)) → i.end ≡ i.start → unread i left ≡ left
@@ -401,6 +412,7 @@ served_whole tells size known lawful e d d' a b out sunk result sized room empty
       (counts_to result (record { left = unread d.intake a.left; source_faults = a.source_faults; written = out; sink_faults = sunk; disk = a.disk }) _ b refl refl s.counts);
   ends = subst (λ k. EndsAs e s.last (counted k (length s.bytes)) s.tail (unread d'.intake b.left) result) at s.ends;
   spent = subst (IsSpent result) (ap (λ (t : Tally). t.messages + length s.exchanges) tally ∙ zero-add (length s.exchanges)) s.spent;
+  few = subst (λ (t : Tally). length (all_calls s.exchanges) ≤ most_calls * left_for greeted t.messages) tally s.few;
 }
 
 pub served_of : {D : Type 0} {tells : Telling D} {known : D → Option Known} {e f : Export} {a b : World D} {s : Served} → e ≡ f → IsServed tells known e a b s → IsServed tells known f a b s

@@ -1,5 +1,5 @@
 -- Of the small functions: what is taken of a source, a request's calls, and the parts of a session.
-use Rattle.std.specs.Prelude.{◌≡◌, ◌≢◌, ◌<◌, ◌≤◌, ℕ, ◌+◌, ◌-◌, ◌/◌, ⊤, ◌||◌, Bool, true, false, map, List, ◌++◌, length, take, drop, Option, None, Some, Result, Ok, Err, ◌⊎◌, [], ◌==◌, ◌&&◌, if◌then◌else◌}
+use Rattle.std.specs.Prelude.{◌≡◌, ◌≢◌, ◌<◌, ◌≤◌, ℕ, ◌+◌, ◌-◌, ◌*◌, ◌/◌, ⊤, ◌||◌, Bool, true, false, map, List, ◌++◌, length, take, drop, Option, None, Some, Result, Ok, Err, ◌⊎◌, [], ◌==◌, ◌&&◌, if◌then◌else◌}
 use Rattle.std.specs.List.{AllByRecursion}
 use Rattle.std.specs.Io.KnownBytes.{Consumes, IsAtEnd, prepend_known}
 use Rattle.store_model.specs.Cause.{Rose}
@@ -12,8 +12,8 @@ use Rattle.nbd_front.specs.declared.export.Export.{Export}
 use Rattle.nbd_front.specs.declared.intake.Intake.{Intake}
 use Rattle.nbd_front.specs.declared.refusal.NbdRefusal.{NbdRefusal}
 use Rattle.nbd_front.specs.declared.refusal.NbdRefusal.TheVariants as refusals
-use Rattle.nbd_front.specs.Wire.{counted, data_len, number_at, read_kind, reply_head}
-use Rattle.nbd_front.specs.Messages.{Phase, haggling, transmitting, over, IsOption, IsRequest, Reads}
+use Rattle.nbd_front.specs.Wire.{counted, data_len, most_calls, most_messages, number_at, read_kind, reply_head}
+use Rattle.nbd_front.specs.Messages.{Phase, greeted, haggling, transmitting, cut_short, over, IsOption, IsRequest, Reads}
 use Rattle.nbd_front.specs.Calls.{AreMade, calls_begun, calls_of, first_refusal, write_call}
 use Rattle.nbd_front.specs.Replies.{bytes_given, error_in, error_of}
 use Rattle.nbd_front.specs.Sessions.{World, Exchange, MakesCalls, all_answers, all_calls, earlier, was_answered_by, IsSent, IsSpent, CountsFaults, EndsAs}
@@ -165,6 +165,14 @@ stand d left source_faults out sink_faults disk = record {
   world = record { left = unread d.intake left; source_faults = source_faults; written = out; sink_faults = sink_faults; disk = disk };
 }
 
+-- How many messages may still come in a phase, behind so many that were answered: the client's flags and the export's name aren't among these.
+abbrev pub left_for : Phase → ℕ → ℕ
+left_for greeted messages = most_messages - messages + 2
+left_for (haggling flags) messages = most_messages - messages + 1
+left_for transmitting messages = most_messages - messages
+left_for cut_short messages = 0
+left_for over messages = 0
+
 -- A part of a session, from one stand to another.
 pub record Session {D : Type 0} (tells : Telling D) (e : Export) (p : Phase) (a b : Stand D) (result : Result (Unit {0}) NbdRefusal) : Type 0 where
   pub exchanges : List Exchange
@@ -181,6 +189,7 @@ pub record Session {D : Type 0} (tells : Telling D) (e : Export) (p : Phase) (a 
   pub counts : CountsFaults result a.world b.world
   pub ends : EndsAs e last (counted a.at (length bytes)) tail b.world.left result
   pub spent : IsSpent result (a.messages + length exchanges)
+  pub few : length (all_calls exchanges) ≤ most_calls * left_for p a.messages
 
 -- however a session goes on from the second stand, it does so from the first
 abbrev pub Leads : {D : Type 0} → Telling D → Export → Phase → Stand D → Phase → Stand D → Type 0

@@ -1,5 +1,5 @@
 -- A session (profile): what a client sent, the calls that were made, what was answered, and how it ended.
-use Rattle.std.specs.Prelude.{◌≡◌, ◌≢◌, ◌<◌, ◌≤◌, ℕ, ◌||◌, ◌+◌, ◌-◌, ◌^◌, ⊤, Bool, false, List, [], ◌∷◌, ◌++◌, length, map, take, Option, Result, Ok, Err}
+use Rattle.std.specs.Prelude.{◌≡◌, ◌≢◌, ◌<◌, ◌≤◌, ℕ, ◌||◌, ◌+◌, ◌*◌, ⊤, Bool, false, List, [], ◌∷◌, ◌++◌, length, map, take, Option, Result, Ok, Err}
 use Rattle.std.specs.List.{flat_map, AllByRecursion}
 use Rattle.std.specs.Io.KnownBytes.{Consumes, Appends, IsAtEnd, prepend_known}
 use Rattle.store_model.specs.Cause.{Rose}
@@ -8,7 +8,7 @@ use Rattle.nbd_front.specs.declared.export.Export.{Export}
 use Rattle.nbd_front.specs.declared.served.Served.{Served}
 use Rattle.nbd_front.specs.declared.refusal.NbdRefusal.{NbdRefusal}
 use Rattle.nbd_front.specs.declared.refusal.NbdRefusal.TheVariants as refusals
-use Rattle.nbd_front.specs.Wire.{number_at, option_magic, request_magic, most_option_bytes, most_bytes, most_ahead, export_name, write_kind, request_of, counted, greeting}
+use Rattle.nbd_front.specs.Wire.{number_at, option_magic, request_magic, most_option_bytes, most_bytes, most_ahead, most_calls, most_messages, export_name, write_kind, request_of, counted, greeting}
 use Rattle.nbd_front.specs.Messages.{Phase, greeted, haggling, transmitting, cut_short, over, Message, client_flags, other_option, named, aborted, asked, begun, disconnected, IsOption, Reads}
 use Rattle.nbd_front.specs.Calls.{AreMade, calls_of, calls_begun}
 use Rattle.nbd_front.specs.Replies.{answer_to, is_answered_by}
@@ -95,7 +95,7 @@ pub data HasOtherFlags : Phase → List ℕ → Type 0 where
   other_flags : {bytes : List ℕ} → length bytes ≡ 4 → 3 < number_at 4 bytes 0 → HasOtherFlags greeted bytes
 
 -- How a session ends that comes to a phase at a place, with bytes behind the last message: by the last message, by what these
--- bytes are, by a fault of the source within a message, or of the sink behind one; or more messages came than are counted.
+-- bytes are, by a fault of the source within a message, or of the sink behind one; or as many messages came as are served.
 abbrev pub EndsAs : Export → Phase → ℕ → List ℕ → Option (List ℕ) → Result (Unit {0}) NbdRefusal → Type 0
 EndsAs e last at tail left (Ok done) = (last ≡ over) × (tail ≡ [])
 EndsAs e last at tail left (Err (refusals.Cut place)) = (place ≡ counted at (length tail)) × IsAtEnd left × IsPart last tail
@@ -107,7 +107,7 @@ EndsAs e last at tail left (Err (refusals.Source fault)) = IsPart last tail
 EndsAs e last at tail left (Err (refusals.Sink fault)) = tail ≡ []
 EndsAs e last at tail left (Err refusals.Spent) = tail ≡ []
 
--- so many messages are more than are counted, where that was the end
+-- so many messages are as many as are served, where that was the end
 abbrev pub IsSpent : Result (Unit {0}) NbdRefusal → ℕ → Type 0
 IsSpent (Ok done) messages = ⊤
 IsSpent (Err (refusals.Cut place)) messages = ⊤
@@ -117,7 +117,7 @@ IsSpent (Err (refusals.TooLong place)) messages = ⊤
 IsSpent (Err refusals.OtherFlags) messages = ⊤
 IsSpent (Err (refusals.Source fault)) messages = ⊤
 IsSpent (Err (refusals.Sink fault)) messages = ⊤
-IsSpent (Err refusals.Spent) messages = 2 ^ 64 - 1 ≤ messages
+IsSpent (Err refusals.Spent) messages = most_messages ≤ messages
 
 -- the text was sent; after a fault of the sink a part from its beginning, of so many bytes at least
 abbrev pub IsSent : Result (Unit {0}) NbdRefusal → Option (List ℕ) → Option (List ℕ) → List ℕ → ℕ → Type 0
@@ -151,7 +151,8 @@ least_sent e (x ∷ xs) = length greeting + length (all_answers e (earlier (x �
 -- A session, over a disk that tells its calls so: the bytes that were taken of the source are the client's messages and less than one
 -- more; the calls made for each message are its own, and the disk was taken by all of them, in order, from how it was to how it is; what
 -- was told of them is true of the one history; the greeting and the answers were sent; and it ended as these bytes say. The source may
--- have been read further, by 64 KB at most.
+-- have been read further, by 64 KB at most. Few calls were made: beside the messages that are served there are the client's flags and
+-- the export's name.
 pub record IsServed {D : Type 0} (tells : Telling D) (known : D → Option Known) (e : Export) (a b : World D) (served : Served) : Type 0 where
   pub exchanges : List Exchange
   pub bytes : List ℕ
@@ -170,3 +171,4 @@ pub record IsServed {D : Type 0} (tells : Telling D) (known : D → Option Known
   pub counts : CountsFaults served.end a b
   pub ends : EndsAs e last (counted 0 (length bytes)) tail (prepend_known ahead b.left) served.end
   pub spent : IsSpent served.end (length exchanges)
+  pub few : length (all_calls exchanges) ≤ most_calls * (most_messages + 2)

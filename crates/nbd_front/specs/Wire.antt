@@ -36,6 +36,13 @@ most_bytes = 33554432
 abbrev pub most_ahead : ℕ
 most_ahead = 65536
 
+-- the most options and requests that are served, and the most calls of one of them
+abbrev pub most_messages : ℕ
+most_messages = 2 ^ 48
+
+abbrev pub most_calls : ℕ
+most_calls = 33
+
 -- the options that are served: the export's name, and to end
 abbrev pub export_name : ℕ
 export_name = 1

@@ -15,6 +15,7 @@ use crate::next::Next;
 use crate::refusal::NbdRefusal;
 use crate::sending::send;
 use crate::taking::take_option;
+use crate::tally::MOST_MESSAGES;
 use disk_calls::DiskCalls;
 use store_model::{Sink, SinkFault, Source};
 
@@ -41,7 +42,7 @@ fn serve_option<S: Source, K: Sink, D: DiskCalls>(
     desk: &mut Desk,
 ) -> Result<Next, NbdRefusal>
     requires few { export.now.geometry.sectors * export.now.geometry.sector < 2 ^ 64 }
-    requires more { desk.old.tally.messages < 2 ^ 64 - 1 }
+    requires more { desk.old.tally.messages < 2 ^ 48 }
     ensures on { (disk : D) → IfOk result (λ next. Leads D.tells export.now (haggling flags)
         (stand desk.old (S.left source.old) (S.faults source.old) (K.written sink.old) (K.faults sink.old) disk) (phase_after flags next)
         (stand desk.new (S.left source.new) (S.faults source.new) (K.written sink.new) (K.faults sink.new) disk)) }
@@ -88,7 +89,7 @@ pub fn haggle<S: Source, K: Sink, D: DiskCalls>(
         (stand desk.old (S.left source.old) (S.faults source.old) (K.written sink.old) (K.faults sink.old) disk)
         (stand desk.new (S.left source.new) (S.faults source.new) (K.written sink.new) (K.faults sink.new) disk) (Err refusal)) }
 {
-    while desk.tally.messages < u64::MAX {
+    while desk.tally.messages < MOST_MESSAGES {
         match serve_option::<S, K, D>(export, flags, source, sink, desk)? {
             Next::Options => {}
             Next::Requests => return Ok(true),

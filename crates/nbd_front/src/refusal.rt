@@ -19,7 +19,7 @@ pub enum NbdRefusal {
     Source(SourceFault),
     /// The sink failed.
     Sink(SinkFault),
-    /// More options or requests came than are counted: 2^64 - 1.
+    /// As many options and requests came as are served: 2^48.
     Spent,
 }
 

@@ -12,6 +12,7 @@ use crate::intake::Intake;
 use crate::refusal::NbdRefusal;
 use crate::request::Request;
 use crate::taking::{take_flags, take_request};
+use crate::tally::MOST_MESSAGES;
 use crate::writing::take_write;
 use disk_calls::DiskCalls;
 use store_model::{Sink, Source};
@@ -57,7 +58,7 @@ fn serve_request<S: Source, K: Sink, D: DiskCalls>(
     requires size { IsSector export.now.geometry.sector }
     requires disk { D.size disk.old ≡ export.now.geometry }
     requires few { export.now.geometry.sectors * export.now.geometry.sector < 2 ^ 64 }
-    requires more { desk.old.tally.messages < 2 ^ 64 - 1 }
+    requires more { desk.old.tally.messages < 2 ^ 48 }
     ensures on { IfOk result (λ on. Leads D.tells export.now transmitting
         (stand desk.old (S.left source.old) (S.faults source.old) (K.written sink.old) (K.faults sink.old) disk.old) (phase_behind on)
         (stand desk.new (S.left source.new) (S.faults source.new) (K.written sink.new) (K.faults sink.new) disk.new)) }
@@ -100,7 +101,7 @@ fn transmit<S: Source, K: Sink, D: DiskCalls>(
         (stand desk.old (S.left source.old) (S.faults source.old) (K.written sink.old) (K.faults sink.old) disk.old)
         (stand desk.new (S.left source.new) (S.faults source.new) (K.written sink.new) (K.faults sink.new) disk.new) result }
 {
-    while desk.tally.messages < u64::MAX {
+    while desk.tally.messages < MOST_MESSAGES {
         if !serve_request(export, disk, source, sink, desk)? {
             return Ok(());
         }

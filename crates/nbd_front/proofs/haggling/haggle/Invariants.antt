@@ -12,4 +12,4 @@ invariant-loop-desk g l =
     (stand l.desk (left l.source) (faults l.source) (written l.sink) (sunk l.sink) disk)
 
 abbrev pub decreases-loop-desk : goal.decreases-loop-desk
-decreases-loop-desk g l = 2 ^ 64 - 1 - l.desk.tally.messages
+decreases-loop-desk g l = 2 ^ 48 - l.desk.tally.messages

@@ -1,4 +1,4 @@
-use Rattle.std.proofs.Common.{◌++◌, ℕ, Bool, [], refl, ◌∙◌}
+use Rattle.std.proofs.Common.{◌++◌, ℕ, Bool, [], refl, ◌∙◌, arith}
 use Rattle.std.proofs.lemmas.Result.{err_from_is_err_and}
 use Rattle.nbd_front.specs.Messages.{haggling, transmitting, over, named, aborted, other_option}
 use Rattle.nbd_front.proofs.Steps.{is_ended, leads_on, cut_in_answer, counts_of_source, counts_any, spent_of_source, no_more, one_more, or_none, spells_named, spells_abort, spells_other, ends_otherwise}
@@ -21,23 +21,23 @@ returns-in_err-send_export-clause-ended g c = λ disk.
     let p = err_from_is_err_and c.from_residual-in_err-send_export.result c.from_residual-in_err-send_export.ensures.1 in
     let t = c.in_ok-number.ensures.taken in
     rw (p.1, p.2) (cut_in_answer c.args.export.now (haggling c.args.flags) transmitting _ _ (named c.args.flags) (t.magic ++ t.head ++ t.text) []
-    (spells_named c.args.export.now c.args.flags _ _ _ _ _ _ _ t c.if-number-eq1.true c.if-not-is_named.false c.as_bytes.ensures.bytes) t.taken t.count refl refl (no_more _) (or_none _) (or_none _)
-    c.in_ok-number.ensures.count c.in_err-send_export.field-0.0 c.in_err-send_export.ensures.cut c.in_err-send_export.ensures.rose c.in_err-send_export.ensures.told)
+    (spells_named c.args.export.now c.args.flags _ _ _ _ _ _ _ t c.if-number-eq1.true c.if-not-is_named.false c.as_bytes.ensures.bytes) t.taken t.count refl refl (no_more _) (omega arith) (or_none _) (or_none _)
+    c.in_ok-number.ensures.count (omega (arith, c.requires.more)) c.in_err-send_export.field-0.0 c.in_err-send_export.ensures.cut c.in_err-send_export.ensures.rose c.in_err-send_export.ensures.told)
 
 pub returns-then-number-eq1-clause-on : goal.returns-then-number-eq1-clause-on
 returns-then-number-eq1-clause-on g c = λ disk.
     let t = c.in_ok-number.ensures.taken in
     leads_on c.args.export.now (haggling c.args.flags) transmitting _ _ (named c.args.flags) (t.magic ++ t.head ++ t.text) []
-    (spells_named c.args.export.now c.args.flags _ _ _ _ _ _ _ t c.if-number-eq1.true c.if-not-is_named.false c.as_bytes.ensures.bytes) t.taken t.count refl refl (no_more _) (or_none _) (or_none _)
-    c.in_ok-number.ensures.count c.in_ok-send_export.ensures.ok c.in_ok-send_export.ensures.quiet
+    (spells_named c.args.export.now c.args.flags _ _ _ _ _ _ _ t c.if-number-eq1.true c.if-not-is_named.false c.as_bytes.ensures.bytes) t.taken t.count refl refl (no_more _) (omega arith) (or_none _) (or_none _)
+    c.in_ok-number.ensures.count (omega (arith, c.requires.more)) c.in_ok-send_export.ensures.ok c.in_ok-send_export.ensures.quiet
 
 pub returns-in_err-send-clause-ended : goal.returns-in_err-send-clause-ended
 returns-in_err-send-clause-ended g c = λ disk.
     let p = err_from_is_err_and c.from_residual-in_err-send.result c.from_residual-in_err-send.ensures.1 in
     let t = c.in_ok-number.ensures.taken in
     rw (p.1, p.2) (cut_in_answer c.args.export.now (haggling c.args.flags) over _ _ aborted (t.magic ++ t.head ++ t.text) []
-    (spells_abort c.args.export.now c.args.flags _ _ _ _ _ _ _ t c.if-number-eq2.true) t.taken t.count refl refl (no_more _) (or_none _) (or_none _)
-    c.in_ok-number.ensures.count c.in_err-send.field-0.0
+    (spells_abort c.args.export.now c.args.flags _ _ _ _ _ _ _ t c.if-number-eq2.true) t.taken t.count refl refl (no_more _) (omega arith) (or_none _) (or_none _)
+    c.in_ok-number.ensures.count (omega (arith, c.requires.more)) c.in_err-send.field-0.0
     (c.in_err-send.ensures.cut.0, rw c.option_reply.ensures at c.in_err-send.ensures.cut.1)
     c.in_err-send.ensures.rose c.in_err-send.ensures.told)
 
@@ -45,16 +45,16 @@ pub returns-then-number-eq2-clause-on : goal.returns-then-number-eq2-clause-on
 returns-then-number-eq2-clause-on g c = λ disk.
     let t = c.in_ok-number.ensures.taken in
     leads_on c.args.export.now (haggling c.args.flags) over _ _ aborted (t.magic ++ t.head ++ t.text) []
-    (spells_abort c.args.export.now c.args.flags _ _ _ _ _ _ _ t c.if-number-eq2.true) t.taken t.count refl refl (no_more _) (or_none _) (or_none _)
-    c.in_ok-number.ensures.count (rw c.option_reply.ensures at c.in_ok-send.ensures.ok) c.in_ok-send.ensures.quiet
+    (spells_abort c.args.export.now c.args.flags _ _ _ _ _ _ _ t c.if-number-eq2.true) t.taken t.count refl refl (no_more _) (omega arith) (or_none _) (or_none _)
+    c.in_ok-number.ensures.count (omega (arith, c.requires.more)) (rw c.option_reply.ensures at c.in_ok-send.ensures.ok) c.in_ok-send.ensures.quiet
 
 pub returns-in_err-send-2-clause-ended : goal.returns-in_err-send-2-clause-ended
 returns-in_err-send-2-clause-ended g c = λ disk.
     let p = err_from_is_err_and c.from_residual-in_err-send-2.result c.from_residual-in_err-send-2.ensures.1 in
     let t = c.in_ok-number.ensures.taken in
     rw (p.1, p.2) (cut_in_answer c.args.export.now (haggling c.args.flags) (haggling c.args.flags) _ _ (other_option c.in_ok-number.number) (t.magic ++ t.head ++ t.text) []
-    (spells_other c.args.export.now c.args.flags _ _ _ _ _ _ _ t c.if-number-eq1.false c.if-number-eq2.false) t.taken t.count refl refl (no_more _) (or_none _) (or_none _)
-    c.in_ok-number.ensures.count c.in_err-send-2.field-0.0
+    (spells_other c.args.export.now c.args.flags _ _ _ _ _ _ _ t c.if-number-eq1.false c.if-number-eq2.false) t.taken t.count refl refl (no_more _) (omega arith) (or_none _) (or_none _)
+    c.in_ok-number.ensures.count (omega (arith, c.requires.more)) c.in_err-send-2.field-0.0
     (c.in_err-send-2.ensures.cut.0, rw c.option_reply-2.ensures at c.in_err-send-2.ensures.cut.1)
     c.in_err-send-2.ensures.rose c.in_err-send-2.ensures.told)
 
@@ -62,5 +62,5 @@ pub returns-clause-on : goal.returns-clause-on
 returns-clause-on g c = λ disk.
     let t = c.in_ok-number.ensures.taken in
     leads_on c.args.export.now (haggling c.args.flags) (haggling c.args.flags) _ _ (other_option c.in_ok-number.number) (t.magic ++ t.head ++ t.text) []
-    (spells_other c.args.export.now c.args.flags _ _ _ _ _ _ _ t c.if-number-eq1.false c.if-number-eq2.false) t.taken t.count refl refl (one_more _ _ c.count.ensures.messages) (c.count.ensures.fault ∙ or_none _) (c.count.ensures.no_room ∙ or_none _)
-    c.in_ok-number.ensures.count (rw c.option_reply-2.ensures at c.in_ok-send-2.ensures.ok) c.in_ok-send-2.ensures.quiet
+    (spells_other c.args.export.now c.args.flags _ _ _ _ _ _ _ t c.if-number-eq1.false c.if-number-eq2.false) t.taken t.count refl refl (one_more _ _ c.count.ensures.messages) (omega arith) (c.count.ensures.fault ∙ or_none _) (c.count.ensures.no_room ∙ or_none _)
+    c.in_ok-number.ensures.count (omega (arith, c.requires.more, c.count.ensures.messages)) (rw c.option_reply-2.ensures at c.in_ok-send-2.ensures.ok) c.in_ok-send-2.ensures.quiet

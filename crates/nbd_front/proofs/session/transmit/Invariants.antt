@@ -15,4 +15,4 @@ invariant-loop-desk g l =
     }
 
 abbrev pub decreases-loop-desk : goal.decreases-loop-desk
-decreases-loop-desk g l = 2 ^ 64 - 1 - l.desk.tally.messages
+decreases-loop-desk g l = 2 ^ 48 - l.desk.tally.messages
