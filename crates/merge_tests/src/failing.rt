@@ -29,11 +29,8 @@ const FIRST_REFUSED: &str = " 1 1 write 0 1 aa = refused 38 ReadFault ";
 
 const OTHER_DONE: &str = " 2 1 write 4097 1 cc = done\n";
 
-// How far apart the calls are that fail.
-const STRIDE: u64 = 97;
-
-// How many moments crash.
-const TURNS: u64 = 4;
+// Of how many calls that fail, and of how many crashes, one is mended: what it leaves is merged to the end.
+const MENDED: u64 = 32;
 
 // The disks that may be left, each with which writes it has: the first of guest 1, its second, and that of guest 2.
 static DISKS: [((bool, bool, bool), &str); 8] = [
@@ -236,18 +233,13 @@ fn is_done<R: Abort + Threads + Wait + Sync>(
     done
 }
 
-// Asks it of calls a stride apart, from this one on.
-fn each_failing_call<R: Abort + Threads + Wait + Sync>(
-    rt: &R,
-    alloc: Global,
-    name: &str,
-    first: u64,
-) {
+// Asks it of each call, up to the first that no session makes. Threads take their turns in any order, so that the number of calls differs from
+// run to run.
+fn each_failing_call<R: Abort + Threads + Wait + Sync>(rt: &R, alloc: Global, name: &str) {
     let host = chain(rt, alloc);
     let files = files_in(rt, alloc, &host);
-    for turn in 0..100u64 {
-        let call = turn.saturating_mul(STRIDE).saturating_add(first);
-        if is_done(rt, alloc, name, &files, call, turn % 4 == 3) {
+    for call in 1..10_000u64 {
+        if is_done(rt, alloc, name, &files, call, call % MENDED == 0) {
             ask(rt, call > 60, "too few calls");
             return;
         }
@@ -257,12 +249,12 @@ fn each_failing_call<R: Abort + Threads + Wait + Sync>(
 
 #[test]
 fn failing_calls_of_a_leaf_merge(rt: HostRuntime) {
-    each_failing_call(&rt, rt.alloc(), "c.vhdx", 7);
+    each_failing_call(&rt, rt.alloc(), "c.vhdx");
 }
 
 #[test]
 fn failing_calls_of_a_merge(rt: HostRuntime) {
-    each_failing_call(&rt, rt.alloc(), "b.vhdx", 11);
+    each_failing_call(&rt, rt.alloc(), "b.vhdx");
 }
 
 // The session's store as it comes back, behind those of the openings: it tells what was done to the chain's files.
@@ -292,8 +284,7 @@ fn crashed<R: Abort>(rt: &R, alloc: Global, store: &MemStore, moment: u64, pick:
     files_in(rt, alloc, &left)
 }
 
-// Asks that crashes of the session, the first behind its first changes and the last at its end, leave the disk and a chain from which the merge goes on.
-// Gives what the last one showed.
+// Asks that a crash at each moment of the session leaves the disk and a chain from which the merge goes on. Gives what the last one showed.
 fn each_crash<R: Abort + Threads + Wait + Sync>(
     rt: &R,
     alloc: Global,
@@ -303,10 +294,9 @@ fn each_crash<R: Abort + Threads + Wait + Sync>(
 ) -> Shown {
     let mut last = BEGUN;
     let count = store.order.len() as u64;
-    for turn in 0..TURNS {
-        let moment = count.saturating_mul(turn.saturating_add(1)) / TURNS;
+    for moment in 0..count.saturating_add(1) {
         let left = crashed(rt, alloc, store, moment, pick);
-        let now = shown_in(rt, alloc, name, &left, turn % 4 == 3);
+        let now = shown_in(rt, alloc, name, &left, moment % MENDED == 0);
         // What was shown is still so, and the first write before the second one.
         ask(rt, last.is_within(&now), "a write is lost again");
         ask(rt, now.first || !now.second, "the second write alone");
