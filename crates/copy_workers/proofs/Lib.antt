@@ -1,4 +1,5 @@
 pub mod Turns
 pub mod Claimed
+mod Settled
 mod Sealed
 mod Fetching

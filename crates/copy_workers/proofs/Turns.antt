@@ -1,6 +1,6 @@
 -- A worker's turn, from its beginning to its end.
 use Rattle.std.proofs.Common.{◌≡◌, ◌≢◌, ◌⊎◌, ◌+◌, ◌-◌, ◌<◌, ◌≤◌, ◌==◌, ◌++◌, ◌∷◌, ℕ, Bool, true, false, List, [], length, inl, inr, ap₂, Some, None, Result, Ok, Err, refl, sym, ap, subst, ◌∙◌, arith, length-append, take_at}
-use Rattle.std.specs.Prelude.{◌||◌, IfErr, IfSome, OnOk, Option, if◌then◌else◌, nat_lt}
+use Rattle.std.specs.Prelude.{◌&&◌, ◌||◌, IfErr, IfSome, OnOk, Option, if◌then◌else◌, nat_le, nat_lt}
 use Rattle.std.proofs.lemmas.Bool.{eqb-true, eq-eqb, lt-ltb, ltb-false, ltb-true}
 use Rattle.std.proofs.lemmas.List.{append-nil, length-map}
 use Rattle.store_model.specs.Disk.{Disk}
@@ -14,14 +14,14 @@ use Rattle.shared_chain.specs.declared.basis.Basis.{Basis}
 use Rattle.shared_chain.specs.declared.basis.Breach.{Breach}
 use Rattle.shared_chain.specs.declared.basis.Step.{Step}
 use Rattle.shared_chain.specs.declared.basis.Step.TheVariants.{Broke, Done}
-use Rattle.chain_model.specs.Merges.{with_mark}
+use Rattle.chain_model.specs.Merges.{with_mark, with_marks}
 use Rattle.merge_core.specs.Copied.{marks_of}
 use Rattle.merge_core.specs.declared.marks.Marks.{Marks}
 use Rattle.shared_chain.specs.declared.basis.Note.TheVariants as notes
 use Rattle.shared_chain.specs.Bases.{Contains, HasStripe, basis_of, marked_below}
 use Rattle.shared_chain.specs.Notes.{HasNote}
 use Rattle.shared_chain.specs.Laws.{contains_itself, contains_through}
-use Rattle.shared_chain.specs.Merging.{IsStepped, MergeStep, StopsFetch, StopsPut, as_answer, copied_behind, copies, ends, fetches, finished_behind, finishes, most_events}
+use Rattle.shared_chain.specs.Merging.{IsStepped, MergeStep, StopsFetch, StopsPut, as_answer, copied_behind, copies, ends, fetches, finished_behind, finishes, most_events, passes}
 use Rattle.merge_core.specs.declared.piece.Piece.{Piece}
 use Rattle.guest_model.specs.History.{History}
 use Rattle.shared_chain.specs.Fetched.{IsFetched, WasFetched}
@@ -50,6 +50,16 @@ still_marked (copies stripe) (Ok done) marks t m = go (nat_lt stripe marks.strip
         either false = m
     go false = m
 still_marked (copies stripe) (Err x) marks t m = m
+still_marked (passes stripe n) (Ok done) marks t m = go (nat_lt t marks.stripes)
+  where
+    go : (b : Bool) → (if b then with_marks stripe n (marks_of marks) t else marks_of marks t) ≡ true
+    go true = either (nat_le stripe t && nat_lt t (stripe + n))
+      where
+        either : (b : Bool) → (b || marks_of marks t) ≡ true
+        either true = refl
+        either false = m
+    go false = m
+still_marked (passes stripe n) (Err x) marks t m = m
 still_marked (fetches stripe) answer marks t m = m
 still_marked finishes answer marks t m = m
 still_marked ends answer marks t m = m
@@ -90,6 +100,22 @@ still_finished (copies stripe) (Err (Abandoned file count)) finished e = e
 still_finished (copies stripe) (Err (NoStripe s n)) finished e = e
 still_finished (copies stripe) (Err NoPiece) finished e = e
 still_finished (copies stripe) (Err NoRoom) finished e = e
+still_finished (passes stripe m) (Ok done) finished e = e
+still_finished (passes stripe m) (Err EmptyRange) finished e = e
+still_finished (passes stripe m) (Err (OutOfRange a b c)) finished e = e
+still_finished (passes stripe m) (Err (TooLong a b)) finished e = e
+still_finished (passes stripe m) (Err ReadOnly) finished e = e
+still_finished (passes stripe m) (Err (Broken file count)) finished e = e
+still_finished (passes stripe m) (Err (Spent t)) finished e = e
+still_finished (passes stripe m) (Err (FileFull next)) finished e = e
+still_finished (passes stripe m) (Err (ReadFault file count)) finished e = e
+still_finished (passes stripe m) (Err NoMerge) finished e = refl
+still_finished (passes stripe m) (Err (Stale taken now)) finished e = e
+still_finished (passes stripe m) (Err (NotYet s)) finished e = e
+still_finished (passes stripe m) (Err (Abandoned file count)) finished e = e
+still_finished (passes stripe m) (Err (NoStripe s n)) finished e = e
+still_finished (passes stripe m) (Err NoPiece) finished e = e
+still_finished (passes stripe m) (Err NoRoom) finished e = e
 
 -- a stripe that was copied has its mark
 marked_now : (stripe : ℕ) (marks : Marks) → stripe < marks.stripes → copied_behind (copies stripe) (Ok tt) marks stripe ≡ true
@@ -97,11 +123,11 @@ marked_now stripe marks less =
     ap₂ (λ a b. if a then b || marks_of marks stripe else marks_of marks stripe) (lt-ltb stripe marks.stripes less) (eq-eqb stripe stripe refl)
 
 module _ {S T : Type 0} where
-  abbrev told_of : Shared (Chain S KeepAll T) → List Step
+  abbrev pub told_of : Shared (Chain S KeepAll T) → List Step
   told_of s = steps_of s.chain.recorder s.broke
 
   -- how much is done to the chain: its events
-  abbrev work : Basis S T → ℕ
+  abbrev pub work : Basis S T → ℕ
   work b = b.events
 
   -- the steps stay, or the merge breaks the session
@@ -241,7 +267,7 @@ module _ {S T : Type 0} where
   -- ---- a stripe
 
   -- what stopped a fetch of it shows, behind the turn
-  stops_turn : (disk : S → Disk) (stripe : ℕ) (step : MergeStep) (answer : Result (Unit {0}) ChainRefusal) (before last : Known Step (Basis S T)) (old new : Shared (Chain S KeepAll T)) → IsStepped disk step old new answer → finished_behind step (Err NoMerge) old.finished ≡ true
+  pub stops_turn : (disk : S → Disk) (stripe : ℕ) (step : MergeStep) (answer : Result (Unit {0}) ChainRefusal) (before last : Known Step (Basis S T)) (old new : Shared (Chain S KeepAll T)) → IsStepped disk step old new answer → finished_behind step (Err NoMerge) old.finished ≡ true
       → Contains (basis_of disk old) before.basis → last.basis ≡ basis_of disk new → (x : ChainRefusal) → answer ≡ Err x → StopsFetch disk stripe old new x → StopsTurn stripe before last x
   stops_turn disk stripe step answer before last old new k none knows is = go
     where

@@ -1,3 +1,4 @@
 pub mod Readings
 pub mod Sources
 pub mod Sweeps
+pub mod Settling

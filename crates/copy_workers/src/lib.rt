@@ -1,6 +1,7 @@
 //! Workers of a merge: threads that copy stripes between the guests' turns.
 #![tactic(auto)]
 
+mod passing;
 mod source;
 mod worker;
 

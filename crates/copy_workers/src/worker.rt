@@ -1,8 +1,9 @@
 //! A worker of a merge.
 
-ghost use Rattle.std.specs.Prelude.{◌≡◌, ◌+◌, ◌*◌, ◌<◌, All, IfErr, IfSome, OnOk, Some, true};
+ghost use Rattle.std.specs.Prelude.{◌≡◌, ◌+◌, ◌*◌, ◌<◌, All, IfErr, IfOk, IfSome, OnOk, Some, true};
 ghost use Rattle.chain_core.specs.declared.chain.Chain.{Chain};
 ghost use Rattle.chain_core.specs.Sealed.{IsSealedSource};
+ghost use Rattle.copy_workers.specs.Settling.{ArePassed};
 ghost use Rattle.copy_workers.specs.Sources.{HasFetched, HasSource, HaveFailed};
 ghost use Rattle.copy_workers.specs.Sweeps.{AreLeft, IsLeft};
 ghost use Rattle.guest_model.specs.declared.recorder.KeepAll.{KeepAll};
@@ -10,6 +11,7 @@ ghost use Rattle.read_plan.specs.Reading.{ReaderFailed};
 ghost use Rattle.shared_chain.specs.Planned.{IsReaderFor};
 ghost use Rattle.shared_chain.specs.Seats.{HasWorked, IsFree, IsSwept, StopsTurn};
 
+use crate::passing::{Passed, found_by, put_or_pass};
 use crate::source::SourceReaders;
 use chain_core::SealedSource;
 use claims::{ClaimSeat, Claims};
@@ -92,20 +94,25 @@ impl<S: Store> Worker<S> {
         answer
     }
 
-    // Puts what was fetched, in a turn of its own.
-    fn put<T: Wait>(&mut self, rt: &T, lock: &TurnLock<SharedChain<S>>) -> Result<(), ChainRefusal>
+    // Puts what was fetched, or passes over its stripe and others, in a turn of its own. Answers which were passed over.
+    fn put<T: Wait>(
+        &mut self,
+        rt: &T,
+        lock: &TurnLock<SharedChain<S>>,
+    ) -> Result<Passed, ChainRefusal>
         requires own { IsFree lock.now self.old.seat }
         requires filled { self.old.piece.filled ≡ true }
         requires fetched { HasFetched S.disk self.old.seat self.old.piece.stripe self.old.piece }
         ensures worked { HasWorked 1 self.old.seat self.new.seat }
         ensures swept { IsSwept self.old.piece.stripe self.old.seat self.new.seat }
+        ensures passed { IfOk result (ArePassed self.new.seat.basis) }
         ensures only { self.new ≡ record self.old { seat = self.new.seat; piece = self.new.piece } }
     {
         let mut held = match lock.lock(rt, &mut self.seat) {
             Ok(held) => held,
             Err(spent) => return Err(ChainRefusal::Spent { t: spent.ticket }),
         };
-        let answer = held.value().put_stripe(&mut self.piece);
+        let answer = put_or_pass(held.value(), &mut self.piece);
         lock.unlock(&mut self.seat, held);
         answer
     }
@@ -117,10 +124,11 @@ impl<S: Store> Worker<S> {
         lock: &TurnLock<SharedChain<S>>,
         gate: &G,
         stripe: u32,
-    ) -> Result<(), ChainRefusal>
+    ) -> Result<Passed, ChainRefusal>
         requires own { IsFree lock.now self.old.seat }
         ensures worked { HasWorked 2 self.old.seat self.new.seat }
         ensures swept { IsSwept stripe self.old.seat self.new.seat }
+        ensures passed { IfOk result (ArePassed self.new.seat.basis) }
         ensures only { self.new ≡ record self.old { seat = self.new.seat; piece = self.new.piece } }
     {
         if let Err(refusal) = self.fetch_live(rt, lock, stripe) {
@@ -137,11 +145,12 @@ impl<S: Store> Worker<S> {
         lock: &TurnLock<SharedChain<S>>,
         gate: &G,
         stripe: u32,
-    ) -> Result<(), ChainRefusal>
+    ) -> Result<Passed, ChainRefusal>
         requires own { IsFree lock.now self.old.seat }
         requires fetched { HasFetched S.disk self.old.seat stripe self.old.piece }
         ensures worked { HasWorked 2 self.old.seat self.new.seat }
         ensures swept { IsSwept stripe self.old.seat self.new.seat }
+        ensures passed { IfOk result (ArePassed self.new.seat.basis) }
         ensures only { self.new ≡ record self.old { seat = self.new.seat; piece = self.new.piece } }
     {
         if !self.piece.is_filled() {
@@ -158,11 +167,12 @@ impl<S: Store> Worker<S> {
         lock: &TurnLock<SharedChain<S>>,
         gate: &G,
         stripe: u32,
-    ) -> Result<(), ChainRefusal>
+    ) -> Result<Passed, ChainRefusal>
         requires own { IsFree lock.now self.old.seat }
         requires fetched { HasFetched S.disk self.old.seat stripe self.old.piece }
         ensures worked { HasWorked 4 self.old.seat self.new.seat }
         ensures swept { IsSwept stripe self.old.seat self.new.seat }
+        ensures passed { IfOk result (ArePassed self.new.seat.basis) }
         ensures only { self.new ≡ record self.old { seat = self.new.seat; piece = self.new.piece } }
     {
         match self.move_stripe(rt, lock, gate, stripe) {
@@ -171,27 +181,34 @@ impl<S: Store> Worker<S> {
         }
     }
 
-    // Fetches a stripe and copies it; one that can't be fetched is left, and counted.
+    // Fetches a stripe and copies it, if it isn't one of those that were passed over; one that can't be fetched is left, and counted.
     fn copy<T: Wait, G: Gate>(
         &mut self,
         rt: &T,
         lock: &TurnLock<SharedChain<S>>,
         gate: &G,
+        passed: &mut Passed,
         stripe: u32,
     )
         requires own { IsFree lock.now self.old.seat }
         requires source { HasSource S.disk self.old.seat.basis self.old.reads }
         requires failed { HaveFailed self.old.reads self.old.unfetched }
+        requires passed { ArePassed self.old.seat.basis passed.old }
         ensures source { HasSource S.disk self.new.seat.basis self.new.reads }
         ensures failed { HaveFailed self.new.reads self.new.unfetched }
         ensures worked { HasWorked 4 self.old.seat self.new.seat }
         ensures left { IsLeft stripe self.old.seat self.new.seat self.new.unfetched }
         ensures counted { 0 < self.old.unfetched → 0 < self.new.unfetched }
         ensures claim { self.new.claim ≡ self.old.claim }
+        ensures passed { ArePassed self.new.seat.basis passed.new }
     {
+        if passed.has(stripe) {
+            return;
+        }
         match self.fetch(stripe) {
             Ok(()) => {
-                let _ = self.deliver(rt, lock, gate, stripe);
+                let answer = self.deliver(rt, lock, gate, stripe);
+                *passed = found_by(answer);
             }
             Err(_) => self.unfetched = self.unfetched.saturating_add(1),
         }
@@ -217,9 +234,10 @@ impl<S: Store> Worker<S> {
     }
 
     /// Claims stripes until none is left, and copies each: by a reader it fetches it with no turn, and puts it in one; else it fetches it in a turn
-    /// too, and where a guest changed it before the put, once more. A stripe that is refused is left. Then it finishes the merge, and answers what
-    /// that answered. It draws four tickets for each stripe that it claims at most, and one to finish. Of each of these that the chain keeps in
-    /// mind a turn has answered then that it was copied, or what stopped that shows, or a reader failed.
+    /// too, and where a guest changed it before the put, once more. Where the turn of a put finds that the source has nothing of the stripe it is
+    /// passed over, with those behind it of which the same look tells that: for these no turn is taken. A stripe that is refused is left. Then it
+    /// finishes the merge, and answers what that answered. It draws four tickets for each stripe that it claims at most, and one to finish. Of each
+    /// of these that the chain keeps in mind a turn has answered then that it was copied, or what stopped that shows, or a reader failed.
     pub fn sweep<T: Wait, G: Gate>(
         &mut self,
         rt: &T,
@@ -238,12 +256,13 @@ impl<S: Store> Worker<S> {
         ensures family { self.new.claim.family ≡ self.old.claim.family }
         ensures counter { self.new.claim.counter ≡ self.old.claim.counter }
     {
+        let mut passed = Passed { from: 0, to: 0 };
         for _ in rt.forever() {
             gate.at(rt, 1);
             let Some(stripe) = claims.claim(&mut self.claim) else {
                 break;
             };
-            self.copy(rt, lock, gate, stripe);
+            self.copy(rt, lock, gate, &mut passed, stripe);
         }
         self.finish(rt, lock)
     }

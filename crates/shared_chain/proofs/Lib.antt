@@ -8,6 +8,7 @@ mod Homing
 mod Stepping
 mod Merged
 mod Unmoved
+mod Passing
 mod Rest
 mod Copied
 mod Planning

@@ -1,6 +1,6 @@
 -- A step of a merge keeps what holds of a chain whenever nobody has it.
 use Rattle.std.proofs.Common.{◌≡◌, ◌==◌, ◌<◌, ◌≤◌, ◌^◌, ℕ, Bool, true, false, [], Option, Some, None, Result, Ok, Err, inl, inr, refl, sym, ap, subst, ◌∙◌, arith, ltb-false}
-use Rattle.std.specs.Prelude.{⊤, ◌||◌, IfSome, IfErr, if◌then◌else◌, is_some, nat_lt}
+use Rattle.std.specs.Prelude.{⊤, ◌||◌, IfSome, IfErr, IfOk, OnErr, if◌then◌else◌, is_some, nat_lt}
 use Rattle.std.proofs.lemmas.Bool.{or_parts}
 use Rattle.store_model.specs.Disk.{Disk, WhereBothTold}
 use Rattle.store_model.specs.Trace.{Trace}
@@ -15,15 +15,17 @@ use Rattle.merge_core.specs.Pieces.{piece_of}
 use Rattle.merge_core.specs.declared.piece.Piece.{Piece}
 use Rattle.layer_session.specs.Calls.{Fails}
 use Rattle.layer_session.specs.declared.file.LayerFault.TheVariants as layer
-use Rattle.chain_core.specs.Answering.{fault_of}
+use Rattle.chain_core.specs.Answering.{IsRefused, fault_of}
 use Rattle.chain_core.specs.Copying.{FetchCause, IfStopped, PutCause, fetch_refused, merge_refused, no_merge, no_stripe, past_stripes, put_refused, stale, stamp_of, unfilled}
 use Rattle.chain_core.specs.Finished.{FinishCause}
 use Rattle.chain_core.specs.Merging.{IsTruePiece}
 use Rattle.chain_core.specs.Refusing.{broken_by, or_else, unfit}
-use Rattle.chain_core.specs.Sessions.{IsSound, Session, has_merge}
+use Rattle.chain_core.specs.Sessions.{IsSound, KeepsMerge, Session, has_merge}
+use Rattle.chain_core.specs.Skipping.{SkipCause, SkipTold}
 use Rattle.chain_core.specs.States.{IsServing, LeavesOthers, State, dirty_now, disk_now, sector_of}
 use Rattle.chain_core.specs.declared.layers.Layers.{Layers}
 use Rattle.layer_session.proofs.Equal.{none_some, ok_err, some_none, some_same}
+use Rattle.layer_session.specs.ReadOnly.{SomeReadFailed}
 use Rattle.script_session.specs.Histories.{IsEndTold, IsLater, IsSoLong}
 use Rattle.script_session.specs.MergeSteps.{AnswersFetch, AnswersFinish, AnswersPut, AnswersTurn, IsUnchanged, KeepsHistory, fetched_and, not_fetched}
 use Rattle.script_session.specs.MergeSteps.{AnswersSkip}
@@ -31,7 +33,8 @@ use Rattle.script_session.proofs.Leaving.{skips_leave}
 use Rattle.shared_chain.proofs.Counting.{same_told}
 use Rattle.script_session.specs.StepsLeft.{IsFullAt, IsLeft, unstamped}
 use Rattle.script_session.proofs.Leaving.{fetches_leave, finishes_leave, puts_leave, turns_leave}
-use Rattle.script_session.proofs.Lengths.{grows_none, long_later}
+use Rattle.script_session.proofs.LeftFiles.{later_itself}
+use Rattle.script_session.proofs.Lengths.{grows_none, long_later, moments_grow}
 use Rattle.script_session.proofs.Moving.{ok_reached}
 use Rattle.shared_chain.specs.declared.basis.Breach.{Breach}
 use Rattle.shared_chain.specs.Faults.{AreCounted, fault_after}
@@ -405,6 +408,119 @@ finish_step answer old new h = record {
   merge = finish_goes answer old new h;
   left = λ whole. of_each answer old new old.disk.told new.disk.told (finishes_leave answer old new whole h);
 }
+
+-- ---- a look at what can be passed over
+
+-- It is refused as a fetch of the stripe is, and nothing is changed; or a read of the source failed.
+pub data LookEnds (stripe : ℕ) (old new : Session) : ChainRefusal → Type 0 where
+  look_stopped : (x : ChainRefusal) → new ≡ old → fetch_refused stripe old ≡ Some x → LookEnds stripe old new x
+  look_failed : (file count : ℕ) → fetch_refused stripe old ≡ None → SomeReadFailed old.disk new.disk (fault_of file count) → new.broken ≡ None → LookEnds stripe old new (ReadFault file count)
+
+look_caused : (stripe : ℕ) (old new : Session) (x : ChainRefusal) → fetch_refused stripe old ≡ None → SkipCause stripe old new (Err x) → LookEnds stripe old new x
+look_caused stripe old new EmptyRange fit c = absurd c
+look_caused stripe old new (OutOfRange first count sectors) fit c = absurd c
+look_caused stripe old new (TooLong count limit) fit c = absurd c
+look_caused stripe old new ReadOnly fit c = absurd c
+look_caused stripe old new (Broken file count) fit c = absurd c
+look_caused stripe old new (Spent t) fit c = absurd c
+look_caused stripe old new (FileFull next) fit c = absurd c
+look_caused stripe old new (ReadFault file count) fit c = look_failed file count fit c.2 c.3
+look_caused stripe old new NoMerge fit c = absurd c
+look_caused stripe old new (Stale taken at) fit c = absurd c
+look_caused stripe old new (NotYet s) fit c = absurd c
+look_caused stripe old new (Abandoned file count) fit c = absurd c
+look_caused stripe old new (NoStripe s stripes) fit c = absurd c
+look_caused stripe old new NoPiece fit c = absurd c
+look_caused stripe old new NoRoom fit c = absurd c
+
+pub look_ends : (stripe : ℕ) (x : ChainRefusal) (old new : Session) → IfStopped {T = ℕ} (fetch_refused stripe old) (Err x) (new ≡ old) → (fetch_refused stripe old ≡ None → SkipCause stripe old new (Err x)) → LookEnds stripe old new x
+look_ends stripe x old new early cause = go (fetch_refused stripe old) refl
+  where
+    go : (o : Option ChainRefusal) → fetch_refused stripe old ≡ o → LookEnds stripe old new x
+    go None is = look_caused stripe old new x is (cause is)
+    go (Some e) is =
+        let first = subst (λ o. IfStopped {T = ℕ} o (Err x) (new ≡ old)) is early in
+        look_stopped x first.1 (is ∙ ap Some (sym (same_err {T = ℕ} x e first.0)))
+
+pub same_unchanged : (old new : Session) → new ≡ old → IsUnchanged old new
+same_unchanged old new same = subst (λ s. IsUnchanged old s) (sym same) refl
+
+look_broken : (stripe : ℕ) (x : ChainRefusal) (old new : Session) → LookEnds stripe old new x → (fault : StoreFault) → old.broken ≡ Some fault → IsUnchanged old new × ((y : ChainRefusal) × (◌≡◌ {A = Result (Unit {0}) ChainRefusal} (Err x) (Err y)) × IsQuiet old.broken y)
+look_broken stripe _ old new (look_stopped x same is) fault broken = (same_unchanged old new same, (x, refl, fetch_quiet stripe old x is))
+look_broken stripe _ old new (look_failed file count fit failed whole) fault broken =
+    let first = broken_first old.events fault (no_stripe stripe old.layers) in
+    absurd (some_none (sym (ap (λ o. or_else (unfit old.events o) (no_stripe stripe old.layers)) broken ∙ first.1) ∙ fit))
+
+look_kind : (stripe : ℕ) (x : ChainRefusal) (old new : Session) → old.broken ≡ None → LookEnds stripe old new x → Kind old new (Err x)
+look_kind stripe _ old new whole (look_stopped x same is) = unchanged_kind old new x (same_unchanged old new same) (fetch_quiet stripe old x is)
+look_kind stripe _ old new whole (look_failed file count fit failed still) = reached (Err (ReadFault file count)) whole (failed.0, (old.disk.told, failed.1), still)
+
+look_whole : (stripe : ℕ) (x : ChainRefusal) (old new : Session) → old.broken ≡ None → LookEnds stripe old new x → new.broken ≡ None
+look_whole stripe _ old new whole (look_stopped x same is) = ap (λ (s : Session). s.broken) same ∙ whole
+look_whole stripe _ old new whole (look_failed file count fit failed still) = still
+
+-- what is refused without a change tells no file's end
+quiet_end : (P : ℕ → Type 0) (broken : Option StoreFault) (x : ChainRefusal) → IsQuiet broken x → IsEndTold P (Err x)
+quiet_end P broken EmptyRange q = absurd q
+quiet_end P broken (OutOfRange a b c) q = absurd q
+quiet_end P broken (TooLong a b) q = absurd q
+quiet_end P broken ReadOnly q = absurd q
+quiet_end P broken (Broken file count) q = tt
+quiet_end P broken (Spent t) q = tt
+quiet_end P broken (FileFull next) q = absurd q
+quiet_end P broken (ReadFault file count) q = absurd q
+quiet_end P broken NoMerge q = tt
+quiet_end P broken (Stale taken at) q = tt
+quiet_end P broken (NotYet stripe) q = tt
+quiet_end P broken (Abandoned file count) q = absurd q
+quiet_end P broken (NoStripe stripe stripes) q = tt
+quiet_end P broken NoPiece q = tt
+quiet_end P broken NoRoom q = absurd q
+
+look_end : (P : ℕ → Type 0) (stripe : ℕ) (x : ChainRefusal) (old new : Session) → LookEnds stripe old new x → IsEndTold P (Err x)
+look_end P stripe _ old new (look_stopped x same is) = quiet_end P old.broken x (fetch_quiet stripe old x is)
+look_end P stripe _ old new (look_failed file count fit failed still) = tt
+
+no_fault : (P : StoreFault → Type 0) (o : Option StoreFault) → o ≡ None → IfSome o P
+no_fault P o e = subst (λ b. IfSome b P) (sym e) tt
+
+-- what is served is as it was
+look_stays : (v : State) (x : ChainRefusal) (new : Session) (trace now : Trace) → IsRefused v new.layers trace now → new.broken ≡ None → IsEndTold (IsFullAt v.writes now) (Err x) → IsLeft v (Err x) new trace now
+look_stays v x new trace now r whole full = record {
+  later = v;
+  same = later_itself v;
+  sector = refl;
+  grows = moments_grow _ trace now r.moments;
+  serves = λ e. r.serving;
+  still = no_fault _ new.broken whole;
+  past = no_fault _ new.broken whole;
+  last = no_fault _ new.broken whole;
+  full = full;
+}
+
+look_left : (stripe : ℕ) (x : ChainRefusal) (old new : Session) → LookEnds stripe old new x → new.broken ≡ None → (a b : Option Trace) → WhereBothTold (λ trace now. (v : State) → IsServing old.layers v trace → IsRefused v new.layers trace now) a b
+    → WhereBothTold (λ trace now. (v : State) → IsServing old.layers v trace → ⊤ → IsLeft v (Err x) new trace now) a b
+look_left stripe x old new ends whole None None h = tt
+look_left stripe x old new ends whole None (Some b) h = absurd h
+look_left stripe x old new ends whole (Some a) None h = absurd h
+look_left stripe x old new ends whole (Some a) (Some b) h = λ v serving any. look_stays v x new a b (h v serving) whole (look_end (IsFullAt v.writes b) stripe x old new ends)
+
+-- a look that is refused
+look_step : (stripe : ℕ) (x : ChainRefusal) (old new : Session) → LookEnds stripe old new x → KeepsHistory old new → new.events ≡ old.events → KeepsMerge old.layers new.layers → SkipTold stripe old new (Err x) → StepOf (λ v. ⊤) old new (Err x)
+look_step stripe x old new ends keeps events merge tells = record {
+  keeps = keeps;
+  later = omega (arith, events);
+  merge = goes_kept old.layers new.layers merge;
+  broken = look_broken stripe x old new ends;
+  kind = λ whole. look_kind stripe x old new whole ends;
+  left = λ whole. look_left stripe x old new ends (look_whole stripe x old new whole ends) old.disk.told new.disk.told tells;
+}
+
+-- and whatever one is answered
+pub passing_step : (stripe : ℕ) (answer : Result ℕ ChainRefusal) (old new : Session) → IfOk answer (λ n. AnswersSkip stripe n old new) → IfErr answer (LookEnds stripe old new) → KeepsHistory old new → new.events ≡ old.events → OnErr answer (KeepsMerge old.layers new.layers)
+    → SkipTold stripe old new answer → StepOf (λ v. ⊤) old new (unstamped answer)
+passing_step stripe (Ok n) old new passed stopped keeps events merge tells = skip_step stripe n old new passed
+passing_step stripe (Err x) old new passed stopped keeps events merge tells = look_step stripe x old new stopped keeps events merge tells
 
 -- ---- what is noted
 

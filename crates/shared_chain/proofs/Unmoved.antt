@@ -35,7 +35,7 @@ use Rattle.shared_chain.specs.Steps.{broke_after, merge_breach}
 use Rattle.shared_chain.proofs.Causing.{at_end, noted_reads}
 use Rattle.shared_chain.proofs.Noting.{IsChange, noted}
 use Rattle.shared_chain.proofs.Stamped.{stamp_now}
-use Rattle.shared_chain.proofs.Stepping.{same_err}
+use Rattle.shared_chain.proofs.Stepping.{LookEnds, look_failed, look_stopped, same_err, same_unchanged}
 use Rattle.shared_chain.proofs.Merged.{Carries, has_none, stripe_has, whole_by}
 
 -- what stops a fetch of a stripe, by the session before it and behind it
@@ -101,6 +101,15 @@ fetch_stopped stripe old new left e h = go (fetch_refused stripe old) refl
 pub fetch_refuses : (stripe : ℕ) (answer : Result ℕ ChainRefusal) (x : ChainRefusal) (old new : Session) (left : Piece) → unstamped answer ≡ Err x → AnswersFetch stripe answer old new left → FetchEnds stripe old new x
 fetch_refuses stripe (Ok stamp) x old new left is h = absurd (ok_err is)
 fetch_refuses stripe (Err e) x old new left is h = subst (FetchEnds stripe old new) (same_err {T = Unit {0}} e x is) (fetch_stopped stripe old new left e h)
+
+-- a look at what can be passed over is refused as a fetch is
+look_stops : (stripe : ℕ) (x : ChainRefusal) (old new : Session) → new.events ≡ old.events → LookEnds stripe old new x → FetchEnds stripe old new x
+look_stops stripe _ old new events (look_stopped x same is) = fetch_early stripe old new x (same_unchanged old new same) (omega (arith, events)) is
+look_stops stripe _ old new events (look_failed file count fit failed still) = fetch_fault file count
+
+pub look_refuses : (stripe : ℕ) (answer : Result ℕ ChainRefusal) (x : ChainRefusal) (old new : Session) → unstamped answer ≡ Err x → new.events ≡ old.events → IfErr answer (LookEnds stripe old new) → FetchEnds stripe old new x
+look_refuses stripe (Ok n) x old new is events ends = absurd (ok_err is)
+look_refuses stripe (Err e) x old new is events ends = subst (FetchEnds stripe old new) (same_err {T = Unit {0}} e x is) (look_stops stripe e old new events ends)
 
 -- what refuses a put of a piece is what refuses a fetch of its stripe, or that it is stale
 put_as_fetch : (piece : Piece) (s : Session) → piece.filled ≡ true → put_refused piece s ≡ or_else (fetch_refused piece.stripe s) (stale piece.stamp (stamp_of s.layers piece.stripe))

@@ -4,13 +4,14 @@ use Rattle.store_model.specs.Disk.{Disk, WhereTold}
 use Rattle.guest_model.specs.declared.recorder.KeepAll.{KeepAll}
 use Rattle.guest_model.specs.declared.refusal.ChainRefusal.{ChainRefusal}
 use Rattle.guest_model.specs.declared.refusal.ChainRefusal.TheVariants as refusals
-use Rattle.chain_model.specs.Merges.{with_mark}
+use Rattle.chain_model.specs.Merges.{with_mark, with_marks}
 use Rattle.chain_model.specs.Stripes.{stripe_count}
 use Rattle.merge_core.specs.Copied.{marks_of}
 use Rattle.merge_core.specs.declared.marks.Marks.{Marks}
 use Rattle.merge_core.specs.declared.piece.Piece.{Piece}
 use Rattle.chain_core.specs.declared.chain.Chain.{Chain}
 use Rattle.chain_core.specs.Sessions.{HasNoMerge, has_merge, kept_marks}
+use Rattle.chain_core.specs.Skipping.{HasPassed, PassesSource}
 use Rattle.chain_core.specs.declared.layers.Layers.{Layers}
 use Rattle.chain_core.specs.States.{IsServing, State}
 use Rattle.shared_chain.specs.declared.basis.Note.TheVariants as notes
@@ -26,11 +27,17 @@ abbrev pub as_answer : Result (Unit {0}) ChainRefusal → Result ℕ ChainRefusa
 as_answer (Ok done) = Ok 0
 as_answer (Err x) = Err x
 
--- a step of a merge: a stripe is fetched; or what was fetched of it is put, and it is copied; or the merge is finished; or what is missing is
--- copied and it is finished
+-- how many stripes were passed over, by the answer
+abbrev pub passed_by : Result ℕ ChainRefusal → ℕ
+passed_by (Ok n) = n
+passed_by (Err x) = 0
+
+-- a step of a merge: a stripe is fetched; or what was fetched of it is put, and it is copied; or so many stripes from one on are passed over; or
+-- the merge is finished; or what is missing is copied and it is finished
 pub data MergeStep : Type 0 where
   fetches : (stripe : ℕ) → MergeStep
   copies : (stripe : ℕ) → MergeStep
+  passes : (stripe n : ℕ) → MergeStep
   finishes : MergeStep
   ends : MergeStep
 
@@ -38,12 +45,15 @@ pub data MergeStep : Type 0 where
 abbrev pub most_events : MergeStep → ℕ
 most_events (fetches stripe) = 1
 most_events (copies stripe) = 1
+most_events (passes stripe n) = 0
 most_events finishes = 1
 most_events ends = 2 ^ 34
 
--- which stripes are known to be copied behind it: that which it copies, if it was done and is one of those that are kept in mind
+-- which stripes are known to be copied behind it: that which it copies, if it was done and is one of those that are kept in mind; or of these
+-- those that are passed over
 abbrev pub copied_behind : MergeStep → Result (Unit {0}) ChainRefusal → Marks → ℕ → Bool
 copied_behind (copies stripe) (Ok done) marks t = if nat_lt stripe marks.stripes then with_mark stripe (marks_of marks) t else marks_of marks t
+copied_behind (passes stripe n) (Ok done) marks t = if nat_lt t marks.stripes then with_marks stripe n (marks_of marks) t else marks_of marks t
 copied_behind step answer marks t = marks_of marks t
 
 -- whether the merge was finished, or none was found, or its end was begun
@@ -52,6 +62,7 @@ finished_behind finishes (Ok done) finished = true
 finished_behind ends answer finished = true
 finished_behind (fetches stripe) (Err refusals.NoMerge) finished = true
 finished_behind (copies stripe) (Err refusals.NoMerge) finished = true
+finished_behind (passes stripe n) (Err refusals.NoMerge) finished = true
 finished_behind step answer finished = finished
 
 -- a merge is under way, and this stripe of it is copied
@@ -73,6 +84,14 @@ module _ {S T : Type 0} where
     pub copied : (t : ℕ) → marks_of new.copied t ≡ copied_behind step answer old.copied t
     pub finished : new.finished ≡ finished_behind step answer old.finished
     pub noted : NotesBy (as_answer answer) (notes_of disk old) (notes_of disk new)
+
+  -- So many stripes from one on are passed over: those of which one look at the source's entries tells that it has nothing, no more than the disk
+  -- has. The merge has their marks too, and no other; no file is changed.
+  pub record PassesOver (disk : S → Disk) (stripe n : ℕ) (old new : Chain S KeepAll T) : Type 0 where
+    pub absent : PassesSource stripe n old.layers (disk old.store)
+    pub there : stripe + n ≤ stripe_count old.layers.geometry.sector old.layers.geometry.sectors
+    pub marked : HasPassed stripe n old.layers new.layers
+    pub store : disk new.store ≡ disk old.store
 
   -- Why a stripe isn't fetched: no merge is under way; the disk has fewer stripes; the count of events is used up; a read failed, which is noted
   -- anew, or whose count is at its end; or a fault has broken the session.

@@ -1,7 +1,7 @@
 //! The chain that threads share.
 
 ghost use Rattle.store_model.specs.declared.fault.StoreFault.{StoreFault as Fault};
-ghost use Rattle.std.specs.Prelude.{◌≡◌, ◌%◌, ◌/◌, ℕ, [], Option, None, IfErr, IfOk, IfSome, IsErr, OnErr, OnOk, false, length};
+ghost use Rattle.std.specs.Prelude.{◌≡◌, ◌+◌, ◌%◌, ◌/◌, ◌^◌, ◌≤◌, ℕ, [], Option, None, IfErr, IfOk, IfSome, IsErr, OnErr, OnOk, false, length};
 ghost use Rattle.guest_model.specs.declared.call.Call.TheVariants as calls;
 ghost use Rattle.chain_core.specs.Answering.{IsDurable};
 ghost use Rattle.chain_core.specs.Sessions.{HasNoMerge, IsSound, has_merge};
@@ -14,7 +14,7 @@ ghost use Rattle.script_session.specs.Running.{IsEnded};
 ghost use Rattle.shared_chain.specs.Closing.{LeavesHistory};
 ghost use Rattle.script_session.specs.StepsLeft.{unstamped};
 ghost use Rattle.shared_chain.specs.Fetched.{IsFetched, WasFetched};
-ghost use Rattle.shared_chain.specs.Merging.{HasMark, IsMerged, IsStepped, StopsFetch, StopsPut, as_answer, copied_behind, copies, fetches, finished_behind, finishes};
+ghost use Rattle.shared_chain.specs.Merging.{HasMark, IsMerged, IsStepped, PassesOver, StopsFetch, StopsPut, as_answer, copied_behind, copies, fetches, finished_behind, finishes, passed_by, passes};
 ghost use Rattle.merge_core.specs.Copied.{marks_of};
 ghost use Rattle.shared_chain.specs.Steps.{broke_after, merge_breach, steps_of};
 ghost use Rattle.shared_chain.specs.Ends.{EndsMerge, is_no_merge};
@@ -159,10 +159,21 @@ fn unstamped(answer: Result<u64, ChainRefusal>) -> Result<(), ChainRefusal>
     }
 }
 
-// Whether the merge was finished, or none was found, behind the answer of a fetch of a stripe, or of a put.
+// What a look at what can be passed over was answered, but for the number.
+fn unnumbered(answer: Result<u32, ChainRefusal>) -> Result<(), ChainRefusal>
+    ensures { result ≡ unstamped answer }
+{
+    match answer {
+        Ok(_) => Ok(()),
+        Err(refusal) => Err(refusal),
+    }
+}
+
+// Whether the merge was finished, or none was found, behind the answer of a fetch of a stripe, or of a put, or of a look at what can be passed over.
 fn finished_by_stripe(finished: bool, stripe: u32, done: Result<(), ChainRefusal>) -> bool
     ensures fetch { result ≡ finished_behind (fetches stripe) done finished }
     ensures put { result ≡ finished_behind (copies stripe) done finished }
+    ensures pass { (n : ℕ) → result ≡ finished_behind (passes stripe n) done finished }
 {
     finished || is_no_merge(done)
 }
@@ -181,6 +192,20 @@ fn mark_copied(copied: &mut Marks, stripe: u32, done: Result<(), ChainRefusal>)
 {
     if done.is_ok() && stripe < copied.stripes() {
         copied.mark(stripe);
+    }
+}
+
+// Keeps the stripes in mind that were passed over, those of them that are kept.
+fn mark_passed(copied: &mut Marks, stripe: u32, passed: Result<u32, ChainRefusal>)
+    ensures stripes { copied.new.stripes ≡ copied.old.stripes }
+    ensures marks { (t : ℕ) → marks_of copied.new t ≡ copied_behind (passes stripe (passed_by passed)) (unstamped passed) copied.old t }
+{
+    let Ok(count) = passed else {
+        return;
+    };
+    let stripes = copied.stripes();
+    if stripe < stripes {
+        copied.mark_range(stripe, count.min(stripes - stripe));
     }
 }
 
@@ -363,6 +388,25 @@ impl<S: Store> SharedChain<S> {
         self.broke = broke_by_merge(self.broke, answer);
         self.fault = fault_behind(self.fault, answer);
         done
+    }
+
+    /// Passes over the stripes of the merge from this one on of which the source has nothing, as far as one look at its entries tells: nothing is
+    /// written, and they count as copied. Answers how many. It is refused as a fetch of the stripe is.
+    pub fn skip_stripes(&mut self, stripe: u32) -> Result<u32, ChainRefusal>
+        ensures stepped { IsStepped S.disk (passes stripe (passed_by result)) self.old self.new (unstamped result) }
+        ensures stopped { IfErr result (StopsFetch S.disk stripe self.old self.new) }
+        ensures passed { IfOk result (λ n. PassesOver S.disk stripe n self.old.chain self.new.chain) }
+        ensures few { IfOk result (λ n. stripe + n ≤ 2 ^ 26) }
+    {
+        let passed = self.chain.skip(stripe);
+        let done = unnumbered(passed);
+        mark_passed(&mut self.copied, stripe, passed);
+        self.finished = finished_by_stripe(self.finished, stripe, done);
+        let answer = as_answer(done);
+        self.full = full_behind(self.full, answer);
+        self.broke = broke_by_merge(self.broke, answer);
+        self.fault = fault_behind(self.fault, answer);
+        passed
     }
 
     /// Finishes the merge, whose stripes are all copied.

@@ -1,4 +1,4 @@
-use Rattle.std.proofs.Common.{◌≡◌, ◌∙◌, ap, refl, subst, sym, true}
+use Rattle.std.proofs.Common.{◌≡◌, ◌∙◌, ap, arith, refl, subst, sym, true}
 use Rattle.std.specs.Prelude.{IfNone}
 use Rattle.std.specs.Option.{IsSome}
 use Rattle.seats.specs.Counting.{HasNoRepeats}
@@ -14,6 +14,7 @@ loop-init g c = record {
   free = c.requires.own;
   source = c.requires.source;
   failed = c.requires.failed;
+  passed = record { each = λ t from to. absurd (omega (arith, from, to)) };
   swept = none_swept c.args.claims.now.limit c.args.self.now c.requires.own.1;
   counter = c.requires.counter;
   family = refl;
@@ -31,6 +32,7 @@ loop-preserved g c =
       swept = swept_on c.args.claims.now.limit c.in-Some-claim.stripe c.args.self.now c.loop.self c.copy.new.self i.swept c.in-Some-claim.ensures.some.0 (ap (λ s. s.numbers) (d.claim ∙ claimed)) d.worked d.left d.counted;
       source = d.source;
       failed = d.failed;
+      passed = d.passed;
       counter = ap (λ s. s.counter) (d.claim ∙ claimed) ∙ i.counter;
       family = ap (λ s. s.family) (d.claim ∙ claimed) ∙ i.family;
     }
