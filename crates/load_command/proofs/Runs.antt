@@ -16,7 +16,7 @@ use Rattle.load_calls.specs.Load.{IsHistoryOf, load_lines, prepared_disk}
 use Rattle.load_calls.specs.Printed.{seen_sum}
 use Rattle.load_served.specs.Complete.{AreAnswered, AreGuests}
 use Rattle.load_served.proofs.Complete.{answers_are_histories, answers_are_seen, loads_have_guests}
-use Rattle.serve_session.specs.Served.{AreServed, guest_count}
+use Rattle.serve_session.specs.Served.{AreServed, asked_by, guest_count}
 use Rattle.serve_session.specs.declared.tally.Tally.{Tally}
 use Rattle.command_base.specs.Folders.{LeadsTo, files_of}
 use Rattle.printing.specs.declared.status.Status.TheVariants.{Done}
@@ -123,7 +123,7 @@ module _ (seed : ℕ) (before now : Outside) (tally : Tally) (h : HasServed (loa
         let t = tally_is leaf merge (unheard before) (unheard now) s (Some tally) heard h.taken in
         ap (λ (x : Tally). x.seen) (same_Some tally t.0 t.1) ∙ t.2
         ∙ answers_are_seen true (drive_over false s.begun.disk) seed s.service.guests s.service.history s.service.ended s.service.broken
-        (subst (λ ls. AreServed true (drive_over false s.begun.disk) ls s.service.guests s.service.history s.service.ended s.service.broken) is kept.told_so) four (subst (λ ls. AreAnswered ls s.service.guests) is were_answered)
+        (subst (λ ls. AreServed true (drive_over false s.begun.disk) (asked_by ls) s.service.guests s.service.history s.service.ended s.service.broken) is kept.told_so) four (subst (λ ls. AreAnswered ls s.service.guests) is were_answered)
         ∙ ap (λ d. seen_sum d s.service.history) same_disk
 
 -- the guests of a load leave that of it

@@ -5,7 +5,7 @@ use Rattle.store_model.specs.Folder.{Held}
 use Rattle.store_model.specs.declared.fault.StoreFault.{StoreFault}
 use Rattle.script.specs.declared.form.ScriptKind.TheVariants as kinds
 use Rattle.script_session.specs.Told.{later_of}
-use Rattle.serve_session.specs.Served.{all_unread, guest_count}
+use Rattle.serve_session.specs.Served.{all_unread, asked_by, guest_count}
 use Rattle.serve_session.specs.Tallies.{AddsUp, all_outcomes, first_refused, seen_of}
 use Rattle.serve_session.specs.declared.tally.Tally.{Tally}
 use Rattle.load_served.specs.Complete.{AreAnswered}
@@ -54,8 +54,8 @@ module _ (leaf : List ℕ) (merge : Option (List ℕ)) (before now : World) (s :
   pub served_out : HasServedOut merge s.service Done
   served_out = record { sound = (none_later s.service.refused s.service.ended (s.quiet no_fault).1, λ e. absurd (let never : false ≡ true = sym e ∙ has_begun in cc)); begun = λ e. let never : Done ≡ NoMemory = e in cc }
 
-  pub keeps : (f : List Held) → before.host.folder ≡ Some f → KeepsServed leaf s.begun.linked s.begun.disk merge s.begun.lines s.service Done s.opened now.host
-  keeps f told = subst (λ m. KeepsServed leaf s.begun.linked s.begun.disk merge s.begun.lines s.service m s.opened now.host) meant_is (s.kept f told)
+  pub keeps : (f : List Held) → before.host.folder ≡ Some f → KeepsServed leaf s.begun.linked s.begun.disk merge (asked_by s.begun.lines) s.service Done s.opened now.host
+  keeps f told = subst (λ m. KeepsServed leaf s.begun.linked s.begun.disk merge (asked_by s.begun.lines) s.service m s.opened now.host) meant_is (s.kept f told)
 
   -- what the calls came to that were all taken
   taken_adds : (heard : Option Tally) → HasTally s.service heard → IfSome heard (λ tally. tally.refused ≡ None) → (tally : Tally) × (heard ≡ Some tally) × AddsUp tally (all_outcomes s.service.guests) × (first_refused (all_outcomes s.service.guests) ≡ None)

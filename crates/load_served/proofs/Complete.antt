@@ -4,7 +4,7 @@ use Rattle.std.specs.Prelude.{max, min}
 use Rattle.std.specs.List.{AllByRecursion, filter, sum_by}
 use Rattle.std.specs.Option.{option_or}
 use Rattle.std.proofs.lemmas.Bool.{cases_Bool, cases_eq, cases_lt, cond-false, cond-true, eq-eqb, ne_eqb}
-use Rattle.std.proofs.lemmas.List.{take-append-drop}
+use Rattle.std.proofs.lemmas.List.{length-map, take-append-drop}
 use Rattle.std.proofs.lemmas.List.Sums.{sum_by-append, sum_by-cons}
 use Rattle.std.proofs.lemmas.List.Sorted.{sum_by-IsPermutation}
 use Rattle.store_model.specs.declared.fault.StoreFault.{StoreFault}
@@ -28,7 +28,7 @@ use Rattle.load_calls.proofs.Placed.{places_decide, places_tell}
 use Rattle.load_calls.proofs.Prepared.{loads_have_lines, preparing_forms}
 use Rattle.load_calls.proofs.Seen.{guests_see}
 use Rattle.load_served.specs.Complete.{AnswersAreHistories, AnswersAreSeen, AnswersPrintAlike, AreAnswered, AreGuests, LoadsHaveGuests}
-use Rattle.serve_session.specs.Served.{AreOutcomes, AreServed, EachGuest, Has, HasDone, IsRising, Outcome, SomeGuest, all_unread, call_of, entry_of, forms_of, greatest_from, places_in, unread_in}
+use Rattle.serve_session.specs.Served.{AreOutcomes, AreServed, EachGuest, Has, HasDone, IsRising, Outcome, SomeGuest, all_unread, asked_by, call_of, entry_of, forms_of, greatest_from, places_in, unread_in}
 use Rattle.serve_session.specs.Tallies.{all_outcomes, first_refused, seen_of}
 
 -- ---- the words of lines, here and there
@@ -154,7 +154,7 @@ module _ (drive : Drive) (h : History) (ended : Option StoreFault) (guest : ℕ)
   own_tolds number (form ∷ forms) (Err refusal ∷ outcomes) = own_tolds (number + 1) forms outcomes
 
   -- where they stand
-  told_at : (number : ℕ) (forms : List Form) (outcomes : List Outcome) → length outcomes ≡ length forms → Answered guest outcomes → AreOutcomes drive h ended guest number forms outcomes
+  told_at : (number : ℕ) (forms : List Form) (outcomes : List Outcome) → length outcomes ≡ length forms → Answered guest outcomes → AreOutcomes drive h ended guest number (map call_of forms) outcomes
       → EachAt (IsToldAt 512 drive.opening h) (places_in outcomes) (tolds number forms outcomes)
   unfolding tolds
   told_at number [] [] same answered told = tt
@@ -168,7 +168,7 @@ module _ (drive : Drive) (h : History) (ended : Option StoreFault) (guest : ℕ)
   told_at number (form ∷ forms) (Ok (place, Err fault) ∷ outcomes) same answered told = absurd (omega (arith, answered.1))
   told_at number (form ∷ forms) (Err refusal ∷ outcomes) same answered told = let never : Some refusal ≡ None = answered.0 in cc
 
-  stand_at : (number : ℕ) (forms : List Form) (outcomes : List Outcome) → length outcomes ≡ length forms → Answered guest outcomes → AreOutcomes drive h ended guest number forms outcomes
+  stand_at : (number : ℕ) (forms : List Form) (outcomes : List Outcome) → length outcomes ≡ length forms → Answered guest outcomes → AreOutcomes drive h ended guest number (map call_of forms) outcomes
       → EachAt (StandsAt h) (places_in outcomes) (entries_from guest number forms)
   stand_at number [] [] same answered told = tt
   stand_at number [] (o ∷ outcomes) same answered told = absurd (omega (arith, same))
@@ -206,7 +206,7 @@ no_forms count g (l ∷ lines) own off =
     ap (map (λ (l : Line). l.form)) (cond-false (nat_eq l.guest g && is_call l.form) (l ∷ filter (λ l. nat_eq l.guest g && is_call l.form) lines) (filter (λ l. nat_eq l.guest g && is_call l.form) lines) not)
     ∙ no_forms count g lines own.1 off
 
-module _ (merges : Bool) (drive : Drive) (lines : List Line) (guests : List (List Outcome)) (h : History) (ended : Option StoreFault) (broken : Option Break) (s : AreServed merges drive lines guests h ended broken)
+module _ (merges : Bool) (drive : Drive) (lines : List Line) (guests : List (List Outcome)) (h : History) (ended : Option StoreFault) (broken : Option Break) (s : AreServed merges drive (asked_by lines) guests h ended broken)
     (own : AreGuests (length guests) lines) (a : AreAnswered lines guests) where
   outcomes_of : ℕ → List Outcome
   outcomes_of g = told_by g 1 guests
@@ -229,13 +229,16 @@ module _ (merges : Bool) (drive : Drive) (lines : List Line) (guests : List (Lis
         (some.0, has_so p (places_in (told_by some.0 1 guests)) some.2);
   }
 
+  all_made : (g : ℕ) → 1 ≤ g → g < 1 + length guests → length (told_by g 1 guests) ≡ length (forms_of g lines)
+  all_made g low high = each_told (λ g os. length os ≡ length (map call_of (forms_of g lines))) 1 g guests a.whole low high ∙ length-map (forms_of g lines) call_of
+
   stand : (g : ℕ) → EachAt (StandsAt h) (places g) (entries_from g 1 (loads.forms_of g lines))
   unfolding places outcomes_of
   stand g = elim (in_or_off 1 (length guests) g) [
     | inl is ↦
         subst (λ fs. EachAt (StandsAt h) (places_in (told_by g 1 guests)) (entries_from g 1 fs)) (same_forms g lines)
-        (stand_at drive h ended g 1 (forms_of g lines) (told_by g 1 guests) (each_told (λ g os. length os ≡ length (forms_of g lines)) 1 g guests a.whole is.0 is.1) (each_told Answered 1 g guests answered is.0 is.1)
-        (each_told (λ g os. AreOutcomes drive h ended g 1 (forms_of g lines) os) 1 g guests s.told is.0 is.1))
+        (stand_at drive h ended g 1 (forms_of g lines) (told_by g 1 guests) (all_made g is.0 is.1) (each_told Answered 1 g guests answered is.0 is.1)
+        (each_told (λ g os. AreOutcomes drive h ended g 1 (map call_of (forms_of g lines)) os) 1 g guests s.told is.0 is.1))
     | inr off ↦
         subst (λ os. EachAt (StandsAt h) (places_in os) (entries_from g 1 (loads.forms_of g lines))) (sym (none_told 1 g guests off))
         (subst (λ fs. EachAt (StandsAt h) [] (entries_from g 1 fs)) (sym (no_forms (length guests) g lines own off)) tt)
@@ -256,8 +259,8 @@ module _ (merges : Bool) (drive : Drive) (lines : List Line) (guests : List (Lis
   unfolding places outcomes_of told
   are_told g = elim (in_or_off 1 (length guests) g) [
     | inl is ↦
-        told_at drive h ended g 1 (forms_of g lines) (told_by g 1 guests) (each_told (λ g os. length os ≡ length (forms_of g lines)) 1 g guests a.whole is.0 is.1) (each_told Answered 1 g guests answered is.0 is.1)
-        (each_told (λ g os. AreOutcomes drive h ended g 1 (forms_of g lines) os) 1 g guests s.told is.0 is.1)
+        told_at drive h ended g 1 (forms_of g lines) (told_by g 1 guests) (all_made g is.0 is.1) (each_told Answered 1 g guests answered is.0 is.1)
+        (each_told (λ g os. AreOutcomes drive h ended g 1 (map call_of (forms_of g lines)) os) 1 g guests s.told is.0 is.1)
     | inr off ↦
         subst (λ os. EachAt (IsToldAt 512 drive.opening h) (places_in os) (tolds drive h ended g 1 (forms_of g lines) os)) (sym (none_told 1 g guests off))
         (subst (λ ts. EachAt (IsToldAt 512 drive.opening h) [] ts) (sym (none_tolds g (forms_of g lines))) tt)
@@ -267,7 +270,7 @@ module _ (merges : Bool) (drive : Drive) (lines : List Line) (guests : List (Lis
   unfolding outcomes_of told
   each_saw g low high =
       ap (sum_by (λ (t : Told). seen_in t.told)) (places_tell 512 drive.opening h places told shared (λ g. own_tolds drive h ended g 1 (forms_of g lines) (told_by g 1 guests)) are_told g)
-      ∙ saw drive h ended g 1 (forms_of g lines) (told_by g 1 guests) (each_told (λ g os. length os ≡ length (forms_of g lines)) 1 g guests a.whole low high) (each_told Answered 1 g guests answered low high)
+      ∙ saw drive h ended g 1 (forms_of g lines) (told_by g 1 guests) (all_made g low high) (each_told Answered 1 g guests answered low high)
 
 pub answers_are_histories : AnswersAreHistories
 answers_are_histories merges drive lines guests h ended broken s own a = is_history merges drive lines guests h ended broken s own a

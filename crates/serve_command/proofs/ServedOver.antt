@@ -31,15 +31,15 @@ use Rattle.script_session.specs.Histories.{Break, IsSoLong}
 use Rattle.script_session.specs.MergeRunning.{Scope, names_without}
 use Rattle.script_session.specs.Running.{IsAtRest, drive_of}
 use Rattle.script_session.specs.Told.{failed_by}
-use Rattle.serve_session.specs.MergeServed.{HasRunServeLeafMerge, HasRunServeMerge, HasServedOver, StopsMerge}
+use Rattle.serve_session.specs.Endings.{Ending, StopsMerge, ending_of}
+use Rattle.serve_session.specs.MergeServed.{HasRunLeafMerge, HasRunMerge, HasServedOver}
 use Rattle.serve_session.specs.MergeServed as session
-use Rattle.serve_session.specs.Running.{HasRunServe, HasServedFiles, HaveServed}
-use Rattle.serve_session.specs.Tallies.{AddsUp, all_outcomes}
-use Rattle.serve_session.specs.Served.{AreServed, IsTranscript, Outcome, all_told, all_unread, guest_count}
+use Rattle.serve_session.specs.Running.{HasRunGuests, HasServedFiles, HaveServed}
+use Rattle.serve_session.specs.Served.{AreServed, Asking, Outcome, all_told, all_unread, asked_by}
 use Rattle.serve_session.specs.declared.merging.MergeRun.{MergeRun}
 use Rattle.command_base.specs.Commands.{Lends}
 use Rattle.steps_command.specs.Crashes.{HasLong, NoneNamesLog}
-use Rattle.serve_command.specs.Guests.{HasServedBy, HasServedMergeOf, ServedIn, ServedOver, stopped_by}
+use Rattle.serve_command.specs.Guests.{HasServedBy, HasServedMergeOf, ScriptServedOver, ServedIn, ServedOver, stopped_by}
 use Rattle.serve_command.specs.Serves.{IsMergeLeft, IsStopTold}
 use Rattle.steps_command.specs.Sessions.{HasNotRunWith, IsChainIn, IsLinkedChain, NotRunOver, Rests, leaf_name}
 use Rattle.steps_command.specs.Starts.{JudgesMergeOf, changed_names, is_leaf}
@@ -57,17 +57,17 @@ use Rattle.steps_command.proofs.Sparing.{attached_since}
 use Rattle.steps_command.proofs.Unlogged.{IsUnlogged, unlogged_one, unlogged_two}
 
 -- what serving guests changes
-changed_served : (leaf : LinkedFile) (others : List LinkedFile) (lines : List Line) (guests : List (List Outcome)) (h : History) (broken : Option Break) (closed : Result (Unit {0}) StoreFault) (a b : Option Trace)
-    → WhereBothTold (HaveServed (leaf ∷ others) lines guests h broken closed) a b → WhereBothTold (Changed (written_in Guests)) a b
-changed_served leaf others lines guests h broken closed a b k =
-    both_from (HaveServed (leaf ∷ others) lines guests h broken closed) (Changed (written_in Guests)) a b
+changed_served : (leaf : LinkedFile) (others : List LinkedFile) (asking : Asking) (guests : List (List Outcome)) (h : History) (broken : Option Break) (closed : Result (Unit {0}) StoreFault) (a b : Option Trace)
+    → WhereBothTold (HaveServed (leaf ∷ others) asking guests h broken closed) a b → WhereBothTold (Changed (written_in Guests)) a b
+changed_served leaf others asking guests h broken closed a b k =
+    both_from (HaveServed (leaf ∷ others) asking guests h broken closed) (Changed (written_in Guests)) a b
     (λ trace now k. record { attached = attached_since trace now k.moments.since; still = λ other apart. k.still other (not_first other apart) }) k
 
 -- and what serving them beside a merge does
-changed_beside : (scope : Scope) (lines : List Line) (guests : List (List Outcome)) (h : History) (broken : Option Break) (merged : Result (Unit {0}) ChainRefusal) (closed : Result (Unit {0}) StoreFault) (a b : Option Trace)
-    → WhereBothTold (HasServedOver scope lines guests h broken merged closed) a b → WhereBothTold (Changed scope.changes) a b
-changed_beside scope lines guests h broken merged closed a b k =
-    both_from (HasServedOver scope lines guests h broken merged closed) (Changed scope.changes) a b (λ trace now k. record { attached = attached_since trace now k.moments.since; still = k.still }) k
+changed_beside : (scope : Scope) (asking : Asking) (guests : List (List Outcome)) (h : History) (broken : Option Break) (merged : Result (Unit {0}) ChainRefusal) (closed : Result (Unit {0}) StoreFault) (a b : Option Trace)
+    → WhereBothTold (HasServedOver scope asking guests h broken merged closed) a b → WhereBothTold (Changed scope.changes) a b
+changed_beside scope asking guests h broken merged closed a b k =
+    both_from (HasServedOver scope asking guests h broken merged closed) (Changed scope.changes) a b (λ trace now k. record { attached = attached_since trace now k.moments.since; still = k.still }) k
 
 -- ---- without a merge
 
@@ -85,13 +85,13 @@ none_left (Err fault) = tt
 
 module _ (retired : List (List ℕ)) (leaf : LinkedFile) (others : List LinkedFile) (old mid now : Hosted) (lent disk : StoreDisk) (idle : WhereTold old.folder AllIdle) (served : All IsServed (leaf ∷ others))
     (once : NoneTwice (retired ++ names_of (leaf ∷ others))) (chain : WhereTold old.folder (IsChainIn (record { retired = retired; files = leaf ∷ others }))) (lends : Lends (names_of (leaf ∷ others)) old mid lent)
-    (back_is : WhereTold disk.told (λ trace. now.folder ≡ option_map (given_back trace) mid.folder)) (past_is : KeepsStore disk mid now) (count : RoseWhere (HasFailed disk) mid.faults now.faults) (before after : Option (List (List ℕ))) (lines : List Line) (run : MergeRun) where
+    (back_is : WhereTold disk.told (λ trace. now.folder ≡ option_map (given_back trace) mid.folder)) (past_is : KeepsStore disk mid now) (count : RoseWhere (HasFailed disk) mid.faults now.faults) (before after : Option (List (List ℕ))) (asking : Asking) (guests : List (List Outcome)) (history : History) (ending : Ending) (merged : Result (Unit {0}) ChainRefusal) where
   abbrev L : Linked
   L = record { retired = retired; files = leaf ∷ others }
 
-  module _ (h : HasRunServe (leaf ∷ others) (names_of (leaf ∷ others)) lines (record { run = run.run; unread = run.unread; tally = run.tally }) lent disk before after) (none : IfErr run.merged (λ e. ⊥)) where
+  module _ (h : HasRunGuests (leaf ∷ others) asking guests history ending lent disk before after) (none : IfErr merged (λ e. ⊥)) where
     changed : WhereBothTold (Changed (written_in Guests)) lent.told disk.told
-    changed = changed_served leaf others lines h.guests h.history h.broken run.run.closed lent.told disk.told h.served
+    changed = changed_served leaf others asking guests history h.broken ending.closed lent.told disk.told h.served
 
     module _ (f : List Held) (told : old.folder ≡ Some f) where
       abbrev start : Trace
@@ -100,64 +100,60 @@ module _ (retired : List (List ℕ)) (leaf : LinkedFile) (others : List LinkedFi
       abbrev end : (t : Trace) × (disk.told ≡ Some t) × Changed (written_in Guests) start t
       end = now_told retired leaf others old mid lent idle once chain lends disk Guests None (written_in Guests) (first_may Guests leaf others) changed f told
 
-      files : HasServedFiles leaf others lines h.guests h.history h.broken run.run.closed start end.0
+      files : HasServedFiles leaf others asking guests history h.broken ending.closed start end.0
       files =
-          let b = both_told (HaveServed (leaf ∷ others) lines h.guests h.history h.broken run.run.closed) lent.told disk.told start (lent_told Guests retired leaf others old mid now lent disk idle served once chain lends back_is past_is count before after None (written_in Guests) (first_may Guests leaf others) f told) h.served in
-          subst (HasServedFiles leaf others lines h.guests h.history h.broken run.run.closed start) (same_Some b.0 end.0 (sym b.1 ∙ end.1)) b.2
+          let b = both_told (HaveServed (leaf ∷ others) asking guests history h.broken ending.closed) lent.told disk.told start (lent_told Guests retired leaf others old mid now lent disk idle served once chain lends back_is past_is count before after None (written_in Guests) (first_may Guests leaf others) f told) h.served in
+          subst (HasServedFiles leaf others asking guests history h.broken ending.closed start) (same_Some b.0 end.0 (sym b.1 ∙ end.1)) b.2
 
-      rests_by : (closed : Result (Unit {0}) StoreFault) → OnOk closed (IsAtRest (way_to leaf (leaf ∷ others) None) (drive_of Guests leaf others start) h.history end.0) → OnOk closed (Rests L h.history f old now)
+      rests_by : (closed : Result (Unit {0}) StoreFault) → OnOk closed (IsAtRest (way_to leaf (leaf ∷ others) None) (drive_of Guests leaf others start) history end.0) → OnOk closed (Rests L history f old now)
       rests_by (Ok done) a =
-          rests retired leaf others old mid lent idle once chain lends disk Guests None (written_in Guests) (first_may Guests leaf others) changed now back_is past_is count f told h.history (λ n e. subst (λ x. is_synced (file_of end.0 x) ≡ true) (sym (first_only Guests n e)) a.synced) a.opens
+          rests retired leaf others old mid lent idle once chain lends disk Guests None (written_in Guests) (first_may Guests leaf others) changed now back_is past_is count f told history (λ n e. subst (λ x. is_synced (file_of end.0 x) ≡ true) (sym (first_only Guests n e)) a.synced) a.opens
       rests_by (Err fault) a = tt
 
-      no_log_by : (closed : Result (Unit {0}) StoreFault) → OnOk closed (IsAtRest (way_to leaf (leaf ∷ others) None) (drive_of Guests leaf others start) h.history end.0) → OnOk closed (WhereTold now.folder (NoneNamesLog (changed_names false None (leaf ∷ others))))
+      no_log_by : (closed : Result (Unit {0}) StoreFault) → OnOk closed (IsAtRest (way_to leaf (leaf ∷ others) None) (drive_of Guests leaf others start) history end.0) → OnOk closed (WhereTold now.folder (NoneNamesLog (changed_names false None (leaf ∷ others))))
       no_log_by (Ok done) a = unlogged retired leaf others old mid lent idle once chain lends disk Guests None (written_in Guests) (first_may Guests leaf others) changed now back_is past_is count f told (leaf.name ∷ []) (unlogged_one leaf others end.0 (a.no_log refl))
       no_log_by (Err fault) a = tt
 
-      served_in : ServedIn None L lines h.guests h.history h.broken run.merged run.run.closed f old now
+      served_in : ServedIn None L asking guests history h.broken merged ending.closed f old now
       served_in = record {
-        told_so = λ d opens. subst (λ drive. AreServed false drive lines h.guests h.history (failed_by run.run.closed) h.broken) (drive_is Guests retired leaf others old mid now lent disk idle served once chain lends back_is past_is count before after None (written_in Guests) (first_may Guests leaf others) f told d opens) files.served;
-        stands = stands retired leaf others old mid lent idle once chain lends disk Guests None (written_in Guests) (first_may Guests leaf others) changed now back_is past_is count f told h.history h.broken files.moments (λ reading. let never : false ≡ true = reading in cc) files.last;
+        told_so = λ d opens. subst (λ drive. AreServed false drive asking guests history (failed_by ending.closed) h.broken) (drive_is Guests retired leaf others old mid now lent disk idle served once chain lends back_is past_is count before after None (written_in Guests) (first_may Guests leaf others) f told d opens) files.served;
+        stands = stands retired leaf others old mid lent idle once chain lends disk Guests None (written_in Guests) (first_may Guests leaf others) changed now back_is past_is count f told history h.broken files.moments (λ reading. let never : false ≡ true = reading in cc) files.last;
         faults = last_returned retired leaf others old mid lent idle once chain lends disk Guests None (written_in Guests) (first_may Guests leaf others) changed now back_is past_is count f told
-            (λ store. FaultsAreTold (all_told h.guests) (failed_by run.run.closed) (length (leaf ∷ others)) (λ file. 0) store.failed_reads store.failed_changes) (λ trace rest. lent_faults Guests retired leaf others old mid now lent disk idle served once chain lends back_is past_is count before after None (written_in Guests) (first_may Guests leaf others) (all_told h.guests) (failed_by run.run.closed) h.faults);
-        unread = subst (λ n. AllByRecursion (λ fault. fault.file < n) (all_unread h.guests)) (scoped.files_lent retired leaf others old mid lent chain lends) h.unread;
-        full = full_ends retired leaf others old mid lent idle once chain lends disk Guests None (written_in Guests) (first_may Guests leaf others) changed now back_is past_is count f told (λ n. n == 0) (changed_names false None (leaf ∷ others)) (first_may Guests leaf others) (all_told h.guests) files.full;
-        stopped = none_stopped run.merged _ none;
-        rests = rests_by run.run.closed files.at_rest;
-        no_log = no_log_by run.run.closed files.at_rest;
-        left = none_left run.run.closed;
+            (λ store. FaultsAreTold (all_told guests) (failed_by ending.closed) (length (leaf ∷ others)) (λ file. 0) store.failed_reads store.failed_changes) (λ trace rest. lent_faults Guests retired leaf others old mid now lent disk idle served once chain lends back_is past_is count before after None (written_in Guests) (first_may Guests leaf others) (all_told guests) (failed_by ending.closed) h.faults);
+        unread = subst (λ n. AllByRecursion (λ fault. fault.file < n) (all_unread guests)) (scoped.files_lent retired leaf others old mid lent chain lends) h.unread;
+        full = full_ends retired leaf others old mid lent idle once chain lends disk Guests None (written_in Guests) (first_may Guests leaf others) changed now back_is past_is count f told (λ n. n == 0) (changed_names false None (leaf ∷ others)) (first_may Guests leaf others) (all_told guests) files.full;
+        stopped = none_stopped merged _ none;
+        rests = rests_by ending.closed files.at_rest;
+        no_log = no_log_by ending.closed files.at_rest;
+        left = none_left ending.closed;
       }
 
-    alone_over : ServedOver None L lines run old now before after
+    alone_over : ServedOver None L asking guests history ending merged old now before after
     alone_over = record {
-      guests = h.guests;
-      history = h.history;
       broken = h.broken;
       count = h.count;
-      transcript = h.transcript;
       drawn = drawn_over Guests retired leaf others old mid now lent disk idle served once chain lends back_is past_is count before after None (written_in Guests) (first_may Guests leaf others) Guests h.drawn;
-      counted = if_some Guests retired leaf others old mid now lent disk idle served once chain lends back_is past_is count before after None (written_in Guests) (first_may Guests leaf others) changed run.run.fault h.counted;
-      ended = if_err Guests retired leaf others old mid now lent disk idle served once chain lends back_is past_is count before after None (written_in Guests) (first_may Guests leaf others) changed run.run.closed h.ended;
-      quiet = λ none. on_ok Guests retired leaf others old mid now lent disk idle served once chain lends back_is past_is count before after None (written_in Guests) (first_may Guests leaf others) changed run.run.closed (h.quiet none);
+      counted = if_some Guests retired leaf others old mid now lent disk idle served once chain lends back_is past_is count before after None (written_in Guests) (first_may Guests leaf others) changed ending.fault h.counted;
+      ended = if_err Guests retired leaf others old mid now lent disk idle served once chain lends back_is past_is count before after None (written_in Guests) (first_may Guests leaf others) changed ending.closed h.ended;
+      quiet = λ none. on_ok Guests retired leaf others old mid now lent disk idle served once chain lends back_is past_is count before after None (written_in Guests) (first_may Guests leaf others) changed ending.closed (h.quiet none);
       unfetched = 0;
       none_fetched = λ none. refl;
       unread_is = (let all = h.unread_is in omega (arith, all));
-      tally_is = h.tally_is;
-      stopped = none_unfinished run.merged _ none;
+      stopped = none_unfinished merged _ none;
       served = served_in;
     }
 
   -- ---- beside a merge, by its scope
 
   module _ (name : List ℕ) (changes : ℕ → Bool) (staying : List (List ℕ)) (may : (n : ℕ) → changes n ≡ true → is_among (slice_index_or (names_of (leaf ∷ others)) n []) (changed_names false (Some name) (leaf ∷ others)) ≡ true) (are_left : AreLeft (leaf ∷ others) name staying)
-      (guests : List (List Outcome)) (h : History) (broken : Option Break) (past : WhereBothTold (HasServedOver (scope_over leaf others name changes staying) lines guests h broken run.merged run.run.closed) lent.told disk.told)
-      (told_faults : FaultsAreTold (all_told guests) (failed_by run.run.closed) lent.files lent.failed_changes disk.failed_reads disk.failed_changes) (unread : AllByRecursion (λ fault. fault.file < lent.files) (all_unread guests))
+      (broken : Option Break) (past : WhereBothTold (HasServedOver (scope_over leaf others name changes staying) asking guests history broken merged ending.closed) lent.told disk.told)
+      (told_faults : FaultsAreTold (all_told guests) (failed_by ending.closed) lent.files lent.failed_changes disk.failed_reads disk.failed_changes) (unread : AllByRecursion (λ fault. fault.file < lent.files) (all_unread guests))
       (ended_all : (t : Trace) → ((n : ℕ) → changes n ≡ true → NamesNoLog (seen (file_of t n))) → AllByRecursion (IsUnlogged (leaf ∷ others) t) (changed_names false (Some name) (leaf ∷ others))) where
     abbrev scope : Scope
     scope = scope_over leaf others name changes staying
 
     abbrev became : WhereBothTold (Changed changes) lent.told disk.told
-    became = changed_beside scope lines guests h broken run.merged run.run.closed lent.told disk.told past
+    became = changed_beside scope asking guests history broken merged ending.closed lent.told disk.told past
 
     module _ (f : List Held) (told : old.folder ≡ Some f) where
       abbrev traced : Trace
@@ -166,23 +162,23 @@ module _ (retired : List (List ℕ)) (leaf : LinkedFile) (others : List LinkedFi
       abbrev later_is : (t : Trace) × (disk.told ≡ Some t) × Changed changes traced t
       later_is = now_told retired leaf others old mid lent idle once chain lends disk Guests (Some name) changes may became f told
 
-      over : HasServedOver scope lines guests h broken run.merged run.run.closed traced later_is.0
+      over : HasServedOver scope asking guests history broken merged ending.closed traced later_is.0
       over =
-          let b = both_told (HasServedOver scope lines guests h broken run.merged run.run.closed) lent.told disk.told traced (scoped.lent_told retired leaf others old mid lent chain lends f told) past in
-          subst (HasServedOver scope lines guests h broken run.merged run.run.closed traced) (same_Some b.0 later_is.0 (sym b.1 ∙ later_is.1)) b.2
+          let b = both_told (HasServedOver scope asking guests history broken merged ending.closed) lent.told disk.told traced (scoped.lent_told retired leaf others old mid lent chain lends f told) past in
+          subst (HasServedOver scope asking guests history broken merged ending.closed traced) (same_Some b.0 later_is.0 (sym b.1 ∙ later_is.1)) b.2
 
       abbrev Resting : Type 0
-      Resting = EndsAtRest retired leaf others old mid now lent disk idle served once chain lends back_is past_is count before after name changes staying may became f told h
+      Resting = EndsAtRest retired leaf others old mid now lent disk idle served once chain lends back_is past_is count before after name changes staying may became f told history
 
       abbrev HasEnd : ℕ → Type 0
       HasEnd next = WhereTold now.folder (HasLong (changed_names false (Some name) (leaf ∷ others)) next)
 
-      scope_rests_by : (closed : Result (Unit {0}) StoreFault) → OnOk closed Resting → OnOk closed (Rests L h f old now)
-      scope_rests_by (Ok done) a = scope_rests retired leaf others old mid now lent disk idle served once chain lends back_is past_is count before after name changes staying may became f told h a
+      scope_rests_by : (closed : Result (Unit {0}) StoreFault) → OnOk closed Resting → OnOk closed (Rests L history f old now)
+      scope_rests_by (Ok done) a = scope_rests retired leaf others old mid now lent disk idle served once chain lends back_is past_is count before after name changes staying may became f told history a
       scope_rests_by (Err fault) a = tt
 
       scope_logs_by : (closed : Result (Unit {0}) StoreFault) → OnOk closed Resting → OnOk closed (WhereTold now.folder (NoneNamesLog (changed_names false (Some name) (leaf ∷ others))))
-      scope_logs_by (Ok done) a = scope_unlogged retired leaf others old mid now lent disk idle served once chain lends back_is past_is count before after name changes staying may became f told h a ended_all
+      scope_logs_by (Ok done) a = scope_unlogged retired leaf others old mid now lent disk idle served once chain lends back_is past_is count before after name changes staying may became f told history a ended_all
       scope_logs_by (Err fault) a = tt
 
       -- a full file is so long
@@ -211,85 +207,109 @@ module _ (retired : List (List ℕ)) (leaf : LinkedFile) (others : List LinkedFi
       left_by : (merged : Result (Unit {0}) ChainRefusal) (closed : Result (Unit {0}) StoreFault) → OnOk closed Resting → OnOk merged (OnOk closed (EachLinks leaf.name staying later_is.0))
           → IfErr merged (λ x. OnOk closed (EachLinks leaf.name (names_of (leaf ∷ others)) later_is.0)) → OnOk closed (IsMergeLeft (stopped_by merged) (leaf_name L) L now name)
       left_by merged (Err fault) a links stays = tt
-      left_by (Ok done) (Ok well) a links stays = scope_dropped retired leaf others old mid now lent disk idle served once chain lends back_is past_is count before after name changes staying may became f told h a are_left links
-      left_by (Err e) (Ok well) a links stays = scope_stays retired leaf others old mid now lent disk idle served once chain lends back_is past_is count before after name changes staying may became f told h a stays
+      left_by (Ok done) (Ok well) a links stays = scope_dropped retired leaf others old mid now lent disk idle served once chain lends back_is past_is count before after name changes staying may became f told history a are_left links
+      left_by (Err e) (Ok well) a links stays = scope_stays retired leaf others old mid now lent disk idle served once chain lends back_is past_is count before after name changes staying may became f told history a stays
 
-      beside_in : ServedIn (Some name) L lines guests h broken run.merged run.run.closed f old now
+      beside_in : ServedIn (Some name) L asking guests history broken merged ending.closed f old now
       beside_in = record {
-        told_so = λ d opens. subst (λ drive. AreServed true drive lines guests h (failed_by run.run.closed) broken) (drive_is Guests retired leaf others old mid now lent disk idle served once chain lends back_is past_is count before after (Some name) changes may f told d opens) over.served;
-        stands = stands retired leaf others old mid lent idle once chain lends disk Guests (Some name) changes may became now back_is past_is count f told h broken over.moments (λ reading. let never : false ≡ true = reading in cc) over.last;
+        told_so = λ d opens. subst (λ drive. AreServed true drive asking guests history (failed_by ending.closed) broken) (drive_is Guests retired leaf others old mid now lent disk idle served once chain lends back_is past_is count before after (Some name) changes may f told d opens) over.served;
+        stands = stands retired leaf others old mid lent idle once chain lends disk Guests (Some name) changes may became now back_is past_is count f told history broken over.moments (λ reading. let never : false ≡ true = reading in cc) over.last;
         faults = last_returned retired leaf others old mid lent idle once chain lends disk Guests (Some name) changes may became now back_is past_is count f told
-            (λ store. FaultsAreTold (all_told guests) (failed_by run.run.closed) (length (leaf ∷ others)) (λ file. 0) store.failed_reads store.failed_changes) (λ trace rest. lent_faults Guests retired leaf others old mid now lent disk idle served once chain lends back_is past_is count before after (Some name) changes may (all_told guests) (failed_by run.run.closed) told_faults);
+            (λ store. FaultsAreTold (all_told guests) (failed_by ending.closed) (length (leaf ∷ others)) (λ file. 0) store.failed_reads store.failed_changes) (λ trace rest. lent_faults Guests retired leaf others old mid now lent disk idle served once chain lends back_is past_is count before after (Some name) changes may (all_told guests) (failed_by ending.closed) told_faults);
         unread = subst (λ n. AllByRecursion (λ fault. fault.file < n) (all_unread guests)) (scoped.files_lent retired leaf others old mid lent chain lends) unread;
         full = full_ends retired leaf others old mid lent idle once chain lends disk Guests (Some name) changes may became now back_is past_is count f told changes (changed_names false (Some name) (leaf ∷ others)) may (all_told guests) over.full;
-        stopped = stopped_as run.merged over.stopped;
-        rests = scope_rests_by run.run.closed over.at_rest;
-        no_log = scope_logs_by run.run.closed over.at_rest;
-        left = left_by run.merged run.run.closed over.at_rest over.linked over.stays;
+        stopped = stopped_as merged over.stopped;
+        rests = scope_rests_by ending.closed over.at_rest;
+        no_log = scope_logs_by ending.closed over.at_rest;
+        left = left_by merged ending.closed over.at_rest over.linked over.stays;
       }
 
-    beside_over : length guests ≡ guest_count lines → IfOk run.run.transcript (λ text. IsTranscript (names_of (leaf ∷ others)) lines guests h (string_bytes text)) → IfSome run.run.fault (Counts disk) → IfErr run.run.closed (Counts disk)
-        → (run.run.fault ≡ None → OnOk run.run.closed (disk ≡ record lent { told = disk.told })) → (unfetched : ℕ) → run.unread ≡ length (all_unread guests) + unfetched → AddsUp run.tally (all_outcomes guests) → IfErr run.merged (StopsMerge run.run) → JudgesMergeOf (is_leaf (leaf ∷ others) name) L name old.folder before after None
-        → ServedOver (Some name) L lines run old now before after
-    beside_over is_count transcript counted ended quiet unfetched unread_is tally_is stopped drawn = record {
-      guests = guests;
-      history = h;
+    beside_over : length guests ≡ asking.count → IfSome ending.fault (Counts disk) → IfErr ending.closed (Counts disk)
+        → (ending.fault ≡ None → OnOk ending.closed (disk ≡ record lent { told = disk.told })) → (unfetched : ℕ) → ending.unread ≡ length (all_unread guests) + unfetched → IfErr merged (StopsMerge ending) → JudgesMergeOf (is_leaf (leaf ∷ others) name) L name old.folder before after None
+        → ServedOver (Some name) L asking guests history ending merged old now before after
+    beside_over is_count counted ended quiet unfetched unread_is stopped drawn = record {
       broken = broken;
       count = is_count;
-      transcript = transcript;
       drawn = drawn;
-      counted = if_some Guests retired leaf others old mid now lent disk idle served once chain lends back_is past_is count before after (Some name) changes may became run.run.fault counted;
-      ended = if_err Guests retired leaf others old mid now lent disk idle served once chain lends back_is past_is count before after (Some name) changes may became run.run.closed ended;
-      quiet = λ none. on_ok Guests retired leaf others old mid now lent disk idle served once chain lends back_is past_is count before after (Some name) changes may became run.run.closed (quiet none);
+      counted = if_some Guests retired leaf others old mid now lent disk idle served once chain lends back_is past_is count before after (Some name) changes may became ending.fault counted;
+      ended = if_err Guests retired leaf others old mid now lent disk idle served once chain lends back_is past_is count before after (Some name) changes may became ending.closed ended;
+      quiet = λ none. on_ok Guests retired leaf others old mid now lent disk idle served once chain lends back_is past_is count before after (Some name) changes may became ending.closed (quiet none);
       unfetched = unfetched;
       none_fetched = λ none. let never : Some name ≡ None = none in cc;
       unread_is = unread_is;
-      tally_is = tally_is;
-      stopped = stopped_so run.merged stopped;
+      stopped = stopped_so merged stopped;
       served = beside_in;
     }
       where
-        stopped_so : (merged : Result (Unit {0}) ChainRefusal) → IfErr merged (StopsMerge run.run) → IfErr merged (λ refusal. (Some name ≢ None) × StopsMerge run.run refusal)
+        stopped_so : (merged : Result (Unit {0}) ChainRefusal) → IfErr merged (StopsMerge ending) → IfErr merged (λ refusal. (Some name ≢ None) × StopsMerge ending refusal)
         stopped_so (Ok done) k = tt
         stopped_so (Err e) k = ((λ same. cc), k)
 
 -- ---- beside a merge, of the leaf or of another file
 
 module _ (retired : List (List ℕ)) (leaf : LinkedFile) (others : List LinkedFile) (old mid : Hosted) (lent disk : StoreDisk) (chain : WhereTold old.folder (IsChainIn (record { retired = retired; files = leaf ∷ others })))
-    (lends : Lends (names_of (leaf ∷ others)) old mid lent) (before after : Option (List (List ℕ))) (name : List ℕ) (lines : List Line) (run : MergeRun) where
-  past_leaf : (h : HasRunServeLeafMerge (leaf ∷ others) (names_of (leaf ∷ others)) lines run lent disk before after) (is : is_leaf (leaf ∷ others) name ≡ true)
-      → WhereBothTold (HasServedOver (scope_over leaf others name is_first_two (leaf_left_names h.m)) lines h.serves.guests h.serves.history h.serves.broken run.merged run.run.closed) lent.told disk.told
+    (lends : Lends (names_of (leaf ∷ others)) old mid lent) (before after : Option (List (List ℕ))) (name : List ℕ) (asking : Asking) (guests : List (List Outcome)) (history : History) (ending : Ending) (merged : Result (Unit {0}) ChainRefusal) where
+  past_leaf : (h : HasRunLeafMerge (leaf ∷ others) asking guests history ending merged lent disk before after) (is : is_leaf (leaf ∷ others) name ≡ true)
+      → WhereBothTold (HasServedOver (scope_over leaf others name is_first_two (leaf_left_names h.m)) asking guests history h.serves.broken merged ending.closed) lent.told disk.told
   past_leaf h is =
-      subst (λ scope. WhereBothTold (HasServedOver scope lines h.serves.guests h.serves.history h.serves.broken run.merged run.run.closed) lent.told disk.told) (leaf_merge.scope_is retired leaf others old mid lent disk chain lends before after name is h.m h.merge h.planned) h.serves.served
+      subst (λ scope. WhereBothTold (HasServedOver scope asking guests history h.serves.broken merged ending.closed) lent.told disk.told) (leaf_merge.scope_is retired leaf others old mid lent disk chain lends before after name is h.m h.merge h.planned) h.serves.served
 
-  past_other : (h : HasRunServeMerge (leaf ∷ others) name (names_of (leaf ∷ others)) lines run lent disk before after) (is : is_leaf (leaf ∷ others) name ≡ false)
-      → WhereBothTold (HasServedOver (scope_over leaf others name (is_changed h.m) (names_without h.m)) lines h.serves.guests h.serves.history h.serves.broken run.merged run.run.closed) lent.told disk.told
+  past_other : (h : HasRunMerge (leaf ∷ others) name asking guests history ending merged lent disk before after) (is : is_leaf (leaf ∷ others) name ≡ false)
+      → WhereBothTold (HasServedOver (scope_over leaf others name (is_changed h.m) (names_without h.m)) asking guests history h.serves.broken merged ending.closed) lent.told disk.told
   past_other h is =
-      subst (λ scope. WhereBothTold (HasServedOver scope lines h.serves.guests h.serves.history h.serves.broken run.merged run.run.closed) lent.told disk.told) (merge.scope_is retired leaf others old mid lent disk chain lends before after name is h.m h.merge h.planned) h.serves.served
+      subst (λ scope. WhereBothTold (HasServedOver scope asking guests history h.serves.broken merged ending.closed) lent.told disk.told) (merge.scope_is retired leaf others old mid lent disk chain lends before after name is h.m h.merge h.planned) h.serves.served
 
   -- what one that ran changed
-  left_beside : (b : Bool) → is_leaf (leaf ∷ others) name ≡ b → HasServedMergeOf b (leaf ∷ others) name (names_of (leaf ∷ others)) lines run lent disk before after → LeftMerged leaf others name lent disk
-  left_beside true is h = record {
+  pub left_of_leaf : HasRunLeafMerge (leaf ∷ others) asking guests history ending merged lent disk before after → is_leaf (leaf ∷ others) name ≡ true → LeftMerged leaf others name lent disk
+  left_of_leaf h is = record {
     written = is_first_two;
     may = leaf_merge.may retired leaf others old mid lent disk chain lends before after name is;
-    changed = changed_beside (scope_over leaf others name is_first_two (leaf_left_names h.m)) lines h.serves.guests h.serves.history h.serves.broken run.merged run.run.closed lent.told disk.told (past_leaf h is);
+    changed = changed_beside (scope_over leaf others name is_first_two (leaf_left_names h.m)) asking guests history h.serves.broken merged ending.closed lent.told disk.told (past_leaf h is);
   }
-  left_beside false is h = record {
+
+  pub left_of_other : HasRunMerge (leaf ∷ others) name asking guests history ending merged lent disk before after → is_leaf (leaf ∷ others) name ≡ false → LeftMerged leaf others name lent disk
+  left_of_other h is = record {
     written = is_changed h.m;
     may = merge.may retired leaf others old mid lent disk chain lends before after name is h.m h.merge h.planned;
-    changed = changed_beside (scope_over leaf others name (is_changed h.m) (names_without h.m)) lines h.serves.guests h.serves.history h.serves.broken run.merged run.run.closed lent.told disk.told (past_other h is);
+    changed = changed_beside (scope_over leaf others name (is_changed h.m) (names_without h.m)) asking guests history h.serves.broken merged ending.closed lent.told disk.told (past_other h is);
   }
 
   module _ (now : Hosted) (idle : WhereTold old.folder AllIdle) (served : All IsServed (leaf ∷ others)) (once : NoneTwice (retired ++ names_of (leaf ∷ others))) (back_is : WhereTold disk.told (λ trace. now.folder ≡ option_map (given_back trace) mid.folder)) (past_is : KeepsStore disk mid now)
       (count : RoseWhere (HasFailed disk) mid.faults now.faults) where
-    over_beside : (b : Bool) → is_leaf (leaf ∷ others) name ≡ b → HasServedMergeOf b (leaf ∷ others) name (names_of (leaf ∷ others)) lines run lent disk before after → ServedOver (Some name) (record { retired = retired; files = leaf ∷ others }) lines run old now before after
-    over_beside true is h =
-        beside_over retired leaf others old mid now lent disk idle served once chain lends back_is past_is count before after lines run name is_first_two (leaf_left_names h.m) (leaf_merge.may retired leaf others old mid lent disk chain lends before after name is) (leaf_merge.left retired leaf others old mid lent disk chain lends before after name is h.m h.merge h.planned) h.serves.guests h.serves.history h.serves.broken (past_leaf h is) h.serves.faults h.serves.unread (unlogged_two leaf others name is)
-        h.serves.count h.serves.transcript h.serves.counted h.serves.ended h.serves.quiet h.serves.unfetched h.serves.unread_is h.serves.tally_is h.serves.stopped (leaf_merge.drawn retired leaf others old mid lent disk chain lends before after name is h.m h.merge h.planned)
-    over_beside false is h =
-        beside_over retired leaf others old mid now lent disk idle served once chain lends back_is past_is count before after lines run name (is_changed h.m) (names_without h.m) (merge.may retired leaf others old mid lent disk chain lends before after name is h.m h.merge h.planned) (merge.left retired leaf others old mid lent disk chain lends before after name is h.m h.merge h.planned) h.serves.guests h.serves.history h.serves.broken (past_other h is) h.serves.faults h.serves.unread
+    pub over_leaf : HasRunLeafMerge (leaf ∷ others) asking guests history ending merged lent disk before after → is_leaf (leaf ∷ others) name ≡ true → ServedOver (Some name) (record { retired = retired; files = leaf ∷ others }) asking guests history ending merged old now before after
+    over_leaf h is =
+        beside_over retired leaf others old mid now lent disk idle served once chain lends back_is past_is count before after asking guests history ending merged name is_first_two (leaf_left_names h.m) (leaf_merge.may retired leaf others old mid lent disk chain lends before after name is) (leaf_merge.left retired leaf others old mid lent disk chain lends before after name is h.m h.merge h.planned) h.serves.broken (past_leaf h is) h.serves.faults h.serves.unread (unlogged_two leaf others name is)
+        h.serves.count h.serves.counted h.serves.ended h.serves.quiet h.serves.unfetched h.serves.unread_is h.serves.stopped (leaf_merge.drawn retired leaf others old mid lent disk chain lends before after name is h.m h.merge h.planned)
+
+    pub over_other : HasRunMerge (leaf ∷ others) name asking guests history ending merged lent disk before after → is_leaf (leaf ∷ others) name ≡ false → ServedOver (Some name) (record { retired = retired; files = leaf ∷ others }) asking guests history ending merged old now before after
+    over_other h is =
+        beside_over retired leaf others old mid now lent disk idle served once chain lends back_is past_is count before after asking guests history ending merged name (is_changed h.m) (names_without h.m) (merge.may retired leaf others old mid lent disk chain lends before after name is h.m h.merge h.planned) (merge.left retired leaf others old mid lent disk chain lends before after name is h.m h.merge h.planned) h.serves.broken (past_other h is) h.serves.faults h.serves.unread
         (merge.ended_all retired leaf others old mid lent disk chain lends before after name is h.m h.merge h.planned (last_once retired (names_of (leaf ∷ others)) once))
-        h.serves.count h.serves.transcript h.serves.counted h.serves.ended h.serves.quiet h.serves.unfetched h.serves.unread_is h.serves.tally_is h.serves.stopped (merge.drawn retired leaf others old mid lent disk chain lends before after name is h.m h.merge h.planned)
+        h.serves.count h.serves.counted h.serves.ended h.serves.quiet h.serves.unfetched h.serves.unread_is h.serves.stopped (merge.drawn retired leaf others old mid lent disk chain lends before after name is h.m h.merge h.planned)
+
+-- ---- of a script
+
+module _ (retired : List (List ℕ)) (leaf : LinkedFile) (others : List LinkedFile) (old mid : Hosted) (lent disk : StoreDisk) (chain : WhereTold old.folder (IsChainIn (record { retired = retired; files = leaf ∷ others })))
+    (lends : Lends (names_of (leaf ∷ others)) old mid lent) (before after : Option (List (List ℕ))) (name : List ℕ) (lines : List Line) (run : MergeRun) where
+  left_beside : (b : Bool) → is_leaf (leaf ∷ others) name ≡ b → HasServedMergeOf b (leaf ∷ others) name (names_of (leaf ∷ others)) lines run lent disk before after → LeftMerged leaf others name lent disk
+  left_beside true is h = left_of_leaf retired leaf others old mid lent disk chain lends before after name (asked_by lines) h.guests h.history (ending_of run.run run.unread) run.merged h.ran is
+  left_beside false is h = left_of_other retired leaf others old mid lent disk chain lends before after name (asked_by lines) h.guests h.history (ending_of run.run run.unread) run.merged h.ran is
+
+  module _ (now : Hosted) (idle : WhereTold old.folder AllIdle) (served : All IsServed (leaf ∷ others)) (once : NoneTwice (retired ++ names_of (leaf ∷ others))) (back_is : WhereTold disk.told (λ trace. now.folder ≡ option_map (given_back trace) mid.folder)) (past_is : KeepsStore disk mid now)
+      (count : RoseWhere (HasFailed disk) mid.faults now.faults) where
+    over_beside : (b : Bool) → is_leaf (leaf ∷ others) name ≡ b → HasServedMergeOf b (leaf ∷ others) name (names_of (leaf ∷ others)) lines run lent disk before after → ScriptServedOver (Some name) (record { retired = retired; files = leaf ∷ others }) lines run old now before after
+    over_beside true is h = record {
+      guests = h.guests;
+      history = h.history;
+      over = over_leaf retired leaf others old mid lent disk chain lends before after name (asked_by lines) h.guests h.history (ending_of run.run run.unread) run.merged now idle served once back_is past_is count h.ran is;
+      written = h.written;
+    }
+    over_beside false is h = record {
+      guests = h.guests;
+      history = h.history;
+      over = over_other retired leaf others old mid lent disk chain lends before after name (asked_by lines) h.guests h.history (ending_of run.run run.unread) run.merged now idle served once back_is past_is count h.ran is;
+      written = h.written;
+    }
 
 -- ---- of what was linked, whose files are these
 
@@ -314,7 +334,7 @@ module _ (merge : Option (List ℕ)) (linked : Linked) (files : List LinkedFile)
       → HasServedBy k fs (names_of fs) lines run lent disk before after → Away
   ran_back k [] run is_line once chain_is lend h = absurd is_line
   ran_back None (leaf ∷ others) run is_line once chain_is lend h =
-      back_for Guests linked.retired (leaf ∷ others) old mid lent disk is_line chain.idle once chain_is lend (changed_served leaf others lines h.ran.guests h.ran.history h.ran.broken run.run.closed lent.told disk.told h.ran.served)
+      back_for Guests linked.retired (leaf ∷ others) old mid lent disk is_line chain.idle once chain_is lend (changed_served leaf others (asked_by lines) h.ran.guests h.ran.history h.ran.ran.broken run.run.closed lent.told disk.told h.ran.ran.served)
   ran_back (Some name) (leaf ∷ others) run is_line once chain_is lend h =
       let left = left_beside linked.retired leaf others old mid lent disk chain_is lend before after name lines run (is_leaf (leaf ∷ others) name) refl h in
       back_requires linked.retired leaf others old mid lent chain.idle once chain_is lend disk Guests (Some name) left.written left.may left.changed
@@ -325,16 +345,20 @@ module _ (merge : Option (List ℕ)) (linked : Linked) (files : List LinkedFile)
 
   module _ (now : Hosted) (back_is : WhereTold disk.told (λ trace. now.folder ≡ option_map (given_back trace) mid.folder)) (past_is : KeepsStore disk mid now) (count : RoseWhere (HasFailed disk) mid.faults now.faults) where
     ran_over : (k : Option (List ℕ)) (fs : List LinkedFile) (run : MergeRun) → IsLine fs → All IsServed fs → NoneTwice (linked.retired ++ names_of fs) → WhereTold old.folder (IsChainIn (record { retired = linked.retired; files = fs })) → Lends (names_of fs) old mid lent
-        → HasServedBy k fs (names_of fs) lines run lent disk before after → ServedOver k (record { retired = linked.retired; files = fs }) lines run old now before after
+        → HasServedBy k fs (names_of fs) lines run lent disk before after → ScriptServedOver k (record { retired = linked.retired; files = fs }) lines run old now before after
     ran_over k [] run is_line are_served once chain_is lend h = absurd is_line
-    ran_over None (leaf ∷ others) run is_line are_served once chain_is lend h =
-        alone_over linked.retired leaf others old mid now lent disk chain.idle are_served once chain_is lend back_is past_is count before after lines run h.ran h.none
+    ran_over None (leaf ∷ others) run is_line are_served once chain_is lend h = record {
+      guests = h.ran.guests;
+      history = h.ran.history;
+      over = alone_over linked.retired leaf others old mid now lent disk chain.idle are_served once chain_is lend back_is past_is count before after (asked_by lines) h.ran.guests h.ran.history (ending_of run.run run.unread) run.merged h.ran.ran h.none;
+      written = h.ran.written;
+    }
     ran_over (Some name) (leaf ∷ others) run is_line are_served once chain_is lend h =
         over_beside linked.retired leaf others old mid lent disk chain_is lend before after name lines run now chain.idle are_served once back_is past_is count (is_leaf (leaf ∷ others) name) refl h
 
-    pub served_ran : (result : Result MergeRun StepsRefusal) → IfOk result (λ run. HasServedBy merge files names lines run lent disk before after) → IfOk result (λ run. ServedOver merge linked lines run old now before after)
+    pub served_ran : (result : Result MergeRun StepsRefusal) → IfOk result (λ run. HasServedBy merge files names lines run lent disk before after) → IfOk result (λ run. ScriptServedOver merge linked lines run old now before after)
     served_ran (Ok run) ran =
-        subst (λ fs. ServedOver merge (record { retired = linked.retired; files = fs }) lines run old now before after) same
+        subst (λ fs. ScriptServedOver merge (record { retired = linked.retired; files = fs }) lines run old now before after) same
         (ran_over merge files run line served_all once_all is_chain lends (subst (λ ns. HasServedBy merge files ns lines run lent disk before after) named ran))
     served_ran (Err r) ran = tt
 

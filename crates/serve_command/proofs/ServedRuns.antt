@@ -1,6 +1,6 @@
 -- What `serve` does once the chain is opened, from what the session leaves.
 use Rattle.std.proofs.Common.{◌+◌, ◌≡◌, ◌≢◌, ◌<◌, ◌==◌, ℕ, zero, suc, Bool, true, false, List, [], length, Option, Some, None, Result, Ok, Err, refl, sym, ap, subst, ◌∙◌, inl, inr, arith, eqb-true}
-use Rattle.std.specs.Prelude.{IfErr, IfOk, IfSome, OnOk, String, codes, if◌then◌else◌, is_some, string_bytes}
+use Rattle.std.specs.Prelude.{IfErr, IfOk, IfSome, OnOk, String, codes, if◌then◌else◌, is_err, is_some, string_bytes}
 use Rattle.std.specs.List.{AllByRecursion}
 use Rattle.std.proofs.lemmas.Option.{same_Some}
 use Rattle.file_open.specs.Causes.{IfCause, Meaning, refuses, host_failed, store_failed, no_memory, cause_in}
@@ -38,9 +38,9 @@ use Rattle.script_session.specs.Histories.{IsEndTold}
 use Rattle.script_session.specs.Running.{open_by, open_last}
 use Rattle.script_session.specs.Told.{failed_by}
 use Rattle.script_session.specs.declared.session.ScriptRun.{ScriptRun}
-use Rattle.serve_session.specs.MergeServed.{StopsMerge}
+use Rattle.serve_session.specs.Endings.{StopsMerge, ending_of}
 use Rattle.serve_session.specs.declared.merging.MergeRun.{MergeRun}
-use Rattle.serve_session.specs.Served.{AreServed, IsTranscript, all_told, all_unread}
+use Rattle.serve_session.specs.Served.{AreServed, IsTranscript, all_told, all_unread, asked_by}
 use Rattle.printing.specs.Answers.{fault_line}
 use Rattle.printing.specs.Sent.{Sent, cut, whole}
 use Rattle.printing.specs.declared.status.Status.{Status}
@@ -90,27 +90,27 @@ none_of : (merge : Option (List ℕ)) → ¬ HasMerge merge → merge ≡ None
 none_of None none = refl
 none_of (Some name) none = absurd (none tt)
 
-neither : {A E : Type 0} (r : Result A E) → IfOk r (λ x. ⊥) → IfErr r (λ e. ⊥) → ⊥
-neither (Ok x) ok err = ok
-neither (Err e) ok err = err
+neither : {A E : Type 0} (r : Result A E) → is_err r ≡ true → IfErr r (λ e. ⊥) → ⊥
+neither (Ok x) short err = true_false (sym short)
+neither (Err e) short err = err
 
 -- where no fault was met and memory didn't run out a file is full
-unfinished_by : (run : ScriptRun) (e : ChainRefusal) → StopsMerge run e → run.fault ≡ None → IfErr run.closed (λ x. ⊥) → IfErr run.transcript (λ x. ⊥) → IsUnfinished (Some e)
-unfinished_by run (refusals.Spent t) k none well in_memory = absurd k
-unfinished_by run (refusals.FileFull next) k none well in_memory = tt
-unfinished_by run (refusals.ReadFault file n) k none well in_memory = let never : ◌≡◌ {A = Option StoreFault} (Some (record { file = file; count = n })) None = sym k ∙ none in cc
-unfinished_by run (refusals.Broken file n) k none well in_memory = absurd (subst (λ r. IfErr r (λ x. ⊥)) k well)
-unfinished_by run refusals.NoRoom k none well in_memory = absurd (neither run.transcript k in_memory)
-unfinished_by run refusals.EmptyRange k none well in_memory = absurd k
-unfinished_by run (refusals.OutOfRange x0 x1 x2) k none well in_memory = absurd k
-unfinished_by run (refusals.TooLong x0 x1) k none well in_memory = absurd k
-unfinished_by run refusals.ReadOnly k none well in_memory = absurd k
-unfinished_by run refusals.NoMerge k none well in_memory = absurd k
-unfinished_by run (refusals.Stale x0 x1) k none well in_memory = absurd k
-unfinished_by run (refusals.NotYet x0) k none well in_memory = absurd k
-unfinished_by run (refusals.Abandoned x0 x1) k none well in_memory = absurd k
-unfinished_by run (refusals.NoStripe x0 x1) k none well in_memory = absurd k
-unfinished_by run refusals.NoPiece k none well in_memory = absurd k
+unfinished_by : (run : ScriptRun) (unread : ℕ) (e : ChainRefusal) → StopsMerge (ending_of run unread) e → run.fault ≡ None → IfErr run.closed (λ x. ⊥) → IfErr run.transcript (λ x. ⊥) → IsUnfinished (Some e)
+unfinished_by run unread (refusals.Spent t) k none well in_memory = absurd k
+unfinished_by run unread (refusals.FileFull next) k none well in_memory = tt
+unfinished_by run unread (refusals.ReadFault file n) k none well in_memory = let never : ◌≡◌ {A = Option StoreFault} (Some (record { file = file; count = n })) None = sym k ∙ none in cc
+unfinished_by run unread (refusals.Broken file n) k none well in_memory = absurd (subst (λ r. IfErr r (λ x. ⊥)) k well)
+unfinished_by run unread refusals.NoRoom k none well in_memory = absurd (neither run.transcript k in_memory)
+unfinished_by run unread refusals.EmptyRange k none well in_memory = absurd k
+unfinished_by run unread (refusals.OutOfRange x0 x1 x2) k none well in_memory = absurd k
+unfinished_by run unread (refusals.TooLong x0 x1) k none well in_memory = absurd k
+unfinished_by run unread refusals.ReadOnly k none well in_memory = absurd k
+unfinished_by run unread refusals.NoMerge k none well in_memory = absurd k
+unfinished_by run unread (refusals.Stale x0 x1) k none well in_memory = absurd k
+unfinished_by run unread (refusals.NotYet x0) k none well in_memory = absurd k
+unfinished_by run unread (refusals.Abandoned x0 x1) k none well in_memory = absurd k
+unfinished_by run unread (refusals.NoStripe x0 x1) k none well in_memory = absurd k
+unfinished_by run unread refusals.NoPiece k none well in_memory = absurd k
 
 module _ (leaf : List ℕ) (merge : Option (List ℕ)) (before now : World) (status : Status) (idle : WhereTold before.host.folder AllIdle) (unread : now.source_faults ≡ before.source_faults) (taken : WhereTold before.left (λ bytes. IsTaken bytes now.left)) (lines : List Line)
     (is_script : WhereTold before.left (λ bytes. IsScript kinds.Serve bytes lines)) where
@@ -232,7 +232,7 @@ module _ (leaf : List ℕ) (merge : Option (List ℕ)) (before now : World) (sta
     abbrev FaultsOf : Service → Type 0
     FaultsOf service = LastReturned (λ store. FaultsAreTold (all_told service.guests) service.ended (length linked.files) (λ file. 0) store.failed_reads store.failed_changes) mid now.host
 
-    over_by : (service : Service) → (service.has_begun ≡ false → service ≡ no_service) → HasSaid service → WhereTold mid.folder (λ g. OpensIn linked g (λ disk. AreServed (is_some merge) (drive_over false disk) lines service.guests service.history service.ended service.broken))
+    over_by : (service : Service) → (service.has_begun ≡ false → service ≡ no_service) → HasSaid service → WhereTold mid.folder (λ g. OpensIn linked g (λ disk. AreServed (is_some merge) (drive_over false disk) (asked_by lines) service.guests service.history service.ended service.broken))
         → WhereTold mid.folder (λ g. Stands Guests merge linked service.history service.broken g mid now.host) → WhereTold mid.folder (λ g. EndsOf service × StopOf service × (service.has_begun ≡ true → FaultsOf service) × UnreadOf service) → ServesOver leaf merge before now status
     over_by service none s told_so stands outside = record {
       begun = begun;
@@ -253,7 +253,7 @@ module _ (leaf : List ℕ) (merge : Option (List ℕ)) (before now : World) (sta
       alone = s.alone;
     }
       where
-        keeps : WhereTold before.host.folder (λ f. KeepsServed leaf linked begun.disk merge lines service s.meant mid now.host)
+        keeps : WhereTold before.host.folder (λ f. KeepsServed leaf linked begun.disk merge (asked_by lines) service s.meant mid now.host)
         keeps f told =
             let g = told_mid leaf linked before.host mid h f told in
             let opens = opens_mid leaf linked before.host mid h f g.0 told g.1 begun.disk (begun.opens f told) in
@@ -355,7 +355,7 @@ module _ (leaf : List ℕ) (merge : Option (List ℕ)) (before now : World) (sta
             by_refusal (refusal.LocatorTooLarge len) counts cause rests same sent = refused_by (LocatorTooLarge len) (refuses_by leaf linked before.host mid h before.drawn now.drawn false false merge (refusal.LocatorTooLarge len) refl cause (LocatorTooLarge len) refl tt) counts rests same sent
             by_refusal (refusal.MetadataFull file) counts cause rests same sent = refused_by (MetadataFull file) (refuses_by leaf linked before.host mid h before.drawn now.drawn false false merge (refusal.MetadataFull file) refl cause (MetadataFull file) refl tt) counts rests same sent
 
-        none_told : (g : List Held) → OpensIn linked g (λ disk. AreServed (is_some merge) (drive_over false disk) lines [] [] None None)
+        none_told : (g : List Held) → OpensIn linked g (λ disk. AreServed (is_some merge) (drive_over false disk) (asked_by lines) [] [] None None)
         none_told g disk opens = record { told = tt; order = tt; unread = tt; all = λ p low high. absurd (omega (arith, low, high)); breaker = tt }
 
         not_run_over : ServesOver leaf merge before now status
@@ -374,8 +374,8 @@ module _ (leaf : List ℕ) (merge : Option (List ℕ)) (before now : World) (sta
       abbrev risen : Hosted
       risen = record mid { faults = w.faults }
 
-      abbrev o : ServedOver merge linked lines run risen now.host before.drawn now.drawn
-      o = w.over
+      abbrev o : ServedOver merge linked (asked_by lines) w.over.guests w.over.history (ending_of run.run run.unread) run.merged risen now.host before.drawn now.drawn
+      o = w.over.over
 
       -- the host's count rose since the files were lent where it rose since the readers came back
       rose_from : Rose w.faults now.host.faults → Rose mid.faults now.host.faults
@@ -387,16 +387,16 @@ module _ (leaf : List ℕ) (merge : Option (List ℕ)) (before now : World) (sta
       throughout_from : (P : List Held → Type 0) → Throughout P risen now.host → Throughout P mid now.host
       throughout_from P t = record { past = t.past; now = t.now }
 
-      stands_from : (g : List Held) → Stands Guests merge linked o.history o.broken g risen now.host → Stands Guests merge linked o.history o.broken g mid now.host
+      stands_from : (g : List Held) → Stands Guests merge linked w.over.history o.broken g risen now.host → Stands Guests merge linked w.over.history o.broken g mid now.host
       stands_from g s = record {
-        moments = λ disk opens. throughout_from (OpensToFirst (way_by (leaf_name linked) linked merge) disk o.history (open_by o.broken)) (s.moments disk opens);
+        moments = λ disk opens. throughout_from (OpensToFirst (way_by (leaf_name linked) linked merge) disk w.over.history (open_by o.broken)) (s.moments disk opens);
         last = s.last;
         spared = throughout_from (AreSpared (changed_names false merge linked.files) g) s.spared;
         unchanged = s.unchanged;
         home = s.home;
       }
 
-      rests_from : (g : List Held) (closed : Result (Unit {0}) StoreFault) → OnOk closed (Rests linked o.history g risen now.host) → OnOk closed (Rests linked o.history g mid now.host)
+      rests_from : (g : List Held) (closed : Result (Unit {0}) StoreFault) → OnOk closed (Rests linked w.over.history g risen now.host) → OnOk closed (Rests linked w.over.history g mid now.host)
       rests_from g (Ok done) r = record { idle = r.idle; opens = r.opens }
       rests_from g (Err fault) r = tt
 
@@ -409,20 +409,20 @@ module _ (leaf : List ℕ) (merge : Option (List ℕ)) (before now : World) (sta
       err_from (Err fault) c = counted_from fault c
 
       abbrev service : Service
-      service = record { has_begun = true; guests = o.guests; history = o.history; broken = o.broken; stopped = stopped_by run.merged; refused = run.run.fault; ended = failed_by run.run.closed; unfetched = o.unfetched }
+      service = record { has_begun = true; guests = w.over.guests; history = w.over.history; broken = o.broken; stopped = stopped_by run.merged; refused = run.run.fault; ended = failed_by run.run.closed; unfetched = o.unfetched }
 
       abbrev service_by : Result (Unit {0}) ChainRefusal → Option StoreFault → Result (Unit {0}) StoreFault → Service
-      service_by merged fault closed = record { has_begun = true; guests = o.guests; history = o.history; broken = o.broken; stopped = stopped_by merged; refused = fault; ended = failed_by closed; unfetched = o.unfetched }
+      service_by merged fault closed = record { has_begun = true; guests = w.over.guests; history = w.over.history; broken = o.broken; stopped = stopped_by merged; refused = fault; ended = failed_by closed; unfetched = o.unfetched }
 
       abbrev TextIs : List ℕ → Type 0
-      TextIs text = IsTranscript (names_of linked.files) lines o.guests o.history text
+      TextIs text = IsTranscript (names_of linked.files) lines w.over.guests w.over.history text
 
       transcript_is : (merged : Result (Unit {0}) ChainRefusal) (fault : Option StoreFault) (closed : Result (Unit {0}) StoreFault) (text : List ℕ) → TextIs text → IsServiceText begun merge now (service_by merged fault closed) text
       transcript_is merged fault closed text w = record { count = o.count; transcript = w; drawn = drawn_before leaf linked before.host mid h before.drawn now.drawn false merge false o.drawn }
 
       -- how many reads failed by a reader
       abbrev missed : ℕ
-      missed = length (all_unread o.guests) + o.unfetched
+      missed = length (all_unread w.over.guests) + o.unfetched
 
       record Shown (merged : Result (Unit {0}) ChainRefusal) (fault : Option StoreFault) (closed : Result (Unit {0}) StoreFault) (said : Status × List ℕ) : Type 0 where
         so : IsServeText begun merge now (service_by merged fault closed) said.0 said.1
@@ -439,9 +439,9 @@ module _ (leaf : List ℕ) (merge : Option (List ℕ)) (before now : World) (sta
       whole_shown text u (Err e) w stopped quiet none =
           record { so = serves.unfinished refl stopped.0 (stopped.1 refl tt tt) (transcript_is (Err e) None (Ok u) (string_bytes text) w); rose = λ e. cc; quiet = λ other. (quiet, refl, none) }
 
-      stopped_so : (merged : Result (Unit {0}) ChainRefusal) → IfErr merged (λ e. (merge ≢ None) × StopsMerge run.run e) → Unfinished run.run.transcript run.run.fault run.run.closed merged
+      stopped_so : (merged : Result (Unit {0}) ChainRefusal) → IfErr merged (λ e. (merge ≢ None) × StopsMerge (ending_of run.run run.unread) e) → Unfinished run.run.transcript run.run.fault run.run.closed merged
       stopped_so (Ok done) k = tt
-      stopped_so (Err e) k = (k.0, unfinished_by run.run e k.1)
+      stopped_so (Err e) k = (k.0, unfinished_by run.run run.unread e k.1)
 
       some_missed : (unread : ℕ) → unread ≡ missed → (unread == 0) ≡ false → 0 < missed
       some_missed unread is some = positive unread is some
@@ -488,7 +488,7 @@ module _ (leaf : List ℕ) (merge : Option (List ℕ)) (before now : World) (sta
 
       module _ (sent : Sent before.written now.written before.sink_faults now.sink_faults (served_said run).0 (served_said run).1 status) where
         shown : Shown run.merged run.run.fault run.run.closed (served_said run)
-        shown = shown_by run.run.transcript run.run.fault run.run.closed run.merged run.unread o.transcript (some_from run.run.fault o.counted) (err_from run.run.closed o.ended) o.quiet w.readers (stopped_so run.merged o.stopped) o.unread_is
+        shown = shown_by run.run.transcript run.run.fault run.run.closed run.merged run.unread w.over.written.transcript (some_from run.run.fault o.counted) (err_from run.run.closed o.ended) o.quiet w.readers (stopped_so run.merged o.stopped) o.unread_is
 
         said_all : HasSaid service
         said_all = record {
@@ -514,7 +514,7 @@ module _ (leaf : List ℕ) (merge : Option (List ℕ)) (before now : World) (sta
 
         run_lines : ServesLines leaf merge lines before now status (Some run.tally)
         unfolding run_over over_by
-        run_lines = serves.lines_served run_over refl (record { begun = refl; adds = o.tally_is })
+        run_lines = serves.lines_served run_over refl (record { begun = refl; adds = w.over.written.tally_is })
 
         run_ends : Ends (HasMerge merge) before now status
         run_ends =

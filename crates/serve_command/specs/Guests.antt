@@ -15,10 +15,11 @@ use Rattle.script.specs.declared.form.Line.{Line}
 use Rattle.script_session.specs.Faults.{FaultsAreTold}
 use Rattle.script_session.specs.Histories.{Break, IsEndTold}
 use Rattle.script_session.specs.Told.{failed_by}
-use Rattle.serve_session.specs.MergeServed.{HasRunServeLeafMerge, HasRunServeMerge, StopsMerge}
+use Rattle.serve_session.specs.Endings.{Ending, StopsMerge, ending_of}
+use Rattle.serve_session.specs.MergeServed.{HasRunServeLeafMerge, HasRunServeMerge}
 use Rattle.serve_session.specs.Running.{HasRunServe}
-use Rattle.serve_session.specs.Served.{AreServed, IsTranscript, Outcome, all_told, all_unread, guest_count}
-use Rattle.serve_session.specs.Tallies.{AddsUp, all_outcomes}
+use Rattle.serve_session.specs.Served.{AreServed, Asking, Outcome, all_told, all_unread, asked_by}
+use Rattle.serve_session.specs.Written.{IsWritten}
 use Rattle.serve_session.specs.declared.tally.Tally.{Tally}
 use Rattle.serve_session.specs.declared.merging.MergeRun.{MergeRun}
 use Rattle.vx_base.specs.declared.NoRoom.{NoRoom}
@@ -72,8 +73,8 @@ stopped_by (Ok done) = None
 stopped_by (Err refusal) = Some refusal
 
 -- guests were told so over the folder
-pub record ServedIn (merge : Option (List ℕ)) (linked : Linked) (lines : List Line) (guests : List (List Outcome)) (history : History) (broken : Option Break) (merged : Result (Unit {0}) ChainRefusal) (closed : Result (Unit {0}) StoreFault) (folder : List Held) (old new : Hosted) : Type 0 where
-  pub told_so : OpensIn linked folder (λ disk. AreServed (is_some merge) (drive_over false disk) lines guests history (failed_by closed) broken)
+pub record ServedIn (merge : Option (List ℕ)) (linked : Linked) (asking : Asking) (guests : List (List Outcome)) (history : History) (broken : Option Break) (merged : Result (Unit {0}) ChainRefusal) (closed : Result (Unit {0}) StoreFault) (folder : List Held) (old new : Hosted) : Type 0 where
+  pub told_so : OpensIn linked folder (λ disk. AreServed (is_some merge) (drive_over false disk) asking guests history (failed_by closed) broken)
   pub stands : Stands Guests merge linked history broken folder old new
   pub full : AllByRecursion (IsEndTold (λ next. WhereTold new.folder (HasLong (changed_names false merge linked.files) next))) (all_told guests)
   pub stopped : IfSome (stopped_by merged) (IsStopTold (λ next. WhereTold new.folder (HasLong (changed_names false merge linked.files) next)))
@@ -83,23 +84,26 @@ pub record ServedIn (merge : Option (List ℕ)) (linked : Linked) (lines : List 
   pub no_log : OnOk closed (WhereTold new.folder (NoneNamesLog (changed_names false merge linked.files)))
   pub left : OnOk closed (IfSome merge (IsMergeLeft (stopped_by merged) (leaf_name linked) linked new))
 
--- The guests of a script were served over the chain.
-pub record ServedOver (merge : Option (List ℕ)) (linked : Linked) (lines : List Line) (run : MergeRun) (old new : Hosted) (before now : Option (List (List ℕ))) : Type 0 where
-  pub guests : List (List Outcome)
-  pub history : History
+-- Guests were served over the chain.
+pub record ServedOver (merge : Option (List ℕ)) (linked : Linked) (asking : Asking) (guests : List (List Outcome)) (history : History) (end : Ending) (merged : Result (Unit {0}) ChainRefusal) (old new : Hosted) (before now : Option (List (List ℕ))) : Type 0 where
   pub broken : Option Break
-  pub count : length guests ≡ guest_count lines
-  pub transcript : IfOk run.run.transcript (λ text. IsTranscript (names_of linked.files) lines guests history (string_bytes text))
+  pub count : length guests ≡ asking.count
   pub drawn : DrawsFor false merge linked old.folder before now
-  pub counted : IfSome run.run.fault (IsCounted old new)
-  pub ended : IfErr run.run.closed (IsCounted old new)
-  pub quiet : run.run.fault ≡ None → OnOk run.run.closed (new.faults ≡ old.faults)
+  pub counted : IfSome end.fault (IsCounted old new)
+  pub ended : IfErr end.closed (IsCounted old new)
+  pub quiet : end.fault ≡ None → OnOk end.closed (new.faults ≡ old.faults)
   pub unfetched : ℕ
   pub none_fetched : merge ≡ None → unfetched ≡ 0
-  pub unread_is : run.unread ≡ length (all_unread guests) + unfetched
-  pub tally_is : AddsUp run.tally (all_outcomes guests)
-  pub stopped : IfErr run.merged (λ refusal. (merge ≢ None) × StopsMerge run.run refusal)
-  pub served : WhereTold old.folder (λ folder. ServedIn merge linked lines guests history broken run.merged run.run.closed folder old new)
+  pub unread_is : end.unread ≡ length (all_unread guests) + unfetched
+  pub stopped : IfErr merged (λ refusal. (merge ≢ None) × StopsMerge end refusal)
+  pub served : WhereTold old.folder (λ folder. ServedIn merge linked asking guests history broken merged end.closed folder old new)
+
+-- The guests of a script were served so, and its run is written as they were told.
+pub record ScriptServedOver (merge : Option (List ℕ)) (linked : Linked) (lines : List Line) (run : MergeRun) (old new : Hosted) (before now : Option (List (List ℕ))) : Type 0 where
+  pub guests : List (List Outcome)
+  pub history : History
+  pub over : ServedOver merge linked (asked_by lines) guests history (ending_of run.run run.unread) run.merged old new before now
+  pub written : IsWritten (names_of linked.files) lines guests history run.run run.tally
 
 -- So they were, once their readers had come back, by which the host's count rose exactly where a read had failed by one. The host tells its folder
 -- where it told it before.
@@ -107,7 +111,7 @@ pub record ServedWith (merge : Option (List ℕ)) (linked : Linked) (lines : Lis
   pub tells : TellsAlike old.folder new.folder
   pub faults : ℕ
   pub readers : RoseWhere (0 < run.unread) old.faults faults
-  pub over : ServedOver merge linked lines run (record old { faults = faults }) new before now
+  pub over : ScriptServedOver merge linked lines run (record old { faults = faults }) new before now
 
 -- They were served over the chain to which a leaf's name leads, or they weren't.
 pub data LeafIsServed (leaf : List ℕ) (merge : Option (List ℕ)) (lines : List Line) (old new : Hosted) (before now : Option (List (List ℕ))) (result : Result MergeRun StepsRefusal) : Type 0 where

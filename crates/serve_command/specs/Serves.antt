@@ -23,7 +23,7 @@ use Rattle.script_session.specs.Faults.{FaultsAreTold}
 use Rattle.script_session.specs.Histories.{Break, IsEndTold}
 use Rattle.script_session.specs.Running.{open_by, open_last}
 use Rattle.script_session.specs.Told.{later_of}
-use Rattle.serve_session.specs.Served.{AreServed, IsTranscript, Outcome, all_told, all_unread, guest_count}
+use Rattle.serve_session.specs.Served.{AreServed, Asking, IsTranscript, Outcome, all_told, all_unread, asked_by, guest_count}
 use Rattle.serve_session.specs.Tallies.{AddsUp, all_outcomes}
 use Rattle.serve_session.specs.declared.tally.Tally.{Tally}
 use Rattle.printing.specs.Answers.{fault_line}
@@ -121,8 +121,8 @@ IsMergeLeft (Some stopped) leaf linked now name = WhereTold now.folder (λ folde
 -- those is so long; what is told of faults is what the session's store counts, but for the reads that failed by a reader of a file of the chain.
 -- Where the run came to its end nothing is unsynced, the name is opened to the disk of all calls, and of a session that began a merge has left
 -- the chain so, and no file that it may change names a log.
-pub record KeepsServed (leaf : List ℕ) (linked : Linked) (disk : Disk) (merge : Option (List ℕ)) (lines : List Line) (service : Service) (meant : Status) (opened now : Hosted) : Type 0 where
-  pub told_so : AreServed (is_some merge) (drive_over false disk) lines service.guests service.history service.ended service.broken
+pub record KeepsServed (leaf : List ℕ) (linked : Linked) (disk : Disk) (merge : Option (List ℕ)) (asking : Asking) (service : Service) (meant : Status) (opened now : Hosted) : Type 0 where
+  pub told_so : AreServed (is_some merge) (drive_over false disk) asking service.guests service.history service.ended service.broken
   pub moments : Throughout (OpensToFirst (way_by leaf linked merge) disk service.history (open_by service.broken)) opened now
   pub last : WhereTold now.folder (EachImageOpens (way_by leaf linked merge) (open_last service.history service.broken) (replay sector_size disk service.history))
   pub spared : WhereTold opened.folder (λ folder. Throughout (AreSpared (changed_names false merge linked.files) folder) opened now)
@@ -150,7 +150,7 @@ pub record ServesOver (leaf : List ℕ) (merge : Option (List ℕ)) (before now 
   pub text : List ℕ
   pub said : IsServeText begun merge now service meant text
   pub sent : Sent before.written now.written before.sink_faults now.sink_faults meant text status
-  pub kept : WhereTold before.host.folder (λ folder. KeepsServed leaf begun.linked begun.disk merge begun.lines service meant opened now.host)
+  pub kept : WhereTold before.host.folder (λ folder. KeepsServed leaf begun.linked begun.disk merge (asked_by begun.lines) service meant opened now.host)
   pub unchanged : meant ≡ Refused → service.has_begun ≡ false → WhereTold opened.folder (λ folder. WhereTold now.host.folder (λ after. (name : List ℕ) → contents after name ≡ contents folder name))
   pub rose : meant ≡ Fault → Rose before.host.faults now.host.faults
   pub quiet : meant ≢ Fault → (now.host.faults ≡ before.host.faults) × (met service ≡ None) × (unread_by service ≡ 0)

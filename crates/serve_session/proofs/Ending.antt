@@ -24,7 +24,6 @@ use Rattle.chain_core.specs.Sessions.{Session}
 use Rattle.chain_core.specs.States.{IsServing, State, sector_of}
 use Rattle.layer_session.proofs.Equal.{false_true, some_none, some_same}
 use Rattle.seats.specs.Counting.{once_between, times}
-use Rattle.script.specs.declared.form.Form.{Form}
 use Rattle.script.specs.declared.form.Line.{Line}
 use Rattle.script.specs.declared.told.ToldCall.{ToldCall}
 use Rattle.script.specs.Transcript.{IsTold, serve_text}
@@ -50,10 +49,11 @@ use Rattle.shared_chain.specs.Shared.{Shared}
 use Rattle.shared_chain.specs.Steps.{broke_step, done_steps, merge_breach, open_by as opens_by, steps_of}
 use Rattle.shared_chain.specs.Seats.{MergeBreaksAt}
 use Rattle.serve_session.specs.Actors.{AreHeard, AreJoined, HasBreach, HasBreacher, IsHeard, IsHeardOf, IsOwned, OwnsAt, first_notes}
-use Rattle.serve_session.specs.Served.{AreOutcomes, AreServed, EachGuest, Has, HasBreaker, HasBroken, IsBreakOf, IsOutcome, IsRefused, IsTranscript, Outcome, SomeGuest, all_told, all_unread, call_of, entry_of, forms_of, is_broken, is_full, is_misplaced, is_unread, places_in, told_guests, told_of, unread_in}
+use Rattle.serve_session.specs.Served.{AreOutcomes, AreServed, Asking, EachGuest, Has, HasBreaker, HasBroken, IsBreakOf, IsOutcome, IsRefused, IsTranscript, Outcome, SomeGuest, all_told, all_unread, asked_by, entry_of, forms_of, is_broken, is_full, is_misplaced, is_unread, places_in, told_guests, told_of, unread_in}
 use Rattle.serve_session.specs.Serving.{drive_from}
 use Rattle.serve_session.proofs.Hearing.{nothing}
-use Rattle.serve_session.proofs.Guests.{all_told_are, each_map, some_and, told_count, told_guests_count}
+use Rattle.serve_session.specs.Written.{AreKept}
+use Rattle.serve_session.proofs.Guests.{all_told_are, as_many, each_map, some_and, told_count, told_guests_count}
 
 -- ---- histories and their steps
 
@@ -209,15 +209,15 @@ broken_tells s after closed f e is = ap failed_by (subst (λ o. IfSome o (λ f. 
 
 -- ---- the call that broke a session
 
-pub to_break : (b : Breach) (guest number : ℕ) (forms : List Form) (outcomes : List Outcome) → HasBreacher b guest number forms outcomes → (k : Break) × HasBreaker k forms outcomes × ((s : ℕ) → open_by (Some k) s ≡ false → opens_by (Some b) s ≡ false)
-to_break b guest number forms [] h = absurd h
+pub to_break : (b : Breach) (guest number : ℕ) (calls : List Call) (outcomes : List Outcome) → HasBreacher b guest number calls outcomes → (k : Break) × HasBreaker k calls outcomes × ((s : ℕ) → open_by (Some k) s ≡ false → opens_by (Some b) s ≡ false)
+to_break b guest number calls [] h = absurd h
 to_break b guest number [] (o ∷ outcomes) h = absurd h
-to_break b guest number (f ∷ forms) (o ∷ outcomes) (inr h) = let k = to_break b guest (number + 1) forms outcomes h in (k.0, inr k.1, k.2)
-to_break b guest number (f ∷ forms) (o ∷ outcomes) (inl h) = let k = of_one o h in (k.0, inl k.1, k.2)
+to_break b guest number (c ∷ calls) (o ∷ outcomes) (inr h) = let k = to_break b guest (number + 1) calls outcomes h in (k.0, inr k.1, k.2)
+to_break b guest number (c ∷ calls) (o ∷ outcomes) (inl h) = let k = of_one o h in (k.0, inl k.1, k.2)
   where
-    of_one : (o : Outcome) → HasBreach guest number f b o → (k : Break) × HasBroken f k o × ((s : ℕ) → open_by (Some k) s ≡ false → opens_by (Some b) s ≡ false)
+    of_one : (o : Outcome) → HasBreach guest number c b o → (k : Break) × HasBroken c k o × ((s : ℕ) → open_by (Some k) s ≡ false → opens_by (Some b) s ≡ false)
     of_one (Ok done) h = absurd h
-    of_one (Err (Broken file count)) h = (record { fault = fault_of file count; call = Some (call_of f) }, (refl, refl), h.2)
+    of_one (Err (Broken file count)) h = (record { fault = fault_of file count; call = Some c }, (refl, refl), h.2)
     of_one (Err EmptyRange) h = absurd h
     of_one (Err (OutOfRange x y z)) h = absurd h
     of_one (Err (TooLong x y)) h = absurd h
@@ -233,20 +233,20 @@ to_break b guest number (f ∷ forms) (o ∷ outcomes) (inl h) = let k = of_one 
     of_one (Err NoPiece) h = absurd h
     of_one (Err NoRoom) h = absurd h
 
-some_break : (b : Breach) (lines : List Line) (guest : ℕ) (guests : List (List Outcome)) → SomeGuest (λ g os. HasBreacher b g 1 (forms_of g lines) os) guest guests
-    → (k : Break) × SomeGuest (λ g os. HasBreaker k (forms_of g lines) os) guest guests × ((s : ℕ) → open_by (Some k) s ≡ false → opens_by (Some b) s ≡ false)
-some_break b lines guest [] h = absurd h
-some_break b lines guest (os ∷ guests) (inl h) = let k = to_break b guest 1 (forms_of guest lines) os h in (k.0, inl k.1, k.2)
-some_break b lines guest (os ∷ guests) (inr h) = let k = some_break b lines (guest + 1) guests h in (k.0, inr k.1, k.2)
+some_break : (b : Breach) (asking : Asking) (guest : ℕ) (guests : List (List Outcome)) → SomeGuest (λ g os. HasBreacher b g 1 (asking.calls g) os) guest guests
+    → (k : Break) × SomeGuest (λ g os. HasBreaker k (asking.calls g) os) guest guests × ((s : ℕ) → open_by (Some k) s ≡ false → opens_by (Some b) s ≡ false)
+some_break b asking guest [] h = absurd h
+some_break b asking guest (os ∷ guests) (inl h) = let k = to_break b guest 1 (asking.calls guest) os h in (k.0, inl k.1, k.2)
+some_break b asking guest (os ∷ guests) (inr h) = let k = some_break b asking (guest + 1) guests h in (k.0, inr k.1, k.2)
 
 -- ---- guests, by their numbers
 
 -- one of them has this list of what it was told
-some_told : (Q : ℕ → List Outcome → Type 0) (names : List (List ℕ)) (lines : List Line) (g0 : ℕ) (guests : List (List Outcome)) → SomeGuest Q g0 guests → EachGuest (λ g os. length os ≡ length (forms_of g lines)) g0 guests
+some_told : (Q : ℕ → List Outcome → Type 0) (names : List (List ℕ)) (lines : List Line) (g0 : ℕ) (guests : List (List Outcome)) → SomeGuest Q g0 guests → EachGuest (λ g os. length os ≡ length ((asked_by lines).calls g)) g0 guests
     → (g : ℕ) × (os : List Outcome) × Q g os × (g0 ≤ g) × (g < g0 + length guests) × (length (get_or (told_guests names g0 lines guests) (g - g0) []) ≡ length os)
 some_told Q names lines g0 [] h whole = absurd h
 some_told Q names lines g0 (os ∷ guests) (inl q) whole =
-    (g0, os, q, omega arith, omega arith, ap (λ n. length (get_or (told_guests names g0 lines (os ∷ guests)) n [])) {x = g0 - g0} {y = 0} (omega arith) ∙ told_count names (forms_of g0 lines) os whole.0)
+    (g0, os, q, omega arith, omega arith, ap (λ n. length (get_or (told_guests names g0 lines (os ∷ guests)) n [])) {x = g0 - g0} {y = 0} (omega arith) ∙ told_count names (forms_of g0 lines) os (whole.0 ∙ as_many (forms_of g0 lines)))
 some_told Q names lines g0 (os ∷ guests) (inr h) whole =
     let r = some_told Q names lines (g0 + 1) guests h whole.1 in
     (r.0, r.1, r.2, omega (arith, r.3), omega (arith, r.4), ap (λ n. length (get_or (told_guests names g0 lines (os ∷ guests)) n [])) {x = r.0 - g0} {y = suc (r.0 - (g0 + 1))} (omega (arith, r.3)) ∙ r.5)
@@ -262,19 +262,19 @@ module _ {S T : Type 0} (disk : S → Disk) (first : Chain S KeepAll T) where
     begins : StartsWith seen (done_steps before ++ Done (entry_of guest no call) ∷ [])
     place_is : p ≡ length before + 1
 
-  heard_at : (seat : Known Step (Basis S T)) (guest number p : ℕ) (forms : List Form) (outcomes : List Outcome) → AreHeard disk first seat guest number forms outcomes → Has p (places_in outcomes) → At seat.seen guest number outcomes p
-  heard_at seat guest number p forms [] h has = absurd has
+  heard_at : (seat : Known Step (Basis S T)) (guest number p : ℕ) (calls : List Call) (outcomes : List Outcome) → AreHeard disk first seat guest number calls outcomes → Has p (places_in outcomes) → At seat.seen guest number outcomes p
+  heard_at seat guest number p calls [] h has = absurd has
   heard_at seat guest number p [] (o ∷ outcomes) h has = absurd h
-  heard_at seat guest number p (f ∷ forms) (Err x ∷ outcomes) h has =
-      let a = heard_at seat guest (number + 1) p forms outcomes h.1 has in
+  heard_at seat guest number p (c ∷ calls) (Err x ∷ outcomes) h has =
+      let a = heard_at seat guest (number + 1) p calls outcomes h.1 has in
       record { no = a.no; call = a.call; before = a.before; low = omega (arith, a.low); high = omega (arith, a.high); begins = a.begins; place_is = a.place_is }
-  heard_at seat guest number p (f ∷ forms) (Ok done ∷ outcomes) h (inl e) =
-      record { no = number; call = call_of f; before = h.0.before; low = omega arith; high = omega arith; begins = h.0.begins; place_is = e ∙ h.0.place_is }
-  heard_at seat guest number p (f ∷ forms) (Ok done ∷ outcomes) h (inr has) =
-      let a = heard_at seat guest (number + 1) p forms outcomes h.1 has in
+  heard_at seat guest number p (c ∷ calls) (Ok done ∷ outcomes) h (inl e) =
+      record { no = number; call = c; before = h.0.before; low = omega arith; high = omega arith; begins = h.0.begins; place_is = e ∙ h.0.place_is }
+  heard_at seat guest number p (c ∷ calls) (Ok done ∷ outcomes) h (inr has) =
+      let a = heard_at seat guest (number + 1) p calls outcomes h.1 has in
       record { no = a.no; call = a.call; before = a.before; low = omega (arith, a.low); high = omega (arith, a.high); begins = a.begins; place_is = a.place_is }
 
-  module _ (merges : Bool) (lock : TableId) (names : List (List ℕ)) (lines : List Line) (seat : Known Step (Basis S T)) (told : List (List ToldCall)) (short : Bool) (guests : List (List Outcome)) (j : AreJoined disk first merges lock names lines seat told short guests)
+  module _ (merges : Bool) (lock : TableId) (asking : Asking) (seat : Known Step (Basis S T)) (guests : List (List Outcome)) (j : AreJoined disk first merges lock asking seat guests)
       (v : Shared (Chain S KeepAll T)) (broke : Option Breach) (seen_is : steps_of v.chain.recorder broke ≡ seat.seen) (basis : Contains (basis_of disk v) seat.basis) (places : (p : ℕ) → times p seat.mine ≡ once_between p 1 (length seat.seen + 1)) (refusals : seat.refusals ≡ 0) (few : v.chain.events < 2 ^ 63) where
     abbrev h : History
     h = v.chain.recorder
@@ -293,21 +293,21 @@ module _ {S T : Type 0} (disk : S → Disk) (first : Chain S KeepAll T) where
         between = grind (arith, low, high)
 
     abbrev Owned : ℕ → ℕ → List Outcome → Type 0
-    Owned p guest outcomes = OwnsAt seat.seen p guest (forms_of guest lines) outcomes
+    Owned p guest outcomes = OwnsAt seat.seen p guest (asking.calls guest) outcomes
 
     abbrev Heard : ℕ → List Outcome → Type 0
-    Heard guest outcomes = AreHeard disk first seat guest 1 (forms_of guest lines) outcomes
+    Heard guest outcomes = AreHeard disk first seat guest 1 (asking.calls guest) outcomes
 
-    owner : (p : ℕ) → 1 ≤ p → p ≤ length seat.seen → IsOwned merges seat.seen p lines guests
+    owner : (p : ℕ) → 1 ≤ p → p ≤ length seat.seen → IsOwned merges seat.seen p asking guests
     owner p low high = j.owns p (own p low high)
 
     seen_length : length h ≤ length seat.seen
     seen_length = omega (arith, steps_length h broke, ap length seen_is)
 
     -- in the history itself no break stands
-    not_broken : (p guest : ℕ) (forms : List Form) (outcomes : List Outcome) → p ≤ length h → OwnsAt seat.seen p guest forms outcomes → Has p (places_in outcomes)
-    not_broken p guest forms outcomes high (inl has) = has
-    not_broken p guest forms outcomes high (inr b) =
+    not_broken : (p guest : ℕ) (calls : List Call) (outcomes : List Outcome) → p ≤ length h → OwnsAt seat.seen p guest calls outcomes → Has p (places_in outcomes)
+    not_broken p guest calls outcomes high (inl has) = has
+    not_broken p guest calls outcomes high (inr b) =
         let last = broke_last h b.before broke b.breach (as_history b.begins) in absurd (omega (arith, b.place_is, high, ap length last.0))
 
     no_merge_break : (p : ℕ) → p ≤ length h → MergeBreaksAt seat.seen p → ⊥
@@ -318,41 +318,41 @@ module _ {S T : Type 0} (disk : S → Disk) (first : Chain S KeepAll T) where
     each_unit g (os ∷ gs) = (tt, each_unit (g + 1) gs)
 
     guest_place : (p : ℕ) → p ≤ length h → SomeGuest (Owned p) 1 guests → SomeGuest (λ guest outcomes. Has p (places_in outcomes)) 1 guests
-    guest_place p high own = some_and (λ g os. Unit {0}) (Owned p) (λ guest outcomes. Has p (places_in outcomes)) 1 guests (λ g os u o. not_broken p g (forms_of g lines) os high o) (each_unit 1 guests) own
+    guest_place p high own = some_and (λ g os. Unit {0}) (Owned p) (λ guest outcomes. Has p (places_in outcomes)) 1 guests (λ g os u o. not_broken p g (asking.calls g) os high o) (each_unit 1 guests) own
 
     pub all_places : (p : ℕ) → 1 ≤ p → p ≤ length h → SomeGuest (λ guest outcomes. Has p (places_in outcomes)) 1 guests
     all_places p low high = go merges (owner p low (omega (arith, high, seen_length)))
       where
-        go : (m : Bool) → IsOwned m seat.seen p lines guests → SomeGuest (λ guest outcomes. Has p (places_in outcomes)) 1 guests
+        go : (m : Bool) → IsOwned m seat.seen p asking guests → SomeGuest (λ guest outcomes. Has p (places_in outcomes)) 1 guests
         go false one = guest_place p high one
         go true (inl one) = guest_place p high one
         go true (inr breaks) = absurd (no_merge_break p high breaks)
 
     -- behind it what broke the session stands: a guest's call, or a step of the merge
     abbrev IsBreacherOf : Bool → Breach → Type 0
-    IsBreacherOf false b = SomeGuest (λ guest outcomes. HasBreacher b guest 1 (forms_of guest lines) outcomes) 1 guests
-    IsBreacherOf true b = SomeGuest (λ guest outcomes. HasBreacher b guest 1 (forms_of guest lines) outcomes) 1 guests ⊎ (b ≡ merge_breach)
+    IsBreacherOf false b = SomeGuest (λ guest outcomes. HasBreacher b guest 1 (asking.calls guest) outcomes) 1 guests
+    IsBreacherOf true b = SomeGuest (λ guest outcomes. HasBreacher b guest 1 (asking.calls guest) outcomes) 1 guests ⊎ (b ≡ merge_breach)
 
     module _ (b : Breach) (is : broke ≡ Some b) where
       size : length seat.seen ≡ length h + 1
       size = sym (ap length seen_is) ∙ ap (λ o. length (steps_of h o)) is ∙ length-append (done_steps h) (Broke b ∷ []) ∙ ap (λ n. n + 1) (length-map h (λ e. Done e))
 
-      by_owner : (g : ℕ) (os : List Outcome) → Heard g os → Owned (length h + 1) g os → HasBreacher b g 1 (forms_of g lines) os
+      by_owner : (g : ℕ) (os : List Outcome) → Heard g os → Owned (length h + 1) g os → HasBreacher b g 1 (asking.calls g) os
       by_owner g os heard (inl has) =
-          let a = heard_at seat g 1 (length h + 1) (forms_of g lines) os heard has in
+          let a = heard_at seat g 1 (length h + 1) (asking.calls g) os heard has in
           let starts = starts-length h (a.before ++ entry_of g a.no a.call ∷ []) (starts_more h a.before broke (entry_of g a.no a.call) (as_history a.begins)) in
           absurd (omega (arith, a.place_is, starts, length-append a.before (entry_of g a.no a.call ∷ [])))
       by_owner g os heard (inr x) =
           let last = broke_last h x.before broke x.breach (as_history x.begins) in
-          subst (λ c. HasBreacher c g 1 (forms_of g lines) os) (some_same (sym last.1 ∙ is)) x.breaker
+          subst (λ c. HasBreacher c g 1 (asking.calls g) os) (some_same (sym last.1 ∙ is)) x.breaker
 
-      by_guest : SomeGuest (Owned (length h + 1)) 1 guests → SomeGuest (λ guest outcomes. HasBreacher b guest 1 (forms_of guest lines) outcomes) 1 guests
-      by_guest own = some_and Heard (Owned (length h + 1)) (λ guest outcomes. HasBreacher b guest 1 (forms_of guest lines) outcomes) 1 guests by_owner j.heard own
+      by_guest : SomeGuest (Owned (length h + 1)) 1 guests → SomeGuest (λ guest outcomes. HasBreacher b guest 1 (asking.calls guest) outcomes) 1 guests
+      by_guest own = some_and Heard (Owned (length h + 1)) (λ guest outcomes. HasBreacher b guest 1 (asking.calls guest) outcomes) 1 guests by_owner j.heard own
 
       breacher_is : IsBreacherOf merges b
       breacher_is = go merges (owner (length h + 1) (omega arith) (omega (arith, size)))
         where
-          go : (m : Bool) → IsOwned m seat.seen (length h + 1) lines guests → IsBreacherOf m b
+          go : (m : Bool) → IsOwned m seat.seen (length h + 1) asking guests → IsBreacherOf m b
           go false one = by_guest one
           go true (inl one) = inl (by_guest one)
           go true (inr x) = let last = broke_last h x.before broke merge_breach (as_history x.begins) in inr (some_same (sym is ∙ last.1))
@@ -360,13 +360,13 @@ module _ {S T : Type 0} (disk : S → Disk) (first : Chain S KeepAll T) where
     -- and which it was
     pub record Which (closed : Result (Unit {0}) StoreFault) : Type 0 where
       pub broken : Option Break
-      pub by : IfSome broken (IsBreakOf merges lines guests (failed_by closed))
+      pub by : IfSome broken (IsBreakOf merges asking guests (failed_by closed))
       pub opens : (s : ℕ) → open_by broken s ≡ false → opens_by v.broke s ≡ false
 
     -- the end of the merge may have broken the session behind all calls
     module _ (closed : Result (Unit {0}) StoreFault) (errs : IfSome v.broke (λ b. IsErr closed)) (later : (v.broke ≡ broke) ⊎ ((merges ≡ true) × (broke ≡ None) × (v.broke ≡ Some merge_breach))) where
       abbrev Found : Option Breach → Type 0
-      Found o = (broken : Option Break) × IfSome broken (IsBreakOf merges lines guests (failed_by closed)) × ((s : ℕ) → open_by broken s ≡ false → opens_by o s ≡ false)
+      Found o = (broken : Option Break) × IfSome broken (IsBreakOf merges asking guests (failed_by closed)) × ((s : ℕ) → open_by broken s ≡ false → opens_by o s ≡ false)
 
       by_merge : merges ≡ true → IsErr closed → Found (Some merge_breach)
       by_merge yes_ err = go closed err refl
@@ -375,17 +375,17 @@ module _ {S T : Type 0} (disk : S → Disk) (first : Chain S KeepAll T) where
           go (Ok done) never is = absurd (false_true never)
           go (Err f) some is = (
             Some (record { fault = f; call = None }),
-            subst (λ m. IsBreakOf m lines guests (failed_by closed) (record { fault = f; call = None })) (sym yes_) (inr (refl, ap failed_by is)),
+            subst (λ m. IsBreakOf m asking guests (failed_by closed) (record { fault = f; call = None })) (sym yes_) (inr (refl, ap failed_by is)),
             λ s e. nothing 0 s,
           )
 
       by_breach : (b : Breach) → IsErr closed → (m : Bool) → merges ≡ m → IsBreacherOf m b → Found (Some b)
       by_breach b err false is k =
-          let w = some_break b lines 1 guests k in
-          (Some w.0, subst (λ m. IsBreakOf m lines guests (failed_by closed) w.0) (sym is) w.1, w.2)
+          let w = some_break b asking 1 guests k in
+          (Some w.0, subst (λ m. IsBreakOf m asking guests (failed_by closed) w.0) (sym is) w.1, w.2)
       by_breach b err true is (inl k) =
-          let w = some_break b lines 1 guests k in
-          (Some w.0, subst (λ m. IsBreakOf m lines guests (failed_by closed) w.0) (sym is) (inl w.1), w.2)
+          let w = some_break b asking 1 guests k in
+          (Some w.0, subst (λ m. IsBreakOf m asking guests (failed_by closed) w.0) (sym is) (inl w.1), w.2)
       by_breach b err true is (inr k) = subst (λ c. Found (Some c)) (sym k) (by_merge is err)
 
       find : (o : Option Breach) → v.broke ≡ o → Found o
@@ -407,34 +407,15 @@ module _ {S T : Type 0} (disk : S → Disk) (first : Chain S KeepAll T) where
     abbrev IsOfStore : StoreFault → Type 0
     IsOfStore fault = fault.file < (disk first.store).files
 
-    unread_heard : (guest number : ℕ) (forms : List Form) (outcomes : List Outcome) → AreHeard disk first seat guest number forms outcomes → AllByRecursion IsOfStore (unread_in outcomes)
-    unread_heard guest number forms [] k = tt
+    unread_heard : (guest number : ℕ) (calls : List Call) (outcomes : List Outcome) → AreHeard disk first seat guest number calls outcomes → AllByRecursion IsOfStore (unread_in outcomes)
+    unread_heard guest number calls [] k = tt
     unread_heard guest number [] (o ∷ outcomes) k = absurd k
-    unread_heard guest number (f ∷ forms) (Ok (place, Ok reply) ∷ outcomes) k = unread_heard guest (number + 1) forms outcomes k.1
-    unread_heard guest number (f ∷ forms) (Ok (place, Err fault) ∷ outcomes) k = (k.0.unread.1, unread_heard guest (number + 1) forms outcomes k.1)
-    unread_heard guest number (f ∷ forms) (Err x ∷ outcomes) k = unread_heard guest (number + 1) forms outcomes k.1
+    unread_heard guest number (c ∷ calls) (Ok (place, Ok reply) ∷ outcomes) k = unread_heard guest (number + 1) calls outcomes k.1
+    unread_heard guest number (c ∷ calls) (Ok (place, Err fault) ∷ outcomes) k = (k.0.unread.1, unread_heard guest (number + 1) calls outcomes k.1)
+    unread_heard guest number (c ∷ calls) (Err x ∷ outcomes) k = unread_heard guest (number + 1) calls outcomes k.1
 
     pub unread_of_store : AllByRecursion (λ fault. fault.file < (disk first.store).files) (all_unread guests)
-    unread_of_store = all_told_are IsOfStore unread_in 1 guests (each_map Heard (λ g os. AllByRecursion IsOfStore (unread_in os)) 1 guests (λ g os. unread_heard g 1 (forms_of g lines) os) j.heard)
-
-    -- ---- the transcript
-
-    pub all_called : short ≡ false → All (IsTold told) h
-    all_called memory i d within =
-        let k = j.kept memory in
-        let o = some_told (λ g os. Has (i + 1) (places_in os) × Heard g os) names lines 1 guests (some_and Heard (λ g os. Has (i + 1) (places_in os)) (λ g os. Has (i + 1) (places_in os) × Heard g os) 1 guests (λ g os a b. (b, a)) j.heard (all_places (i + 1) (omega arith) (omega (arith, within)))) k.0 in
-        let a = heard_at seat o.0 1 (i + 1) (forms_of o.0 lines) o.1 o.2.1 o.2.0 in
-        let is : get_or h i d ≡ entry_of o.0 a.no a.call = ap (λ n. get_or h n d) {x = i} {y = length a.before} (omega (arith, a.place_is)) ∙ entry_at h a.before (entry_of o.0 a.no a.call) d (starts_more h a.before broke (entry_of o.0 a.no a.call) (as_history a.begins)) in
-        subst (IsTold told) (sym is) (subst (λ ts. IsTold ts (entry_of o.0 a.no a.call)) (sym k.1) (record {
-          lowest_guest = o.3;
-          highest_guest = omega (arith, o.4, told_guests_count names 1 lines guests);
-          lowest_number = a.low;
-          highest_number = omega (arith, a.high, o.5);
-        }))
-
-    pub transcript_is : {Z : Type 0} (r : Result (String Z) Want) → IfOk r (λ text. (short ≡ false) × (string_bytes text ≡ serve_text h told)) → IfOk r (λ text. IsTranscript names lines guests h (string_bytes text))
-    transcript_is (Ok text) t = let k = j.kept t.0 in record { whole = k.0; text_is = t.1 ∙ ap (serve_text h) k.1 }
-    transcript_is (Err e) t = tt
+    unread_of_store = all_told_are IsOfStore unread_in 1 guests (each_map Heard (λ g os. AllByRecursion IsOfStore (unread_in os)) 1 guests (λ g os. unread_heard g 1 (asking.calls g) os) j.heard)
 
     -- ---- what each was told
 
@@ -469,32 +450,32 @@ module _ {S T : Type 0} (disk : S → Disk) (first : Chain S KeepAll T) where
         refused_by call NoPiece k = absurd k
         refused_by call NoRoom k = absurd k
 
-        outcome_is : (guest number : ℕ) (form : Form) (o : Outcome) → IsHeard disk first seat guest number form o → IsOutcome (drive_from first from) h (failed_by closed) guest number (call_of form) o
-        outcome_is guest number form (Ok done) k = record {
+        outcome_is : (guest number : ℕ) (call : Call) (o : Outcome) → IsHeard disk first seat guest number call o → IsOutcome (drive_from first from) h (failed_by closed) guest number call o
+        outcome_is guest number call (Ok done) k = record {
           before = k.before;
-          begins = starts_more h k.before broke (entry_of guest number (call_of form)) (as_history k.begins);
+          begins = starts_more h k.before broke (entry_of guest number call) (as_history k.begins);
           place_is = k.place_is;
           placed = k.placed;
-          reply_is = IfOk-weaker done.1 _ _ (λ r replies. sym (replies trace store_told from serving empty) ∙ ap (λ z. reply (replay z from.opening k.before) (call_of form)) size) k.replies;
+          reply_is = IfOk-weaker done.1 _ _ (λ r replies. sym (replies trace store_told from serving empty) ∙ ap (λ z. reply (replay z from.opening k.before) call) size) k.replies;
           unread = IfErr-weaker done.1 _ _ (λ fault unread. unread.0) k.unread;
         }
-        outcome_is guest number form (Err x) k = refused_by (call_of form) x k
+        outcome_is guest number call (Err x) k = refused_by call x k
 
-        outcomes_are : (guest number : ℕ) (forms : List Form) (outcomes : List Outcome) → AreHeard disk first seat guest number forms outcomes → AreOutcomes (drive_from first from) h (failed_by closed) guest number forms outcomes
-        outcomes_are guest number forms [] k = tt
+        outcomes_are : (guest number : ℕ) (calls : List Call) (outcomes : List Outcome) → AreHeard disk first seat guest number calls outcomes → AreOutcomes (drive_from first from) h (failed_by closed) guest number calls outcomes
+        outcomes_are guest number calls [] k = tt
         outcomes_are guest number [] (o ∷ outcomes) k = absurd k
-        outcomes_are guest number (f ∷ forms) (o ∷ outcomes) k = (outcome_is guest number f o k.0, outcomes_are guest (number + 1) forms outcomes k.1)
+        outcomes_are guest number (c ∷ calls) (o ∷ outcomes) k = (outcome_is guest number c o k.0, outcomes_are guest (number + 1) calls outcomes k.1)
 
-        pub served : AreServed merges (drive_from first from) lines guests h (failed_by closed) w.broken
+        pub served : AreServed merges (drive_from first from) asking guests h (failed_by closed) w.broken
         served = record {
-          told = each_map Heard (λ guest outcomes. AreOutcomes (drive_from first from) h (failed_by closed) guest 1 (forms_of guest lines) outcomes) 1 guests (λ g os. outcomes_are g 1 (forms_of g lines) os) j.heard;
+          told = each_map Heard (λ guest outcomes. AreOutcomes (drive_from first from) h (failed_by closed) guest 1 (asking.calls guest) outcomes) 1 guests (λ g os. outcomes_are g 1 (asking.calls g) os) j.heard;
           order = j.order;
           unread = j.unread;
           all = all_places;
           breaker = w.by;
         }
 
-      pub served_all : first.layers.geometry.sector ≡ 512 → WhereTold (disk first.store).told (λ trace. (from : State) → IsServing first.layers from trace → from.history ≡ [] → AreServed merges (drive_from first from) lines guests h (failed_by closed) w.broken)
+      pub served_all : first.layers.geometry.sector ≡ 512 → WhereTold (disk first.store).told (λ trace. (from : State) → IsServing first.layers from trace → from.history ≡ [] → AreServed merges (drive_from first from) asking guests h (failed_by closed) w.broken)
       served_all sector trace store_told from serving empty = served from (sym (ap (λ (g : Geometry). g.sector) serving.geometry) ∙ sector) trace store_told serving empty
 
       -- ---- what was told of faults
@@ -536,16 +517,16 @@ module _ {S T : Type 0} (disk : S → Disk) (first : Chain S KeepAll T) where
         fault_told call NoPiece k = tt
         fault_told call NoRoom k = tt
 
-        faults_heard : (guest number : ℕ) (forms : List Form) (outcomes : List Outcome) → AreHeard disk first seat guest number forms outcomes → AllByRecursion IsFault (flat_map told_of outcomes)
-        faults_heard guest number forms [] k = tt
+        faults_heard : (guest number : ℕ) (calls : List Call) (outcomes : List Outcome) → AreHeard disk first seat guest number calls outcomes → AllByRecursion IsFault (flat_map told_of outcomes)
+        faults_heard guest number calls [] k = tt
         faults_heard guest number [] (o ∷ outcomes) k = absurd k
-        faults_heard guest number (f ∷ forms) (Ok (place, Ok reply) ∷ outcomes) k = (tt, faults_heard guest (number + 1) forms outcomes k.1)
-        faults_heard guest number (f ∷ forms) (Ok (place, Err fault) ∷ outcomes) k = faults_heard guest (number + 1) forms outcomes k.1
-        faults_heard guest number (f ∷ forms) (Err x ∷ outcomes) k = (fault_told (call_of f) x k.0, faults_heard guest (number + 1) forms outcomes k.1)
+        faults_heard guest number (c ∷ calls) (Ok (place, Ok reply) ∷ outcomes) k = (tt, faults_heard guest (number + 1) calls outcomes k.1)
+        faults_heard guest number (c ∷ calls) (Ok (place, Err fault) ∷ outcomes) k = faults_heard guest (number + 1) calls outcomes k.1
+        faults_heard guest number (c ∷ calls) (Err x ∷ outcomes) k = (fault_told c x k.0, faults_heard guest (number + 1) calls outcomes k.1)
 
         pub faults_told : FaultsAreTold (all_told guests) (failed_by closed) (disk first.store).files (disk first.store).failed_changes after.failed_reads after.failed_changes
         faults_told = record {
-          each = all_told_are IsFault (flat_map told_of) 1 guests (each_map Heard (λ g os. AllByRecursion IsFault (flat_map told_of os)) 1 guests (λ g os. faults_heard g 1 (forms_of g lines) os) j.heard);
+          each = all_told_are IsFault (flat_map told_of) 1 guests (each_map Heard (λ g os. AllByRecursion IsFault (flat_map told_of os)) 1 guests (λ g os. faults_heard g 1 (asking.calls g) os) j.heard);
           end = end closed counted.end;
           none = none closed counted.none;
         }
@@ -557,3 +538,30 @@ module _ {S T : Type 0} (disk : S → Disk) (first : Chain S KeepAll T) where
             none : (r : Result (Unit {0}) StoreFault) → OnOk r (after.failed_changes ≡ (disk first.store).failed_changes) → failed_by r ≡ None → after.failed_changes ≡ (disk first.store).failed_changes
             none (Ok done) k e = k
             none (Err f) k e = absurd (some_none e)
+
+  -- ---- the transcript
+
+  module _ (merges : Bool) (lock : TableId) (names : List (List ℕ)) (lines : List Line) (seat : Known Step (Basis S T)) (told : List (List ToldCall)) (short : Bool) (guests : List (List Outcome)) (j : AreJoined disk first merges lock (asked_by lines) seat guests) (words : AreKept names lines told short guests)
+      (v : Shared (Chain S KeepAll T)) (broke : Option Breach) (seen_is : steps_of v.chain.recorder broke ≡ seat.seen) (basis : Contains (basis_of disk v) seat.basis) (places : (p : ℕ) → times p seat.mine ≡ once_between p 1 (length seat.seen + 1)) (refusals : seat.refusals ≡ 0) (few : v.chain.events < 2 ^ 63) where
+    abbrev HeardBy : ℕ → List Outcome → Type 0
+    HeardBy guest outcomes = AreHeard disk first seat guest 1 ((asked_by lines).calls guest) outcomes
+
+    pub all_called : short ≡ false → All (IsTold told) v.chain.recorder
+    all_called memory i d within =
+        let k = words.kept memory in
+        let placed = all_places merges lock (asked_by lines) seat guests j v broke seen_is basis places refusals few (i + 1) (omega arith) (omega (arith, within)) in
+        let o = some_told (λ g os. Has (i + 1) (places_in os) × HeardBy g os) names lines 1 guests (some_and HeardBy (λ g os. Has (i + 1) (places_in os)) (λ g os. Has (i + 1) (places_in os) × HeardBy g os) 1 guests (λ g os a b. (b, a)) j.heard placed) k.0 in
+        let a = heard_at seat o.0 1 (i + 1) ((asked_by lines).calls o.0) o.1 o.2.1 o.2.0 in
+        let starts = starts_more v.chain.recorder a.before broke (entry_of o.0 a.no a.call) (as_history merges lock (asked_by lines) seat guests j v broke seen_is basis places refusals few a.begins) in
+        let is : get_or v.chain.recorder i d ≡ entry_of o.0 a.no a.call = ap (λ n. get_or v.chain.recorder n d) {x = i} {y = length a.before} (omega (arith, a.place_is)) ∙ entry_at v.chain.recorder a.before (entry_of o.0 a.no a.call) d starts in
+        subst (IsTold told) (sym is) (subst (λ ts. IsTold ts (entry_of o.0 a.no a.call)) (sym k.1) (record {
+          lowest_guest = o.3;
+          highest_guest = omega (arith, o.4, told_guests_count names 1 lines guests);
+          lowest_number = a.low;
+          highest_number = omega (arith, a.high, o.5);
+        }))
+
+pub transcript_is : {Z : Type 0} (names : List (List ℕ)) (lines : List Line) (told : List (List ToldCall)) (short : Bool) (guests : List (List Outcome)) (h : History) → AreKept names lines told short guests → (r : Result (String Z) Want)
+    → IfOk r (λ text. (short ≡ false) × (string_bytes text ≡ serve_text h told)) → IfOk r (λ text. IsTranscript names lines guests h (string_bytes text))
+transcript_is names lines told short guests h words (Ok text) t = let k = words.kept t.0 in record { whole = k.0; text_is = t.1 ∙ ap (serve_text h) k.1 }
+transcript_is names lines told short guests h words (Err e) t = tt

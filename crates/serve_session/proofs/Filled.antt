@@ -10,8 +10,6 @@ use Rattle.guest_model.specs.declared.recorder.KeepAll.{KeepAll}
 use Rattle.guest_model.specs.declared.refusal.ChainRefusal.{ChainRefusal}
 use Rattle.guest_model.specs.declared.refusal.ChainRefusal.TheVariants.{Abandoned, Broken, EmptyRange, FileFull, NoMerge, NoPiece, NoRoom, NoStripe, NotYet, OutOfRange, ReadFault, ReadOnly, Spent, Stale, TooLong}
 use Rattle.chain_core.specs.declared.chain.Chain.{Chain}
-use Rattle.script.specs.declared.form.Form.{Form}
-use Rattle.script.specs.declared.form.Line.{Line}
 use Rattle.script_session.specs.Histories.{IsEndTold, IsSoLong}
 use Rattle.shared_chain.specs.declared.basis.Note.{Note}
 use Rattle.shared_chain.specs.declared.basis.Note.TheVariants as notes
@@ -22,7 +20,7 @@ use Rattle.shared_chain.specs.Notes.{HasNote}
 use Rattle.turn_lock.specs.Seats.{Known}
 use Rattle.shared_chain.specs.declared.basis.Basis.{Basis}
 use Rattle.serve_session.specs.Actors.{AreHeard, IsHeardOf}
-use Rattle.serve_session.specs.Served.{EachGuest, Outcome, all_told, call_of, forms_of, told_of}
+use Rattle.serve_session.specs.Served.{Asking, EachGuest, Outcome, all_told, told_of}
 use Rattle.serve_session.specs.Serving.{IsUpTo}
 use Rattle.serve_session.proofs.Guests.{all_told_are, each_map}
 
@@ -81,17 +79,17 @@ module _ {S T : Type 0} (disk : S → Disk) (first : Chain S KeepAll T) (seat : 
   end_heard call NoPiece k = tt
   end_heard call NoRoom k = tt
 
-  ends_heard : (guest number : ℕ) (forms : List Form) (outcomes : List Outcome) → AreHeard disk first seat guest number forms outcomes → AllByRecursion (IsEndTold (IsUpTo full)) (flat_map told_of outcomes)
-  ends_heard guest number forms [] k = tt
+  ends_heard : (guest number : ℕ) (calls : List Call) (outcomes : List Outcome) → AreHeard disk first seat guest number calls outcomes → AllByRecursion (IsEndTold (IsUpTo full)) (flat_map told_of outcomes)
+  ends_heard guest number calls [] k = tt
   ends_heard guest number [] (o ∷ outcomes) k = absurd k
-  ends_heard guest number (f ∷ forms) (Ok (place, Ok reply) ∷ outcomes) k = (tt, ends_heard guest (number + 1) forms outcomes k.1)
-  ends_heard guest number (f ∷ forms) (Ok (place, Err fault) ∷ outcomes) k = ends_heard guest (number + 1) forms outcomes k.1
-  ends_heard guest number (f ∷ forms) (Err x ∷ outcomes) k = (end_heard (call_of f) x k.0, ends_heard guest (number + 1) forms outcomes k.1)
+  ends_heard guest number (c ∷ calls) (Ok (place, Ok reply) ∷ outcomes) k = (tt, ends_heard guest (number + 1) calls outcomes k.1)
+  ends_heard guest number (c ∷ calls) (Ok (place, Err fault) ∷ outcomes) k = ends_heard guest (number + 1) calls outcomes k.1
+  ends_heard guest number (c ∷ calls) (Err x ∷ outcomes) k = (end_heard c x k.0, ends_heard guest (number + 1) calls outcomes k.1)
 
-  pub ends_told : (lines : List Line) (guests : List (List Outcome)) → EachGuest (λ guest outcomes. AreHeard disk first seat guest 1 (forms_of guest lines) outcomes) 1 guests → AllByRecursion (IsEndTold (IsUpTo full)) (all_told guests)
-  ends_told lines guests heard =
+  pub ends_told : (asking : Asking) (guests : List (List Outcome)) → EachGuest (λ guest outcomes. AreHeard disk first seat guest 1 (asking.calls guest) outcomes) 1 guests → AllByRecursion (IsEndTold (IsUpTo full)) (all_told guests)
+  ends_told asking guests heard =
       all_told_are (IsEndTold (IsUpTo full)) (flat_map told_of) 1 guests
-      (each_map (λ g os. AreHeard disk first seat g 1 (forms_of g lines) os) (λ g os. AllByRecursion (IsEndTold (IsUpTo full)) (flat_map told_of os)) 1 guests (λ g os. ends_heard g 1 (forms_of g lines) os) heard)
+      (each_map (λ g os. AreHeard disk first seat g 1 (asking.calls g) os) (λ g os. AllByRecursion (IsEndTold (IsUpTo full)) (flat_map told_of os)) 1 guests (λ g os. ends_heard g 1 (asking.calls g) os) heard)
 
 -- a file that is so long reaches each lower unit
 pub long_up : (full : Option ℕ) (may : ℕ → Bool) (now : Trace) → IfSome full (IsSoLong may now) → (next : ℕ) → IsUpTo full next → IsSoLong may now next

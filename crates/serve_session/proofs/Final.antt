@@ -1,6 +1,6 @@
 -- What serving guests leaves, with the end of the session.
 use Rattle.std.proofs.Common.{◌≡◌, ◌⊎◌, ◌+◌, ◌-◌, ◌*◌, ◌^◌, ◌<◌, ◌≤◌, ◌++◌, ℕ, zero, suc, Bool, true, false, [], List, length, min, replicate, Option, None, Some, Result, Ok, Err, inl, inr, refl, sym, ap, ap₂, subst, ◌∙◌, arith}
-use Rattle.std.specs.Prelude.{◌||◌, All, IfErr, IfOk, IfSome, IsErr, OnOk, String, is_some, string_bytes}
+use Rattle.std.specs.Prelude.{◌||◌, All, IfErr, IfOk, IfSome, IsErr, OnOk, String, is_err, is_some, string_bytes}
 use Rattle.std.proofs.lemmas.Result.{on_ok_weaker}
 use Rattle.std.specs.List.{AllByRecursion, flat_map}
 use Rattle.std.proofs.lemmas.List.{length-replicate}
@@ -46,10 +46,10 @@ use Rattle.serve_session.specs.declared.actor.Actor.{Actor}
 use Rattle.serve_session.specs.Actors.{AreJoined, HasRun, IsFrom, first_notes}
 use Rattle.serve_session.specs.Sealing.{IsSetFor}
 use Rattle.serve_session.specs.Lists.{AreActors, AreFresh, IsReady, RunsEach, with_splits}
-use Rattle.serve_session.specs.MergeServed.{StopsMerge}
-use Rattle.serve_session.specs.Served.{EachGuest, IsBreakOf, IsTranscript, Outcome, all_unread, greatest_from, guest_count, told_of, unread_in}
-use Rattle.serve_session.specs.Serving.{EndsAs, HasBegun, HasServed, IsNearEnd, IsShared, WasShared}
-use Rattle.serve_session.specs.declared.merging.MergeRun.{MergeRun}
+use Rattle.serve_session.specs.Endings.{Ending, StopsMerge, ending_of}
+use Rattle.serve_session.specs.Served.{Asking, EachGuest, IsBreakOf, IsTranscript, Outcome, all_unread, asked_by, greatest_from, guest_count, told_of, unread_in}
+use Rattle.serve_session.specs.Serving.{EndsAs, HasBegun, HasServed, HasServedScript, IsNearEnd, IsShared, WasShared}
+use Rattle.serve_session.specs.Written.{AreKept, IsWritten}
 use Rattle.serve_session.proofs.Hearing.{nothing}
 use Rattle.serve_session.proofs.Filled.{ends_told, full_noted}
 use Rattle.serve_session.proofs.Joining.{all_run, fresh_ready, none_joined}
@@ -88,6 +88,22 @@ none_under layers none = ap₂ (λ (o : Option Underway) (r : Option Retiring). 
 pub few_guests : (n m : ℕ) → n ≡ min m 64 → n ≤ 64
 few_guests n m e = omega (arith, e)
 
+-- where there is no transcript memory ran out
+pub none_short : {Z : Type 0} (r : Result (String Z) NoRoom) → IfOk r (λ text. ⊥) → is_err r ≡ true
+none_short (Ok text) none = absurd none
+none_short (Err e) none = refl
+
+-- no call was made, and no word is told of one
+pub none_written : (names : List (List ℕ)) (lines : List Line) (run : ScriptRun) (tally : Tally) → tally ≡ no_tally → IfOk run.transcript (λ text. ⊥) → IsWritten names lines (replicate (guest_count lines) []) [] run tally
+none_written names lines run tally no_call none = record {
+  transcript = none_of (λ text. IsTranscript names lines (replicate (guest_count lines) []) [] (string_bytes text)) run.transcript none;
+  tally_is = subst (λ t. AddsUp t (all_outcomes (replicate (guest_count lines) []))) (sym no_call) (none_add_all (guest_count lines));
+}
+  where
+    none_of : {Z : Type 0} (P : String Z → Type 0) (r : Result (String Z) NoRoom) → IfOk r (λ text. ⊥) → IfOk r P
+    none_of P (Ok text) h = absurd h
+    none_of P (Err e) h = tt
+
 module _ {S T : Type 0} (disk : S → Disk) where
   -- the first seat of a lock over a chain whose session has just begun
   module _ (v : Shared (Chain S KeepAll T)) (fresh : v ≡ record { chain = v.first; first = v.first; full = None; broke = None; fault = None; copied = v.copied; finished = false }) (whole : v.first.broken ≡ None) (lock : TableId) (made : Known Step (Basis S T)) (is : made ≡ first_seat lock 0 (basis_of disk v)) where
@@ -107,9 +123,9 @@ module _ {S T : Type 0} (disk : S → Disk) where
     pub made_run : v.first.layers.geometry.sector ≡ 512 → (names : List (List ℕ)) (lines : List Line) (n : ℕ) (old new : List (Actor S T)) → AreFresh (IsSetFor disk v.first) made n old → RunsEach disk lock names lines old new → AreActors (HasRun disk v.first lock names lines) n new
     made_run sector names lines n old new h runs = all_run disk v.first lock names lines made n old new (ap (λ (s : Known Step (Basis S T)). s.lock) is) made_knows sector h runs
 
-    pub made_none : (names : List (List ℕ)) (lines : List Line) (n : ℕ) (seat : Known Step (Basis S T)) → seat ≡ with_splits made n → AreJoined disk v.first false lock names lines seat [] false []
-    made_none names lines n seat split = subst (λ (s : Known Step (Basis S T)). AreJoined disk v.first false lock names lines s [] false []) (sym split)
-        (none_joined disk v.first lock names lines (with_splits made n) (ap (λ (s : Known Step (Basis S T)). s.lock) is, ap (λ (s : Known Step (Basis S T)). s.turn) is) (ap (λ (s : Known Step (Basis S T)). s.family.is_first) is) made_knows (ap (λ (s : Known Step (Basis S T)). s.mine) is))
+    pub made_none : (asking : Asking) (n : ℕ) (seat : Known Step (Basis S T)) → seat ≡ with_splits made n → AreJoined disk v.first false lock asking seat []
+    made_none asking n seat split = subst (λ (s : Known Step (Basis S T)). AreJoined disk v.first false lock asking s []) (sym split)
+        (none_joined disk v.first lock asking (with_splits made n) (ap (λ (s : Known Step (Basis S T)). s.lock) is, ap (λ (s : Known Step (Basis S T)). s.turn) is) (ap (λ (s : Known Step (Basis S T)). s.family.is_first) is) made_knows (ap (λ (s : Known Step (Basis S T)). s.mine) is))
 
     -- and all that were split from it are joined
     pub made_all : (n m n' m' : ℕ) (a b j k : Known Step (Basis S T)) → a ≡ with_splits made n → b ≡ with_splits a m → j.family ≡ record (b.family) { joins = b.family.joins + n' } → k.family ≡ record (j.family) { joins = j.family.joins + m' } → n' ≡ n → m' ≡ m
@@ -127,17 +143,17 @@ module _ {S T : Type 0} (disk : S → Disk) where
         let k_splits : k.family.splits ≡ j.family.splits = ap (λ (f : Family). f.splits) k_is in
         omega (arith, made_joins, made_splits, a_joins, a_splits, b_joins, b_splits, j_joins, j_splits, k_joins, k_splits, ns, ms)
 
-  -- no turn was refused, and few events there were
-  pub few_turns : (lock : TableId) (basis : Basis S T) (made a b j k : Known Step (Basis S T)) (splits others n m most events : ℕ) → made ≡ first_seat lock 0 basis → a ≡ with_splits made splits → b ≡ with_splits a others
-      → j.first_ticket ≡ b.first_ticket → j.drawn ≤ b.drawn + 2 ^ 20 * n → k.first_ticket ≡ j.first_ticket → k.drawn ≤ j.drawn + 2 ^ 34 * m → n ≡ min most 64 → m ≤ 64
-      → IfSome k.first_ticket (λ t. k.refusals ≡ t + k.drawn - 2 ^ 63) → IfSome k.first_ticket (λ t. events ≤ 2 * (t + k.drawn)) → (k.refusals ≡ 0) × (events ≤ 2 ^ 42)
-  few_turns lock basis made a b j k splits others n m most events is a_is b_is j_first j_drawn k_first k_drawn guests workers refused worked =
+  -- no turn was refused, and few events there were, where the guests drew so many tickets at most
+  pub few_turns : (lock : TableId) (basis : Basis S T) (made a b j k : Known Step (Basis S T)) (splits others m events : ℕ) → made ≡ first_seat lock 0 basis → a ≡ with_splits made splits → b ≡ with_splits a others
+      → j.first_ticket ≡ b.first_ticket → j.drawn ≤ b.drawn + 2 ^ 58 → k.first_ticket ≡ j.first_ticket → k.drawn ≤ j.drawn + 2 ^ 34 * m → m ≤ 64
+      → IfSome k.first_ticket (λ t. k.refusals ≡ t + k.drawn - 2 ^ 63) → IfSome k.first_ticket (λ t. events ≤ 2 * (t + k.drawn)) → (k.refusals ≡ 0) × (events ≤ 2 ^ 60)
+  few_turns lock basis made a b j k splits others m events is a_is b_is j_first j_drawn k_first k_drawn workers refused worked =
       let first : k.first_ticket ≡ Some 0 =
       k_first ∙ j_first ∙ ap (λ (s : Known Step (Basis S T)). s.first_ticket) b_is ∙ ap (λ (s : Known Step (Basis S T)). s.first_ticket) a_is ∙ ap (λ (s : Known Step (Basis S T)). s.first_ticket) is in
       let none : b.drawn ≡ 0 = ap (λ (s : Known Step (Basis S T)). s.drawn) b_is ∙ ap (λ (s : Known Step (Basis S T)). s.drawn) a_is ∙ ap (λ (s : Known Step (Basis S T)). s.drawn) is in
       let r = subst (λ o. IfSome o (λ t. k.refusals ≡ t + k.drawn - 2 ^ 63)) first refused in
       let w = subst (λ o. IfSome o (λ t. events ≤ 2 * (t + k.drawn))) first worked in
-      (omega (arith, r, none, j_drawn, k_drawn, guests, workers), omega (arith, w, none, j_drawn, k_drawn, guests, workers))
+      (omega (arith, r, none, j_drawn, k_drawn, workers), omega (arith, w, none, j_drawn, k_drawn, workers))
 
   -- a chain that was just made to be shared
   pub begun_is : (chain : Chain S KeepAll T) (s : Shared (Chain S KeepAll T)) → s ≡ record { chain = chain; first = chain; full = None; broke = None; fault = None; copied = s.copied; finished = false } → IsSound (session_of disk chain) → chain.recorder ≡ [] → chain.broken ≡ None → chain.events ≡ 0 → HasBegun disk s
@@ -200,15 +216,15 @@ module _ {S T : Type 0} (disk : S → Disk) where
     few = e.stepped.few;
   }
 
-  module _ (merges : Bool) (old mid v : Shared (Chain S KeepAll T)) (merged : Result (Unit {0}) ChainRefusal) (so : EndedSo merges mid v merged) (run : ScriptRun) (after : Disk) (ended : IsEnded (session_of disk v.chain) after run.closed) (fault : run.fault ≡ v.fault)
-      (counted : EndsCounted (disk v.first.store) after v.fault run.closed) (errs : IfSome v.broke (λ b. IsErr run.closed)) (leaves : LeavesHistory (session_of disk v.first) v.chain.recorder v.full v.broke (has_merge v.chain.layers) run.closed after) where
+  module _ (merges : Bool) (old mid v : Shared (Chain S KeepAll T)) (merged : Result (Unit {0}) ChainRefusal) (so : EndedSo merges mid v merged) (end : Ending) (after : Disk) (ended : IsEnded (session_of disk v.chain) after end.closed) (fault : end.fault ≡ v.fault)
+      (counted : EndsCounted (disk v.first.store) after v.fault end.closed) (errs : IfSome v.broke (λ b. IsErr end.closed)) (leaves : LeavesHistory (session_of disk v.first) v.chain.recorder v.full v.broke (has_merge v.chain.layers) end.closed after) where
     -- what was told at the end stands in what was run
-    stops_run : v.chain.events < 2 ^ 63 → (x : ChainRefusal) → StopsEnd disk v x → StopsMerge run x
+    stops_run : v.chain.events < 2 ^ 63 → (x : ChainRefusal) → StopsEnd disk v x → StopsMerge end x
     stops_run small EmptyRange k = absurd k
     stops_run small (OutOfRange a b c) k = absurd k
     stops_run small (TooLong a b) k = absurd k
     stops_run small ReadOnly k = absurd k
-    stops_run small (Broken file count) k = (subst (λ o. IfSome o (λ f. (run.closed ≡ Err f) × (after ≡ disk v.chain.store))) k ended.broken).0
+    stops_run small (Broken file count) k = (subst (λ o. IfSome o (λ f. (end.closed ≡ Err f) × (after ≡ disk v.chain.store))) k ended.broken).0
     stops_run small (Spent t) k = absurd (omega (arith, k.0, k.1, small))
     stops_run small (FileFull next) k = tt
     stops_run small (ReadFault file count) k = fault ∙ k.1
@@ -220,15 +236,15 @@ module _ {S T : Type 0} (disk : S → Disk) where
     stops_run small NoPiece k = absurd k
     stops_run small NoMemory k = absurd k
 
-    kept_run : v.chain.events < 2 ^ 63 → (x : ChainRefusal) → StopsEnd disk v x → OnOk run.closed (has_merge v.chain.layers ≡ true)
+    kept_run : v.chain.events < 2 ^ 63 → (x : ChainRefusal) → StopsEnd disk v x → OnOk end.closed (has_merge v.chain.layers ≡ true)
     kept_run small EmptyRange k = absurd k
     kept_run small (OutOfRange a b c) k = absurd k
     kept_run small (TooLong a b) k = absurd k
     kept_run small ReadOnly k = absurd k
-    kept_run small (Broken file count) k = subst (λ r. OnOk r (has_merge v.chain.layers ≡ true)) (sym (subst (λ o. IfSome o (λ f. (run.closed ≡ Err f) × (after ≡ disk v.chain.store))) k ended.broken).0) tt
+    kept_run small (Broken file count) k = subst (λ r. OnOk r (has_merge v.chain.layers ≡ true)) (sym (subst (λ o. IfSome o (λ f. (end.closed ≡ Err f) × (after ≡ disk v.chain.store))) k ended.broken).0) tt
     kept_run small (Spent t) k = absurd (omega (arith, k.0, k.1, small))
-    kept_run small (FileFull next) k = any_ok run.closed k.0
-    kept_run small (ReadFault file count) k = any_ok run.closed k.0
+    kept_run small (FileFull next) k = any_ok end.closed k.0
+    kept_run small (ReadFault file count) k = any_ok end.closed k.0
     kept_run small NoMerge k = absurd k
     kept_run small (Stale taken now) k = absurd k
     kept_run small (NotYet stripe) k = absurd k
@@ -259,107 +275,96 @@ module _ {S T : Type 0} (disk : S → Disk) where
     each_err P Q f (Err x) k = f x k
 
     -- threads shared the chain
-    pub all_served : (names : List (List ℕ)) (lines : List Line) (told : List (List ToldCall)) (short : Bool) (unread : ℕ) (tally : Tally) → WasShared disk merges old names lines mid told short unread tally → old.first.layers.geometry.sector ≡ 512
-        → IfOk run.transcript (λ text. (short ≡ false) × (string_bytes text ≡ serve_text v.chain.recorder told)) → HasServed disk merges old.first names lines (record { run = run; unread = unread; tally = tally; merged = merged }) after
-    all_served names lines told short unread tally s sector text =
+    pub all_served : (asking : Asking) (guests : List (List Outcome)) → WasShared disk merges old asking mid guests end.unread → old.first.layers.geometry.sector ≡ 512 → HasServed disk merges old.first asking guests v.chain.recorder end merged after
+    all_served asking guests s sector =
         let small : v.chain.events < 2 ^ 63 = omega (arith, so.few, s.few) in
         let history : steps_of v.chain.recorder mid.broke ≡ s.seat.seen = ap (λ k. steps_of k mid.broke) so.history ∙ s.history in
         let basis : Contains (basis_of disk v) s.seat.basis = contains_through (basis_of disk v) (basis_of disk mid) s.seat.basis so.basis s.basis in
-        let same : v.first ≡ old.first = first_is disk old.first merges s.lock names lines s.seat told short s.guests s.joined v mid.broke history basis s.places s.refusals small in
-        let w = which disk old.first merges s.lock names lines s.seat told short s.guests s.joined v mid.broke history basis s.places s.refusals small run.closed errs so.broke in
-        let counted_first : EndsCounted (disk old.first.store) after v.fault run.closed = subst (λ (c : Chain S KeepAll T). EndsCounted (disk c.store) after v.fault run.closed) same counted in
+        let same : v.first ≡ old.first = first_is disk old.first merges s.lock asking s.seat guests s.joined v mid.broke history basis s.places s.refusals small in
+        let w = which disk old.first merges s.lock asking s.seat guests s.joined v mid.broke history basis s.places s.refusals small end.closed errs so.broke in
+        let counted_first : EndsCounted (disk old.first.store) after v.fault end.closed = subst (λ (c : Chain S KeepAll T). EndsCounted (disk c.store) after v.fault end.closed) same counted in
         record {
-          guests = s.guests;
-          history = v.chain.recorder;
           broken = w.broken;
           breach = v.broke;
           opens = w.opens;
           count = s.count;
-          served = served_all disk old.first merges s.lock names lines s.seat told short s.guests s.joined v mid.broke history basis s.places s.refusals small after run.closed ended w sector;
-          transcript = transcript_is disk old.first merges s.lock names lines s.seat told short s.guests s.joined v mid.broke history basis s.places s.refusals small run.transcript text;
-          counted = subst (λ f. EndsCounted (disk old.first.store) after f run.closed) (sym fault) counted_first;
-          faults = faults_told disk old.first merges s.lock names lines s.seat told short s.guests s.joined v mid.broke history basis s.places s.refusals small after run.closed ended w counted_first;
-          unread = unread_of_store disk old.first merges s.lock names lines s.seat told short s.guests s.joined v mid.broke history basis s.places s.refusals small;
+          served = served_all disk old.first merges s.lock asking s.seat guests s.joined v mid.broke history basis s.places s.refusals small after end.closed ended w sector;
+          counted = subst (λ f. EndsCounted (disk old.first.store) after f end.closed) (sym fault) counted_first;
+          faults = faults_told disk old.first merges s.lock asking s.seat guests s.joined v mid.broke history basis s.places s.refusals small after end.closed ended w counted_first;
+          unread = unread_of_store disk old.first merges s.lock asking s.seat guests s.joined v mid.broke history basis s.places s.refusals small;
           unfetched = s.unfetched;
           none_fetched = s.none_fetched;
           unread_is = s.unread_is;
-          tally_is = s.tally_is;
           full = v.full;
-          ends = ends_told disk old.first s.seat v.full (λ next h. full_noted next (disk v.chain.store) v.chain.broken v.full (basis.notes (notes.Full next) h)) lines s.guests s.joined.heard;
+          ends = ends_told disk old.first s.seat v.full (λ next h. full_noted next (disk v.chain.store) v.chain.broken v.full (basis.notes (notes.Full next) h)) asking guests s.joined.heard;
           under_way = has_merge v.chain.layers;
-          leaves = subst (λ (c : Chain S KeepAll T). LeavesHistory (session_of disk c) v.chain.recorder v.full v.broke (has_merge v.chain.layers) run.closed after) same leaves;
+          leaves = subst (λ (c : Chain S KeepAll T). LeavesHistory (session_of disk c) v.chain.recorder v.full v.broke (has_merge v.chain.layers) end.closed after) same leaves;
           finished = so.finished;
-          kept = λ some. each_err (StopsEnd disk v) (λ x. OnOk run.closed (has_merge v.chain.layers ≡ true)) (kept_run small) merged so.stopped;
-          stopped = each_err (StopsEnd disk v) (StopsMerge run) (stops_run small) merged so.stopped;
+          kept = λ some. each_err (StopsEnd disk v) (λ x. OnOk end.closed (has_merge v.chain.layers ≡ true)) (kept_run small) merged so.stopped;
+          stopped = each_err (StopsEnd disk v) (StopsMerge end) (stops_run small) merged so.stopped;
           near = subst (λ (c : Chain S KeepAll T). IfErr merged (IsNearEnd disk c v.full)) same (each_err (StopsEnd disk v) (IsNearEnd disk v.first v.full) near_run merged so.stopped);
         }
 
     -- memory ran out before a call was made
-    pub none_served : (names : List (List ℕ)) (lines : List Line) (unread : ℕ) (tally : Tally) → unread ≡ 0 → tally ≡ no_tally → HasBegun disk old → mid ≡ old → IfOk run.transcript (λ text. ⊥) → HasServed disk merges old.first names lines (record { run = run; unread = unread; tally = tally; merged = merged }) after
-    none_served names lines unread tally no_read no_call begun same_mid none =
+    pub none_served : (asking : Asking) → end.unread ≡ 0 → HasBegun disk old → mid ≡ old → HasServed disk merges old.first asking (replicate asking.count []) [] end merged after
+    none_served asking no_read begun same_mid =
         let same : v.first ≡ old.first = so.first ∙ ap (λ (s : Shared (Chain S KeepAll T)). s.first) same_mid in
         let empty : v.chain.recorder ≡ [] = so.history ∙ ap (λ (s : Shared (Chain S KeepAll T)). s.chain.recorder) same_mid ∙ ap (λ (s : Shared (Chain S KeepAll T)). s.chain.recorder) begun.fresh ∙ begun.empty in
         let whole : mid.broke ≡ None = ap (λ (s : Shared (Chain S KeepAll T)). s.broke) same_mid ∙ ap (λ (s : Shared (Chain S KeepAll T)). s.broke) begun.fresh in
         let none_yet : mid.chain.events ≡ 0 = ap (λ (s : Shared (Chain S KeepAll T)). s.chain.events) same_mid ∙ ap (λ (s : Shared (Chain S KeepAll T)). s.chain.events) begun.fresh ∙ begun.none in
         let small : v.chain.events < 2 ^ 63 = omega (arith, so.few, none_yet) in
         let w = broke_none so.broke whole in
-        let counted_first : EndsCounted (disk old.first.store) after v.fault run.closed = subst (λ (c : Chain S KeepAll T). EndsCounted (disk c.store) after v.fault run.closed) same counted in
+        let counted_first : EndsCounted (disk old.first.store) after v.fault end.closed = subst (λ (c : Chain S KeepAll T). EndsCounted (disk c.store) after v.fault end.closed) same counted in
         record {
-          guests = replicate (guest_count lines) [];
-          history = [];
           broken = w.0;
           breach = v.broke;
           opens = w.2;
-          count = length-replicate (guest_count lines) [];
+          count = length-replicate asking.count [];
           served = λ trace told from serving began. record {
-            told = each_empty _ (λ g. tt) (guest_count lines) 1;
-            order = each_empty _ (λ g. tt) (guest_count lines) 1;
-            unread = each_empty _ (λ g. tt) (guest_count lines) 1;
+            told = each_empty _ (λ g. tt) asking.count 1;
+            order = each_empty _ (λ g. tt) asking.count 1;
+            unread = each_empty _ (λ g. tt) asking.count 1;
             all = λ p low high. absurd (omega (arith, low, high));
-            breaker = w.1 lines;
+            breaker = w.1 asking;
           };
-          transcript = none_of (λ text. IsTranscript names lines (replicate (guest_count lines) []) [] (string_bytes text)) run.transcript none;
-          counted = subst (λ f. EndsCounted (disk old.first.store) after f run.closed) (sym fault) counted_first;
+          counted = subst (λ f. EndsCounted (disk old.first.store) after f end.closed) (sym fault) counted_first;
           faults = record {
-            each = all_empty _ (flat_map told_of) refl (guest_count lines);
-            end = changed_end (disk old.first.store).files after run.closed counted_first.files counted_first.end;
-            none = changed_none (disk old.first.store) after run.closed counted_first.none;
+            each = all_empty _ (flat_map told_of) refl asking.count;
+            end = changed_end (disk old.first.store).files after end.closed counted_first.files counted_first.end;
+            none = changed_none (disk old.first.store) after end.closed counted_first.none;
           };
-          unread = all_empty _ unread_in refl (guest_count lines);
+          unread = all_empty _ unread_in refl asking.count;
           unfetched = 0;
           none_fetched = λ none. refl;
-          unread_is = (let none = unread_none (guest_count lines) in omega (arith, no_read, none));
-          tally_is = subst (λ t. AddsUp t (all_outcomes (replicate (guest_count lines) []))) (sym no_call) (none_add_all (guest_count lines));
+          unread_is = (let none = unread_none asking.count in omega (arith, no_read, none));
           full = v.full;
-          ends = all_empty _ (flat_map told_of) refl (guest_count lines);
+          ends = all_empty _ (flat_map told_of) refl asking.count;
           under_way = has_merge v.chain.layers;
-          leaves = subst (λ h. LeavesHistory (session_of disk old.first) h v.full v.broke (has_merge v.chain.layers) run.closed after) empty
-              (subst (λ (c : Chain S KeepAll T). LeavesHistory (session_of disk c) v.chain.recorder v.full v.broke (has_merge v.chain.layers) run.closed after) same leaves);
+          leaves = subst (λ h. LeavesHistory (session_of disk old.first) h v.full v.broke (has_merge v.chain.layers) end.closed after) empty
+              (subst (λ (c : Chain S KeepAll T). LeavesHistory (session_of disk c) v.chain.recorder v.full v.broke (has_merge v.chain.layers) end.closed after) same leaves);
           finished = so.finished;
-          kept = λ some. each_err (StopsEnd disk v) (λ x. OnOk run.closed (has_merge v.chain.layers ≡ true)) (kept_run small) merged so.stopped;
-          stopped = each_err (StopsEnd disk v) (StopsMerge run) (stops_run small) merged so.stopped;
+          kept = λ some. each_err (StopsEnd disk v) (λ x. OnOk end.closed (has_merge v.chain.layers ≡ true)) (kept_run small) merged so.stopped;
+          stopped = each_err (StopsEnd disk v) (StopsMerge end) (stops_run small) merged so.stopped;
           near = subst (λ (c : Chain S KeepAll T). IfErr merged (IsNearEnd disk c v.full)) same (each_err (StopsEnd disk v) (IsNearEnd disk v.first v.full) near_run merged so.stopped);
         }
       where
-        none_of : {Z : Type 0} (P : String Z → Type 0) (r : Result (String Z) NoRoom) → IfOk r (λ text. ⊥) → IfOk r P
-        none_of P (Ok text) h = absurd h
-        none_of P (Err e) h = tt
-
         broke_none : (v.broke ≡ mid.broke) ⊎ ((merges ≡ true) × (mid.broke ≡ None) × (v.broke ≡ Some merge_breach)) → mid.broke ≡ None
-            → (broken : Option Break) × ((lines : List Line) → IfSome broken (IsBreakOf merges lines (replicate (guest_count lines) []) (failed_by run.closed))) × ((s : ℕ) → open_by broken s ≡ false → opens_by v.broke s ≡ false)
-        broke_none (inl same) whole = (None, λ lines. tt, λ s e. ap (λ o. opens_by o s) (same ∙ whole))
-        broke_none (inr k) whole = by_closed run.closed refl (subst (λ o. IfSome o (λ b. IsErr run.closed)) k.2 errs)
+            → (broken : Option Break) × ((asking : Asking) → IfSome broken (IsBreakOf merges asking (replicate asking.count []) (failed_by end.closed))) × ((s : ℕ) → open_by broken s ≡ false → opens_by v.broke s ≡ false)
+        broke_none (inl same) whole = (None, λ asking. tt, λ s e. ap (λ o. opens_by o s) (same ∙ whole))
+        broke_none (inr k) whole = by_closed end.closed refl (subst (λ o. IfSome o (λ b. IsErr end.closed)) k.2 errs)
           where
-            by_closed : (r : Result (Unit {0}) StoreFault) → run.closed ≡ r → IsErr run.closed
-                → (broken : Option Break) × ((lines : List Line) → IfSome broken (IsBreakOf merges lines (replicate (guest_count lines) []) (failed_by run.closed))) × ((s : ℕ) → open_by broken s ≡ false → opens_by v.broke s ≡ false)
+            by_closed : (r : Result (Unit {0}) StoreFault) → end.closed ≡ r → IsErr end.closed
+                → (broken : Option Break) × ((asking : Asking) → IfSome broken (IsBreakOf merges asking (replicate asking.count []) (failed_by end.closed))) × ((s : ℕ) → open_by broken s ≡ false → opens_by v.broke s ≡ false)
             by_closed (Ok done) is err = absurd (false_true (subst (λ r. IsErr r) is err))
             by_closed (Err f) is err = (
               Some (record { fault = f; call = None }),
-              λ lines. subst (λ m. IsBreakOf m lines (replicate (guest_count lines) []) (failed_by run.closed) (record { fault = f; call = None })) (sym k.0) (inr (refl, ap failed_by is)),
+              λ asking. subst (λ m. IsBreakOf m asking (replicate asking.count []) (failed_by end.closed) (record { fault = f; call = None })) (sym k.0) (inr (refl, ap failed_by is)),
               λ s e. ap (λ o. opens_by o s) k.2 ∙ nothing 0 s,
             )
 
-  -- ---- what is left, however far it came
+  -- ---- of a script
+
+  -- what is left, however far it came
 
   pub shared_as : (merges : Bool) (n : ℕ) (old mid : Shared (Chain S KeepAll T)) (names : List (List ℕ)) (lines : List Line) (told : List (List ToldCall)) (short : Bool) (unread : ℕ) (tally : Tally) → (merges ≡ false → n ≡ 0) → (n ≡ 0 → IsShared disk false old names lines mid told short unread tally)
       → IsShared disk true old names lines mid told short unread tally → IsShared disk merges old names lines mid told short unread tally
@@ -367,68 +372,68 @@ module _ {S T : Type 0} (disk : S → Disk) where
   shared_as true n old mid names lines told short unread tally alone plain beside = beside
 
   pub few_told : (merges : Bool) (old mid : Shared (Chain S KeepAll T)) (names : List (List ℕ)) (lines : List Line) (told : List (List ToldCall)) (short : Bool) (unread : ℕ) (tally : Tally) → IsShared disk merges old names lines mid told short unread tally → length told ≤ 64
-  few_told merges old mid names lines told short unread tally (IsShared.was_shared s) = few_guests (length told) (greatest_from 0 lines) (s.joined.count ∙ s.count)
+  few_told merges old mid names lines told short unread tally (IsShared.was_shared guests s words adds) = few_guests (length told) (greatest_from 0 lines) (words.count ∙ s.count)
   few_told merges old mid names lines told short unread tally (IsShared.no_memory same short_is none no_read no_call) = omega (arith, ap length none)
 
   pub called : (merges : Bool) (old mid v : Shared (Chain S KeepAll T)) (merged : Result (Unit {0}) ChainRefusal) → EndsAs disk merges mid v merged → (names : List (List ℕ)) (lines : List Line) (told : List (List ToldCall)) (short : Bool) (unread : ℕ) (tally : Tally) → IsShared disk merges old names lines mid told short unread tally
       → short ≡ false → All (IsTold told) v.chain.recorder
-  called merges old mid v merged e names lines told short unread tally (IsShared.was_shared s) =
+  called merges old mid v merged e names lines told short unread tally (IsShared.was_shared guests s words adds) =
       let so = ended_so merges mid v merged e in
-      all_called disk old.first merges s.lock names lines s.seat told short s.guests s.joined v mid.broke (ap (λ k. steps_of k mid.broke) so.history ∙ s.history) (contains_through (basis_of disk v) (basis_of disk mid) s.seat.basis so.basis s.basis) s.places s.refusals (omega (arith, so.few, s.few))
+      all_called disk old.first merges s.lock names lines s.seat told short guests s.joined words v mid.broke (ap (λ k. steps_of k mid.broke) so.history ∙ s.history) (contains_through (basis_of disk v) (basis_of disk mid) s.seat.basis so.basis s.basis) s.places s.refusals (omega (arith, so.few, s.few))
   called merges old mid v merged e names lines told short unread tally (IsShared.no_memory same short_is none no_read no_call) = λ memory. absurd (false_true (sym memory ∙ short_is))
 
   pub served_so : (merges : Bool) (old mid v : Shared (Chain S KeepAll T)) (merged : Result (Unit {0}) ChainRefusal) → EndsAs disk merges mid v merged → (run : ScriptRun) (after : Disk) → IsEnded (session_of disk v.chain) after run.closed → run.fault ≡ v.fault
       → EndsCounted (disk v.first.store) after v.fault run.closed → IfSome v.broke (λ b. IsErr run.closed) → LeavesHistory (session_of disk v.first) v.chain.recorder v.full v.broke (has_merge v.chain.layers) run.closed after
       → HasBegun disk old → (names : List (List ℕ)) (lines : List Line) (told : List (List ToldCall)) (short : Bool) (unread : ℕ) (tally : Tally) → IsShared disk merges old names lines mid told short unread tally
-      → IfOk run.transcript (λ text. (short ≡ false) × (string_bytes text ≡ serve_text v.chain.recorder told)) → HasServed disk merges old.first names lines (record { run = run; unread = unread; tally = tally; merged = merged }) after
-  served_so merges old mid v merged e run after ended fault counted errs leaves begun names lines told short unread tally (IsShared.was_shared s) text =
-      all_served merges old mid v merged (ended_so merges mid v merged e) run after ended fault counted errs leaves names lines told short unread tally s begun.sound.sector text
-  served_so merges old mid v merged e run after ended fault counted errs leaves begun names lines told short unread tally (IsShared.no_memory same short_is none no_read no_call) text =
-      none_served merges old mid v merged (ended_so merges mid v merged e) run after ended fault counted errs leaves names lines unread tally no_read no_call begun same (no_text _ run.transcript text)
+      → IfOk run.transcript (λ text. (short ≡ false) × (string_bytes text ≡ serve_text v.chain.recorder told)) → HasServedScript disk merges old.first names lines (record { run = run; unread = unread; tally = tally; merged = merged }) after
+  served_so merges old mid v merged e run after ended fault counted errs leaves begun names lines told short unread tally (IsShared.was_shared guests s words adds) text = record {
+    guests = guests;
+    history = v.chain.recorder;
+    served = all_served merges old mid v merged (ended_so merges mid v merged e) (ending_of run unread) after ended fault counted errs leaves (asked_by lines) guests s begun.sound.sector;
+    written = record { transcript = transcript_is names lines told short guests v.chain.recorder words run.transcript text; tally_is = adds };
+  }
+  served_so merges old mid v merged e run after ended fault counted errs leaves begun names lines told short unread tally (IsShared.no_memory same short_is none no_read no_call) text = record {
+    guests = replicate (guest_count lines) [];
+    history = [];
+    served = none_served merges old mid v merged (ended_so merges mid v merged e) (ending_of run unread) after ended fault counted errs leaves (asked_by lines) no_read begun same;
+    written = none_written names lines run tally no_call (no_text _ run.transcript text);
+  }
     where
       no_text : {Z : Type 0} (P : String Z → Type 0) (r : Result (String Z) NoRoom) → IfOk r (λ t. (short ≡ false) × P t) → IfOk r (λ t. ⊥)
       no_text P (Ok t) h = absurd (false_true (sym h.0 ∙ short_is))
       no_text P (Err x) h = tt
 
   -- memory ran out before the chain could be shared, and its session was ended
-  pub unserved_is : (merges : Bool) (first : Chain S KeepAll T) → first.recorder ≡ [] → (names : List (List ℕ)) (lines : List Line) (run : MergeRun) (after : Disk) → IfOk run.run.transcript (λ text. ⊥) → run.unread ≡ 0 → run.tally ≡ no_tally → run.merged ≡ Err NoMemory
-      → (merges ≡ true → has_merge first.layers ≡ true) → EndsCounted (disk first.store) after run.run.fault run.run.closed → LeavesHistory (session_of disk first) [] None None (has_merge first.layers) run.run.closed after → HasServed disk merges first names lines run after
-  unserved_is merges first empty names lines run after none no_read no_call merged has counted leaves = record {
-    guests = replicate (guest_count lines) [];
-    history = [];
+  pub unserved_is : (merges : Bool) (first : Chain S KeepAll T) (asking : Asking) (end : Ending) (merged : Result (Unit {0}) ChainRefusal) (after : Disk) → end.short ≡ true → end.unread ≡ 0 → merged ≡ Err NoMemory → (merges ≡ true → has_merge first.layers ≡ true)
+      → EndsCounted (disk first.store) after end.fault end.closed → LeavesHistory (session_of disk first) [] None None (has_merge first.layers) end.closed after → HasServed disk merges first asking (replicate asking.count []) [] end merged after
+  unserved_is merges first asking end merged after short no_read no_merge has counted leaves = record {
     broken = None;
     breach = None;
     opens = λ s e. refl;
-    count = length-replicate (guest_count lines) [];
+    count = length-replicate asking.count [];
     served = λ trace told from serving began. record {
-      told = each_empty _ (λ g. tt) (guest_count lines) 1;
-      order = each_empty _ (λ g. tt) (guest_count lines) 1;
-      unread = each_empty _ (λ g. tt) (guest_count lines) 1;
+      told = each_empty _ (λ g. tt) asking.count 1;
+      order = each_empty _ (λ g. tt) asking.count 1;
+      unread = each_empty _ (λ g. tt) asking.count 1;
       all = λ p low high. absurd (omega (arith, low, high));
       breaker = tt;
     };
-    transcript = none_of (λ text. IsTranscript names lines (replicate (guest_count lines) []) [] (string_bytes text)) run.run.transcript none;
     counted = counted;
     faults = record {
-      each = all_empty _ (flat_map told_of) refl (guest_count lines);
-      end = changed_end (disk first.store).files after run.run.closed counted.files counted.end;
-      none = changed_none (disk first.store) after run.run.closed counted.none;
+      each = all_empty _ (flat_map told_of) refl asking.count;
+      end = changed_end (disk first.store).files after end.closed counted.files counted.end;
+      none = changed_none (disk first.store) after end.closed counted.none;
     };
-    unread = all_empty _ unread_in refl (guest_count lines);
+    unread = all_empty _ unread_in refl asking.count;
     unfetched = 0;
     none_fetched = λ none. refl;
-    unread_is = (let none = unread_none (guest_count lines) in omega (arith, no_read, none));
-    tally_is = subst (λ t. AddsUp t (all_outcomes (replicate (guest_count lines) []))) (sym no_call) (none_add_all (guest_count lines));
+    unread_is = (let none = unread_none asking.count in omega (arith, no_read, none));
     full = None;
-    ends = all_empty _ (flat_map told_of) refl (guest_count lines);
+    ends = all_empty _ (flat_map told_of) refl asking.count;
     under_way = has_merge first.layers;
     leaves = leaves;
-    finished = λ some. subst (λ r. OnOk r (has_merge first.layers ≡ false)) (sym merged) tt;
-    kept = λ some. subst (λ r. IfErr r (λ x. OnOk run.run.closed (has_merge first.layers ≡ true))) (sym merged) (any_ok run.run.closed (has some));
-    stopped = subst (λ r. IfErr r (StopsMerge run.run)) (sym merged) none;
-    near = subst (λ r. IfErr r (IsNearEnd disk first None)) (sym merged) tt;
+    finished = λ some. subst (λ r. OnOk r (has_merge first.layers ≡ false)) (sym no_merge) tt;
+    kept = λ some. subst (λ r. IfErr r (λ x. OnOk end.closed (has_merge first.layers ≡ true))) (sym no_merge) (any_ok end.closed (has some));
+    stopped = subst (λ r. IfErr r (StopsMerge end)) (sym no_merge) short;
+    near = subst (λ r. IfErr r (IsNearEnd disk first None)) (sym no_merge) tt;
   }
-    where
-      none_of : {Z : Type 0} (P : String Z → Type 0) (r : Result (String Z) NoRoom) → IfOk r (λ text. ⊥) → IfOk r P
-      none_of P (Ok text) h = absurd h
-      none_of P (Err e) h = tt

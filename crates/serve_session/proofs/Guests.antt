@@ -1,16 +1,17 @@
 -- Lists of what guests were told, by one more call and by one more guest.
-use Rattle.std.proofs.Common.{◌≡◌, ◌≢◌, eq-eqb, ne_eqb, ◌+◌, ◌<◌, ◌≤◌, ◌==◌, ◌++◌, ◌∷◌, ℕ, Bool, true, false, [], List, length, Ok, Err, inl, inr, refl, sym, ap, subst, ◌∙◌, arith, length-append}
+use Rattle.std.proofs.Common.{◌≡◌, ◌≢◌, eq-eqb, ne_eqb, ◌+◌, ◌<◌, ◌≤◌, ◌==◌, ◌++◌, ◌∷◌, ℕ, Bool, true, false, [], List, length, map, Ok, Err, inl, inr, refl, sym, ap, subst, ◌∙◌, arith, length-append}
 use Rattle.std.specs.Prelude.{◌&&◌, if◌then◌else◌, get_or, take}
 use Rattle.std.specs.List.{AllByRecursion, flat_map}
 use Rattle.std.proofs.lemmas.Grind.{flat_map-append}
-use Rattle.std.proofs.lemmas.List.{append-nil, take-append-le, take_all, take_more}
+use Rattle.std.proofs.lemmas.List.{append-nil, length-map, map-append, take-append-le, take_all, take_more}
 use Rattle.store_model.specs.declared.fault.StoreFault.{StoreFault}
+use Rattle.guest_model.specs.declared.call.Call.{Call}
 use Rattle.script.specs.Grammar.{is_call}
 use Rattle.script.specs.declared.form.Form.{Form}
 use Rattle.script.specs.declared.form.Line.{Line}
 use Rattle.shared_chain.specs.declared.basis.Breach.{Breach}
 use Rattle.serve_session.specs.Actors.{HasBreach, HasBreacher, called_form}
-use Rattle.serve_session.specs.Served.{EachGuest, Has, IsCountedUp, IsRising, Outcome, SomeGuest, all_unread, counts_behind, forms_of, none_failed, places_in, told_call, told_calls, told_guests, unread_in, unread_of, with_count}
+use Rattle.serve_session.specs.Served.{EachGuest, Has, IsCountedUp, IsRising, Outcome, SomeGuest, all_unread, call_of, counts_behind, forms_of, none_failed, places_in, told_call, told_calls, told_guests, unread_in, unread_of, with_count}
 
 -- a slice that fills its vector is all that is in it then
 pub written_all : {X : Type 0} (n : ℕ) (xs ys : List X) → n ≡ length xs → take n (xs ++ ys) ≡ xs
@@ -57,19 +58,19 @@ told_count names [] (x ∷ outcomes) same = absurd (omega (arith, same))
 told_count names (f ∷ forms) [] same = refl
 told_count names (f ∷ forms) (x ∷ outcomes) same = omega (arith, told_count names forms outcomes (omega (arith, same)))
 
-pub breaker_left : (b : Breach) (guest number : ℕ) (forms more : List Form) (outcomes later : List Outcome) → HasBreacher b guest number forms outcomes → HasBreacher b guest number (forms ++ more) (outcomes ++ later)
-breaker_left b guest number forms more [] later h = absurd h
+pub breaker_left : (b : Breach) (guest number : ℕ) (calls more : List Call) (outcomes later : List Outcome) → HasBreacher b guest number calls outcomes → HasBreacher b guest number (calls ++ more) (outcomes ++ later)
+breaker_left b guest number calls more [] later h = absurd h
 breaker_left b guest number [] more (o ∷ outcomes) later h = absurd h
-breaker_left b guest number (f ∷ forms) more (o ∷ outcomes) later (inl h) = inl h
-breaker_left b guest number (f ∷ forms) more (o ∷ outcomes) later (inr h) = inr (breaker_left b guest (number + 1) forms more outcomes later h)
+breaker_left b guest number (c ∷ calls) more (o ∷ outcomes) later (inl h) = inl h
+breaker_left b guest number (c ∷ calls) more (o ∷ outcomes) later (inr h) = inr (breaker_left b guest (number + 1) calls more outcomes later h)
 
-pub breaker_last : (b : Breach) (guest number : ℕ) (forms : List Form) (outcomes : List Outcome) (form : Form) (o : Outcome) → length outcomes ≡ length forms → HasBreach guest (number + length outcomes) form b o
-    → HasBreacher b guest number (forms ++ form ∷ []) (outcomes ++ o ∷ [])
-breaker_last b guest number [] [] form o same h = inl (subst (λ n. HasBreach guest n form b o) {x = number + 0} (omega arith) h)
-breaker_last b guest number [] (x ∷ outcomes) form o same h = absurd (omega (arith, same))
-breaker_last b guest number (f ∷ forms) [] form o same h = absurd (omega (arith, same))
-breaker_last b guest number (f ∷ forms) (x ∷ outcomes) form o same h =
-    inr (breaker_last b guest (number + 1) forms outcomes form o (omega (arith, same)) (subst (λ n. HasBreach guest n form b o) {x = number + length (x ∷ outcomes)} {y = number + 1 + length outcomes} (omega arith) h))
+pub breaker_last : (b : Breach) (guest number : ℕ) (calls : List Call) (outcomes : List Outcome) (call : Call) (o : Outcome) → length outcomes ≡ length calls → HasBreach guest (number + length outcomes) call b o
+    → HasBreacher b guest number (calls ++ call ∷ []) (outcomes ++ o ∷ [])
+breaker_last b guest number [] [] call o same h = inl (subst (λ n. HasBreach guest n call b o) {x = number + 0} (omega arith) h)
+breaker_last b guest number [] (x ∷ outcomes) call o same h = absurd (omega (arith, same))
+breaker_last b guest number (c ∷ calls) [] call o same h = absurd (omega (arith, same))
+breaker_last b guest number (c ∷ calls) (x ∷ outcomes) call o same h =
+    inr (breaker_last b guest (number + 1) calls outcomes call o (omega (arith, same)) (subst (λ n. HasBreach guest n call b o) {x = number + length (x ∷ outcomes)} {y = number + 1 + length outcomes} (omega arith) h))
 
 -- ---- reads that failed by a reader
 
@@ -135,6 +136,17 @@ forms_few guest (line ∷ lines) = go (forms_few guest lines) ((line.guest == gu
     go : length (forms_of guest lines) ≤ length lines → (b : Bool) → length (if b then line.form ∷ forms_of guest lines else forms_of guest lines) ≤ length (line ∷ lines)
     go rest true = omega (arith, rest)
     go rest false = omega (arith, rest)
+
+-- as many are its calls
+pub as_many : (forms : List Form) → length (map call_of forms) ≡ length forms
+as_many forms = length-map forms call_of
+
+pub calls_few : (guest : ℕ) (lines : List Line) → length (map call_of (forms_of guest lines)) ≤ length lines
+calls_few guest lines = omega (arith, as_many (forms_of guest lines), forms_few guest lines)
+
+-- and behind one more line those of the lines before it
+pub calls_append : (forms more : List Form) → map call_of (forms ++ more) ≡ map call_of forms ++ map call_of more
+calls_append forms more = map-append call_of forms more
 
 -- ---- one more guest
 

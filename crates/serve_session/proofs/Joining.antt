@@ -1,5 +1,5 @@
 -- Guests' seats are split from the first, and joined into it again.
-use Rattle.std.proofs.Common.{◌≡◌, ◌≤◌, ◌^◌, ◌≢◌, ◌⊎◌, ◌+◌, ◌-◌, ◌<◌, ◌++◌, ◌∷◌, ℕ, zero, suc, Bool, true, false, [], List, length, inl, inr, refl, sym, ap, ap₂, subst, ◌∙◌, arith, length-append, Some}
+use Rattle.std.proofs.Common.{◌≡◌, ◌≤◌, ◌^◌, ◌≢◌, ◌⊎◌, ◌+◌, ◌-◌, ◌<◌, ◌++◌, ◌∷◌, ℕ, zero, suc, Bool, true, false, [], List, length, map, inl, inr, refl, sym, ap, ap₂, subst, ◌∙◌, arith, length-append, Some}
 use Rattle.std.specs.Prelude.{◌||◌, All, IfSome, slice_index_or}
 use Rattle.std.proofs.lemmas.Bool.{cases_eq, or_parts}
 use Rattle.std.proofs.lemmas.List.Elements.{All-cons}
@@ -29,8 +29,9 @@ use Rattle.serve_session.specs.Actors.{AreHeard, AreJoined, HasHeard, HasRun, Is
 use Rattle.claims.specs.Seats.{Counter}
 use Rattle.serve_session.specs.Sealing.{IsSetFor}
 use Rattle.serve_session.specs.Lists.{AreActors, AreFresh, CanWork, HasDone, IsFresh, IsFreshWorker, IsReady, RunsEach, WorkersJoin, WorksEach, with_splits}
-use Rattle.serve_session.specs.Served.{EachGuest, IsCountedUp, IsRising, Outcome, SomeGuest, forms_of, none_failed, places_in, told_calls, told_guests, unread_in}
-use Rattle.serve_session.proofs.Guests.{each_map, each_snoc, forms_few, some_last, some_left, some_map, told_guests_snoc, unread_few}
+use Rattle.serve_session.specs.Served.{Asking, EachGuest, IsCountedUp, IsRising, IsWhole, Outcome, SomeGuest, asked_by, call_of, forms_of, none_failed, places_in, told_calls, told_guests, unread_in}
+use Rattle.serve_session.specs.Written.{AreKept}
+use Rattle.serve_session.proofs.Guests.{as_many, calls_few, each_map, each_snoc, some_last, some_left, some_map, told_guests_snoc, unread_few}
 use Rattle.serve_session.specs.Tallies.{AddsUp}
 use Rattle.serve_session.proofs.Tallies.{none_add}
 use Rattle.serve_session.proofs.Hearing.{all_heard_later, from_through, heard_few, knows_more, owns_still}
@@ -145,6 +146,17 @@ module _ {S T : Type 0} where
       go p a none (inl own) = absurd (nothing_own p (subst (λ ms. 0 < times p ms) none own))
       go p a none (inr q) = q
 
+  -- a guest that has made no call was told nothing
+  pub none_heard : (disk : S → Disk) (first : Chain S KeepAll T) (guest : ℕ) (seat : Known Step (Basis S T)) → IsFrom disk first seat.basis → seat.mine ≡ [] → seat.drawn ≡ 0 → HasHeard disk first guest [] seat []
+  none_heard disk first guest seat knows mine drawn = record {
+    knows = knows;
+    heard = tt;
+    order = tt;
+    unread = tt;
+    owns = λ p own. absurd (nothing_own p (subst (λ ms. 0 < times p ms) mine own));
+    drawn = omega (arith, drawn);
+  }
+
   module _ (disk : S → Disk) (first : Chain S KeepAll T) (lock : TableId) (names : List (List ℕ)) (lines : List Line) where
     fresh_actor : (seat : Known Step (Basis S T)) (n : ℕ) (a : Actor S T) → seat.lock ≡ lock → IsFrom disk first seat.basis → first.layers.geometry.sector ≡ 512 → IsFresh (IsSetFor disk first) seat n a → IsActor disk first lock names [] a
     fresh_actor seat n a of_lock knows sector h = record {
@@ -153,22 +165,12 @@ module _ {S T : Type 0} where
       room = h.room;
       sector = sector;
       outcomes = [];
-      hears = record {
-        knows = subst (λ (s : Known Step (Basis S T)). IsFrom disk first s.basis) (sym h.seat) knows;
-        heard = tt;
-        order = tt;
-        unread = tt;
-        owns = λ p own. absurd (none p (subst (λ ms. 0 < times p ms) (ap (λ (s : Known Step (Basis S T)). s.mine) h.seat) own));
-        drawn = let nothing : a.guest.seat.drawn ≡ 0 = ap (λ (s : Known Step (Basis S T)). s.drawn) h.seat in omega (arith, nothing);
-      };
+      hears = none_heard disk first a.number a.guest.seat (subst (λ (s : Known Step (Basis S T)). IsFrom disk first s.basis) (sym h.seat) knows) (ap (λ (s : Known Step (Basis S T)). s.mine) h.seat) (ap (λ (s : Known Step (Basis S T)). s.drawn) h.seat);
       readers = h.set;
       unread = h.unread;
       tally = subst (λ t. AddsUp t []) (sym h.tally) none_add;
       kept = λ short. record { all = refl; next = h.next; told = h.told };
     }
-      where
-        none : (p : ℕ) → 0 < times p [] → ⊥
-        none p less = absurd (omega (arith, less))
 
     -- and those that have made all
     pub all_run : (seat : Known Step (Basis S T)) (n : ℕ) (old new : List (Actor S T)) → seat.lock ≡ lock → IsFrom disk first seat.basis → first.layers.geometry.sector ≡ 512 → AreFresh (IsSetFor disk first) seat n old
@@ -192,118 +194,114 @@ module _ {S T : Type 0} where
 
     -- it was told of as many calls as there are lines at most
     pub few_told_of : (a : Actor S T) (run : HasRun disk first lock names lines a) → length run.outcomes ≤ length lines
-    few_told_of a run = omega (arith, heard_few disk first a.guest.seat a.number 1 (forms_of a.number lines) run.outcomes run.hears.heard, forms_few a.number lines)
+    few_told_of a run = omega (arith, heard_few disk first a.guest.seat a.number 1 (map call_of (forms_of a.number lines)) run.outcomes run.hears.heard, calls_few a.number lines)
 
     -- few of its reads failed by a reader
     pub few_unread : (a : Actor S T) (run : HasRun disk first lock names lines a) → length (unread_in run.outcomes) ≤ length lines
-    few_unread a run = omega (arith, unread_few run.outcomes, heard_few disk first a.guest.seat a.number 1 (forms_of a.number lines) run.outcomes run.hears.heard, forms_few a.number lines)
+    few_unread a run = omega (arith, unread_few run.outcomes, heard_few disk first a.guest.seat a.number 1 (map call_of (forms_of a.number lines)) run.outcomes run.hears.heard, calls_few a.number lines)
 
-    -- ---- joining
+    -- the guest of the next number has heard so
+    pub run_hears : (guest : ℕ) (a : Actor S T) (run : HasRun disk first lock names lines a) → a.number ≡ guest → HasHeard disk first guest ((asked_by lines).calls guest) a.guest.seat run.outcomes
+    run_hears guest a run number = subst (λ n. HasHeard disk first n (map call_of (forms_of n lines)) a.guest.seat run.outcomes) number run.hears
 
-    -- no seat was joined yet
-    pub none_joined : (seat : Known Step (Basis S T)) → IsFree lock seat → seat.family.is_first ≡ true → IsFrom disk first seat.basis → seat.mine ≡ [] → AreJoined disk first false lock names lines seat [] false []
-    none_joined seat free leads knows mine = record {
-      free = free;
-      leads = leads;
-      knows = knows;
-      heard = tt;
-      order = tt;
-      unread = tt;
-      owns = λ p own. absurd (none p (subst (λ ms. 0 < times p ms) mine own));
-      count = refl;
-      kept = λ short. (tt, refl);
+    -- and is one more of those whose texts are kept
+    pub one_kept : (told : List (List ToldCall)) (short : Bool) (guests : List (List Outcome)) → AreKept names lines told short guests → (a : Actor S T) (run : HasRun disk first lock names lines a) → a.number ≡ 1 + length guests
+        → AreKept names lines (told ++ a.told.items ∷ []) (short || a.is_short) (guests ++ run.outcomes ∷ [])
+    one_kept told short guests words a run number = record {
+      count = length-append told (a.told.items ∷ []) ∙ ap (λ n. n + 1) words.count ∙ sym (length-append guests (run.outcomes ∷ []));
+      kept = λ e. whole (or_parts short a.is_short e);
     }
       where
-        none : (p : ℕ) → 0 < times p [] → ⊥
-        none p less = absurd (omega (arith, less))
+        whole : (short ≡ false) × (a.is_short ≡ false) → IsWhole (asked_by lines) (guests ++ run.outcomes ∷ []) × (told ++ a.told.items ∷ [] ≡ told_guests names 1 lines (guests ++ run.outcomes ∷ []))
+        whole e =
+            let k = words.kept e.0 in
+            let l = run.kept e.1 in (
+              each_snoc (λ g os. length os ≡ length (map call_of (forms_of g lines))) 1 guests run.outcomes k.0 (subst (λ n. length run.outcomes ≡ length (map call_of (forms_of n lines))) number (l.all ∙ sym (as_many (forms_of a.number lines)))),
+              ap₂ (λ ts t. ts ++ t ∷ []) k.1 (l.told ∙ ap (λ n. told_calls names (forms_of n lines) run.outcomes) number) ∙ sym (told_guests_snoc names 1 lines guests run.outcomes),
+            )
 
-    module _ (seat new : Known Step (Basis S T)) (told : List (List ToldCall)) (short : Bool) (guests : List (List Outcome)) (j : AreJoined disk first false lock names lines seat told short guests) (a : Actor S T) (run : HasRun disk first lock names lines a)
-        (number : a.number ≡ length guests + 1) (both : new ≡ together_of together seat a.guest.seat) (seen : StartsWith new.seen seat.seen × StartsWith new.seen a.guest.seat.seen) (basis : Contains new.basis seat.basis × Contains new.basis a.guest.seat.basis) where
-      refused : (seat.refusals ≤ new.refusals) × (a.guest.seat.refusals ≤ new.refusals)
-      refused = let both_of : new.refusals ≡ seat.refusals + a.guest.seat.refusals = ap (λ (s : Known Step (Basis S T)). s.refusals) both in (omega (arith, both_of), omega (arith, both_of))
+-- of none yet
+pub none_kept : (names : List (List ℕ)) (lines : List Line) (told : List (List ToldCall)) → told ≡ [] → AreKept names lines told false []
+none_kept names lines told none = record { count = ap length none; kept = λ short. (tt, none) }
 
-      abbrev number_is : a.number ≡ 1 + length guests
-      number_is = omega (arith, number)
+-- ---- joining
 
-      hears : HasHeard disk first (1 + length guests) (forms_of (1 + length guests) lines) a.guest.seat run.outcomes
-      hears = subst (λ n. HasHeard disk first n (forms_of n lines) a.guest.seat run.outcomes) number_is run.hears
+module _ {S T : Type 0} (disk : S → Disk) (first : Chain S KeepAll T) (lock : TableId) (asking : Asking) where
+  -- no seat was joined yet
+  pub none_joined : (seat : Known Step (Basis S T)) → IsFree lock seat → seat.family.is_first ≡ true → IsFrom disk first seat.basis → seat.mine ≡ [] → AreJoined disk first false lock asking seat []
+  none_joined seat free leads knows mine = record {
+    free = free;
+    leads = leads;
+    knows = knows;
+    heard = tt;
+    order = tt;
+    unread = tt;
+    owns = λ p own. absurd (nothing_own p (subst (λ ms. 0 < times p ms) mine own));
+  }
 
-      abbrev Heard : Known Step (Basis S T) → ℕ → List Outcome → Type 0
-      Heard s guest outcomes = AreHeard disk first s guest 1 (forms_of guest lines) outcomes
+  abbrev Heard : Known Step (Basis S T) → ℕ → List Outcome → Type 0
+  Heard s guest outcomes = AreHeard disk first s guest 1 (asking.calls guest) outcomes
 
-      abbrev Owns : Known Step (Basis S T) → ℕ → ℕ → List Outcome → Type 0
-      Owns s p guest outcomes = OwnsAt s.seen p guest (forms_of guest lines) outcomes
+  abbrev Owns : Known Step (Basis S T) → ℕ → ℕ → List Outcome → Type 0
+  Owns s p guest outcomes = OwnsAt s.seen p guest (asking.calls guest) outcomes
 
-      owns_now : (p : ℕ) → 0 < times p new.mine → SomeGuest (Owns new p) 1 (guests ++ run.outcomes ∷ [])
-      owns_now p own = go (cases_eq (times p seat.mine) 0)
-        where
-          mine : times p new.mine ≡ times p seat.mine + times p a.guest.seat.mine
-          mine = ap (λ (s : Known Step (Basis S T)). times p s.mine) both ∙ times-append p seat.mine a.guest.seat.mine
+  -- one guest's more
+  module _ (seat own new : Known Step (Basis S T)) (guests : List (List Outcome)) (outcomes : List Outcome) (j : AreJoined disk first false lock asking seat guests) (hears : HasHeard disk first (1 + length guests) (asking.calls (1 + length guests)) own outcomes)
+      (both : new ≡ together_of together seat own) (seen : StartsWith new.seen seat.seen × StartsWith new.seen own.seen) (basis : Contains new.basis seat.basis × Contains new.basis own.basis) where
+    refused : (seat.refusals ≤ new.refusals) × (own.refusals ≤ new.refusals)
+    refused = let both_of : new.refusals ≡ seat.refusals + own.refusals = ap (λ (s : Known Step (Basis S T)). s.refusals) both in (omega (arith, both_of), omega (arith, both_of))
 
-          go : (times p seat.mine ≡ 0) ⊎ (times p seat.mine ≢ 0) → SomeGuest (Owns new p) 1 (guests ++ run.outcomes ∷ [])
-          go (inl none) = some_last (Owns new p) 1 guests run.outcomes (owns_still a.guest.seat.seen new.seen p (1 + length guests) (forms_of (1 + length guests) lines) run.outcomes seen.1 (hears.owns p (omega (arith, own, mine, none))))
-          go (inr some) =
-              some_left (Owns new p) 1 guests (run.outcomes ∷ [])
-              (some_map (Owns seat p) (Owns new p) 1 guests (λ g os. owns_still seat.seen new.seen p g (forms_of g lines) os seen.0) (j.owns p (positive (times p seat.mine) some)))
-            where
-              positive : (n : ℕ) → n ≢ 0 → 0 < n
-              positive zero ne = absurd (ne refl)
-              positive (suc n) ne = omega arith
+    owns_now : (p : ℕ) → 0 < times p new.mine → SomeGuest (Owns new p) 1 (guests ++ outcomes ∷ [])
+    owns_now p some_own = go (cases_eq (times p seat.mine) 0)
+      where
+        mine : times p new.mine ≡ times p seat.mine + times p own.mine
+        mine = ap (λ (s : Known Step (Basis S T)). times p s.mine) both ∙ times-append p seat.mine own.mine
 
-      pub one_joined : AreJoined disk first false lock names lines new (told ++ a.told.items ∷ []) (short || a.is_short) (guests ++ run.outcomes ∷ [])
-      one_joined = record {
-        free = (ap (λ (s : Known Step (Basis S T)). s.lock) both ∙ j.free.0, ap (λ (s : Known Step (Basis S T)). s.turn) both ∙ j.free.1);
-        leads = ap (λ (s : Known Step (Basis S T)). s.family.is_first) both ∙ j.leads;
-        knows = from_through disk first new.basis seat.basis basis.0 j.knows;
-        heard = each_snoc (Heard new) 1 guests run.outcomes
-            (each_map (Heard seat) (Heard new) 1 guests (λ g os. all_heard_later disk first seat new g 1 (forms_of g lines) os seen.0 (knows_more disk first new seat basis.0 refused.0)) j.heard)
-            (all_heard_later disk first a.guest.seat new (1 + length guests) 1 (forms_of (1 + length guests) lines) run.outcomes seen.1 (knows_more disk first new a.guest.seat basis.1 refused.1) hears.heard);
-        order = each_snoc (λ g os. IsRising (places_in os)) 1 guests run.outcomes j.order hears.order;
-        unread = each_snoc (λ g os. IsCountedUp none_failed (unread_in os)) 1 guests run.outcomes j.unread hears.unread;
-        owns = owns_now;
-        count = length-append told (a.told.items ∷ []) ∙ ap (λ n. n + 1) j.count ∙ sym (length-append guests (run.outcomes ∷ []));
-        kept = λ e. whole (or_parts short a.is_short e);
-      }
-        where
-          whole : (short ≡ false) × (a.is_short ≡ false)
-              → EachGuest (λ g os. length os ≡ length (forms_of g lines)) 1 (guests ++ run.outcomes ∷ []) × (told ++ a.told.items ∷ [] ≡ told_guests names 1 lines (guests ++ run.outcomes ∷ []))
-          whole e =
-              let k = j.kept e.0 in
-              let l = run.kept e.1 in (
-                each_snoc (λ g os. length os ≡ length (forms_of g lines)) 1 guests run.outcomes k.0 (subst (λ n. length run.outcomes ≡ length (forms_of n lines)) number_is l.all),
-                ap₂ (λ ts t. ts ++ t ∷ []) k.1 (l.told ∙ ap (λ n. told_calls names (forms_of n lines) run.outcomes) number_is) ∙ sym (told_guests_snoc names 1 lines guests run.outcomes),
-              )
+        go : (times p seat.mine ≡ 0) ⊎ (times p seat.mine ≢ 0) → SomeGuest (Owns new p) 1 (guests ++ outcomes ∷ [])
+        go (inl none) = some_last (Owns new p) 1 guests outcomes (owns_still own.seen new.seen p (1 + length guests) (asking.calls (1 + length guests)) outcomes seen.1 (hears.owns p (omega (arith, some_own, mine, none))))
+        go (inr some) =
+            some_left (Owns new p) 1 guests (outcomes ∷ [])
+            (some_map (Owns seat p) (Owns new p) 1 guests (λ g os. owns_still seat.seen new.seen p g (asking.calls g) os seen.0) (j.owns p (positive (times p seat.mine) some)))
+          where
+            positive : (n : ℕ) → n ≢ 0 → 0 < n
+            positive zero ne = absurd (ne refl)
+            positive (suc n) ne = omega arith
 
-    -- ---- workers of a merge
+    pub one_joined : AreJoined disk first false lock asking new (guests ++ outcomes ∷ [])
+    one_joined = record {
+      free = (ap (λ (s : Known Step (Basis S T)). s.lock) both ∙ j.free.0, ap (λ (s : Known Step (Basis S T)). s.turn) both ∙ j.free.1);
+      leads = ap (λ (s : Known Step (Basis S T)). s.family.is_first) both ∙ j.leads;
+      knows = from_through disk first new.basis seat.basis basis.0 j.knows;
+      heard = each_snoc (Heard new) 1 guests outcomes
+          (each_map (Heard seat) (Heard new) 1 guests (λ g os. all_heard_later disk first seat new g 1 (asking.calls g) os seen.0 (knows_more disk first new seat basis.0 refused.0)) j.heard)
+          (all_heard_later disk first own new (1 + length guests) 1 (asking.calls (1 + length guests)) outcomes seen.1 (knows_more disk first new own basis.1 refused.1) hears.heard);
+      order = each_snoc (λ g os. IsRising (places_in os)) 1 guests outcomes j.order hears.order;
+      unread = each_snoc (λ g os. IsCountedUp none_failed (unread_in os)) 1 guests outcomes j.unread hears.unread;
+      owns = owns_now;
+    }
 
-    -- in a session with a merge a place may be the merge's
-    pub wider_joined : (seat : Known Step (Basis S T)) (told : List (List ToldCall)) (short : Bool) (guests : List (List Outcome)) → AreJoined disk first false lock names lines seat told short guests → AreJoined disk first true lock names lines seat told short guests
-    wider_joined seat told short guests j = record { free = j.free; leads = j.leads; knows = j.knows; heard = j.heard; order = j.order; unread = j.unread; owns = λ p own. inl (j.owns p own); count = j.count; kept = j.kept }
+  -- ---- workers of a merge
 
-    module _ (seat new : Known Step (Basis S T)) (told : List (List ToldCall)) (short : Bool) (guests : List (List Outcome)) (j : AreJoined disk first true lock names lines seat told short guests) (workers : WorkersJoin seat new) where
-      abbrev Hears : Known Step (Basis S T) → ℕ → List Outcome → Type 0
-      Hears s guest outcomes = AreHeard disk first s guest 1 (forms_of guest lines) outcomes
+  -- in a session with a merge a place may be the merge's
+  pub wider_joined : (seat : Known Step (Basis S T)) (guests : List (List Outcome)) → AreJoined disk first false lock asking seat guests → AreJoined disk first true lock asking seat guests
+  wider_joined seat guests j = record { free = j.free; leads = j.leads; knows = j.knows; heard = j.heard; order = j.order; unread = j.unread; owns = λ p own. inl (j.owns p own) }
 
-      abbrev OwnsBy : Known Step (Basis S T) → ℕ → ℕ → List Outcome → Type 0
-      OwnsBy s p guest outcomes = OwnsAt s.seen p guest (forms_of guest lines) outcomes
+  module _ (seat new : Known Step (Basis S T)) (guests : List (List Outcome)) (j : AreJoined disk first true lock asking seat guests) (workers : WorkersJoin seat new) where
+    still_owns : (p : ℕ) → SomeGuest (Owns seat p) 1 guests ⊎ MergeBreaksAt seat.seen p → SomeGuest (Owns new p) 1 guests ⊎ MergeBreaksAt new.seen p
+    still_owns p (inl own) = inl (some_map (Owns seat p) (Owns new p) 1 guests (λ g os. owns_still seat.seen new.seen p g (asking.calls g) os workers.seen) own)
+    still_owns p (inr breaks) = inr (breaks_later seat.seen new.seen p workers.seen breaks)
 
-      still_owns : (p : ℕ) → SomeGuest (OwnsBy seat p) 1 guests ⊎ MergeBreaksAt seat.seen p → SomeGuest (OwnsBy new p) 1 guests ⊎ MergeBreaksAt new.seen p
-      still_owns p (inl own) = inl (some_map (OwnsBy seat p) (OwnsBy new p) 1 guests (λ g os. owns_still seat.seen new.seen p g (forms_of g lines) os workers.seen) own)
-      still_owns p (inr breaks) = inr (breaks_later seat.seen new.seen p workers.seen breaks)
+    owns_by : (p : ℕ) → (0 < times p seat.mine) ⊎ MergeBreaksAt new.seen p → SomeGuest (Owns new p) 1 guests ⊎ MergeBreaksAt new.seen p
+    owns_by p (inl own) = still_owns p (j.owns p own)
+    owns_by p (inr breaks) = inr breaks
 
-      owns_by : (p : ℕ) → (0 < times p seat.mine) ⊎ MergeBreaksAt new.seen p → SomeGuest (OwnsBy new p) 1 guests ⊎ MergeBreaksAt new.seen p
-      owns_by p (inl own) = still_owns p (j.owns p own)
-      owns_by p (inr breaks) = inr breaks
-
-      pub workers_joined : AreJoined disk first true lock names lines new told short guests
-      workers_joined = record {
-        free = (workers.lock ∙ j.free.0, workers.turn ∙ j.free.1);
-        leads = workers.leads ∙ j.leads;
-        knows = from_through disk first new.basis seat.basis workers.basis j.knows;
-        heard = each_map (Hears seat) (Hears new) 1 guests (λ g os. all_heard_later disk first seat new g 1 (forms_of g lines) os workers.seen (knows_more disk first new seat workers.basis workers.refusals)) j.heard;
-        order = j.order;
-        unread = j.unread;
-        owns = λ p own. owns_by p (workers.own p own);
-        count = j.count;
-        kept = j.kept;
-      }
+    pub workers_joined : AreJoined disk first true lock asking new guests
+    workers_joined = record {
+      free = (workers.lock ∙ j.free.0, workers.turn ∙ j.free.1);
+      leads = workers.leads ∙ j.leads;
+      knows = from_through disk first new.basis seat.basis workers.basis j.knows;
+      heard = each_map (Heard seat) (Heard new) 1 guests (λ g os. all_heard_later disk first seat new g 1 (asking.calls g) os workers.seen (knows_more disk first new seat workers.basis workers.refusals)) j.heard;
+      order = j.order;
+      unread = j.unread;
+      owns = λ p own. owns_by p (workers.own p own);
+    }

@@ -9,7 +9,7 @@ use Rattle.store_model.specs.Trace.{Trace}
 use Rattle.store_model.specs.declared.fault.StoreFault.{StoreFault}
 use Rattle.store_model.proofs.Told.{counts_join}
 use Rattle.vx_base.specs.declared.parts.Geometry.{Geometry}
-use Rattle.guest_model.specs.History.{is_dirty}
+use Rattle.guest_model.specs.History.{History, is_dirty}
 use Rattle.guest_model.specs.declared.recorder.KeepAll.{KeepAll}
 use Rattle.guest_model.specs.declared.refusal.ChainRefusal.{ChainRefusal}
 use Rattle.guest_model.specs.declared.refusal.ChainRefusal.TheVariants.{Abandoned, Broken, EmptyRange, FileFull, NoMerge, NoPiece, NoRoom, NoStripe, NotYet, OutOfRange, ReadFault, ReadOnly, Spent, Stale, TooLong}
@@ -45,9 +45,10 @@ use Rattle.script_session.proofs.Scripts.{past_as}
 use Rattle.shared_chain.proofs.Breaking.{past_wider, wider}
 use Rattle.shared_chain.specs.Closing.{HasLeft}
 use Rattle.shared_chain.specs.Steps.{open_by as opens_by}
-use Rattle.serve_session.specs.MergeServed.{HasRunServeLeafMerge, HasRunServeMerge, HasServedOver, HasServedWith, IsStopTold}
-use Rattle.serve_session.specs.Served.{AreServed, all_told, all_unread}
-use Rattle.serve_session.specs.Sealing.{ServesFirst, ServesSealed}
+use Rattle.serve_session.specs.Endings.{Ending, ending_of}
+use Rattle.serve_session.specs.MergeServed.{HasRunLeafMerge, HasRunMerge, HasRunServeLeafMerge, HasRunServeMerge, HasServedOver, HasServedWith, IsStopTold}
+use Rattle.serve_session.specs.Served.{AreServed, Asking, Outcome, all_told, all_unread, asked_by}
+use Rattle.serve_session.specs.Sealing.{ServesFirst, ServesScript, ServesSealed}
 use Rattle.serve_session.specs.Serving.{HasServed, IsNearEnd, IsUpTo, drive_from}
 use Rattle.serve_session.specs.declared.merging.MergeRun.{MergeRun}
 use Rattle.serve_session.proofs.Filled.{long_up}
@@ -59,11 +60,11 @@ stays_by P Q (Ok done) closed p f = tt
 stays_by P Q (Err x) (Ok done) p f = f p
 stays_by P Q (Err x) (Err fault) p f = tt
 
-module _ {S T : Type 0} (disk : S → Disk) (chain : Chain S KeepAll T) (names : List (List ℕ)) (lines : List Line) (run : MergeRun) (after : Disk) (sealed : ServesSealed disk true chain names lines run after) (sector : chain.layers.geometry.sector ≡ 512) where
+module _ {S T : Type 0} (disk : S → Disk) (chain : Chain S KeepAll T) (asking : Asking) (guests : List (List Outcome)) (history : History) (end : Ending) (merged : Result (Unit {0}) ChainRefusal) (after : Disk) (sealed : ServesSealed disk true chain asking guests history end merged after) (sector : chain.layers.geometry.sector ≡ 512) where
   abbrev first : Chain S KeepAll T
   first = sealed.first
 
-  abbrev h : HasServed disk true first names lines run after
+  abbrev h : HasServed disk true first asking guests history end merged after
   h = sealed.served
 
   same_layers : first.layers ≡ chain.layers
@@ -76,18 +77,18 @@ module _ {S T : Type 0} (disk : S → Disk) (chain : Chain S KeepAll T) (names :
     drive_is : drive_from first v ≡ drive_over scope trace
     drive_is = ap₂ (λ (g : Geometry) c. record { geometry = g; can_change = c; opening = v.opening }) geometry session ∙ ap (λ o. record { geometry = scope.geometry; can_change = true; opening = o }) is.opening
 
-    served : AreServed true (drive_over scope trace) lines h.guests h.history (failed_by run.run.closed) h.broken
-    served = subst (λ d. AreServed true d lines h.guests h.history (failed_by run.run.closed) h.broken) drive_is (h.served mid mid_is v serving is.history)
+    served : AreServed true (drive_over scope trace) asking guests history (failed_by end.closed) h.broken
+    served = subst (λ d. AreServed true d asking guests history (failed_by end.closed) h.broken) drive_is (h.served mid mid_is v serving is.history)
 
-    module _ (now : Trace) (left : HasLeft (is_some first.layers.leaf) h.under_way v h.history h.full h.breach run.run.closed now) where
-      same : IsLater v h.history left.to
+    module _ (now : Trace) (left : HasLeft (is_some first.layers.leaf) h.under_way v history h.full h.breach end.closed now) where
+      same : IsLater v history left.to
       same = left.comes.later
 
       to_size : sector_of left.to ≡ sector_size
       to_size = left.comes.sector ∙ size
 
       so_long : (next : ℕ) → IsUpTo h.full next → IsSoLong scope.changes now next
-      so_long next up = long_later v.writes scope.changes now now next (may_change scope v trace mid is h.history left.to same now) (grows_none now) (long_up h.full v.writes now left.long next up)
+      so_long next up = long_later v.writes scope.changes now now next (may_change scope v trace mid is history left.to same now) (grows_none now) (long_up h.full v.writes now left.long next up)
 
       stop_told : (x : ChainRefusal) → IsNearEnd disk first h.full x → IsStopTold scope.changes now x
       stop_told EmptyRange k = tt
@@ -110,55 +111,51 @@ module _ {S T : Type 0} (disk : S → Disk) (chain : Chain S KeepAll T) (names :
       stopped (Ok done) k = tt
       stopped (Err x) k = stop_told x k
 
-      pub files_left : HasServedOver scope lines h.guests h.history h.broken run.merged run.run.closed trace now
+      pub files_left : HasServedOver scope asking guests history h.broken merged end.closed trace now
       files_left = record {
         served = served;
-        moments = past_wider sector_size (opening_disk trace scope.files) h.history (opens_by h.breach) (open_by h.broken) scope.leaf trace now h.opens
+        moments = past_wider sector_size (opening_disk trace scope.files) history (opens_by h.breach) (open_by h.broken) scope.leaf trace now h.opens
             (subst (λ k. EachOpensToPrefix sector_size (opening_disk trace scope.files) k (opens_by h.breach) scope.leaf trace now) same.history
             (past_as (sector_of left.to) sector_size left.to.opening (opening_disk trace scope.files) left.to.leaf scope.leaf left.to.began trace left.to.history (λ z. opens_by h.breach) now to_size (same.opening ∙ is.opening) (same.leaf ∙ is.leaf) (same.began ∙ is.began) left.past));
-        last = wider scope.leaf (λ s. is_dirty sector_size h.history s || opens_by h.breach s) (open_last h.history h.broken) (disk_after (drive_over scope trace) h.history) now
-            (λ s apart. let parts = or_parts (is_dirty sector_size h.history s) (open_by h.broken s) apart in or_from (is_dirty sector_size h.history s) (opens_by h.breach s) parts.0 (h.opens s parts.1))
-            (last_as (sector_of left.to) sector_size left.to.opening (opening_disk trace scope.files) left.to.leaf scope.leaf left.to.history h.history now to_size (same.opening ∙ is.opening) (same.leaf ∙ is.leaf) same.history (opens_by h.breach) left.last);
-        full = ends_later (IsUpTo h.full) (IsSoLong scope.changes now) so_long (all_told h.guests) h.ends;
-        still = others_as scope v trace mid is h.history left.to same now left.still;
-        at_rest = on_ok_weaker run.run.closed (λ w. record {
-          synced = all_synced scope v trace mid is h.history left.to same now left.still (w.synced session);
-          no_log = all_unnamed scope v trace mid is h.history left.to same now left.still (w.no_log session);
-          opens = whole_as (sector_of left.to) sector_size left.to.opening (opening_disk trace scope.files) left.to.leaf scope.leaf left.to.history h.history now to_size (same.opening ∙ is.opening) (same.leaf ∙ is.leaf) same.history w.opens;
+        last = wider scope.leaf (λ s. is_dirty sector_size history s || opens_by h.breach s) (open_last history h.broken) (disk_after (drive_over scope trace) history) now
+            (λ s apart. let parts = or_parts (is_dirty sector_size history s) (open_by h.broken s) apart in or_from (is_dirty sector_size history s) (opens_by h.breach s) parts.0 (h.opens s parts.1))
+            (last_as (sector_of left.to) sector_size left.to.opening (opening_disk trace scope.files) left.to.leaf scope.leaf left.to.history history now to_size (same.opening ∙ is.opening) (same.leaf ∙ is.leaf) same.history (opens_by h.breach) left.last);
+        full = ends_later (IsUpTo h.full) (IsSoLong scope.changes now) so_long (all_told guests) h.ends;
+        still = others_as scope v trace mid is history left.to same now left.still;
+        at_rest = on_ok_weaker end.closed (λ w. record {
+          synced = all_synced scope v trace mid is history left.to same now left.still (w.synced session);
+          no_log = all_unnamed scope v trace mid is history left.to same now left.still (w.no_log session);
+          opens = whole_as (sector_of left.to) sector_size left.to.opening (opening_disk trace scope.files) left.to.leaf scope.leaf left.to.history history now to_size (same.opening ∙ is.opening) (same.leaf ∙ is.leaf) same.history w.opens;
         }) left.whole;
-        linked = on_ok_weaker run.merged (λ none. on_ok_weaker run.run.closed (λ w. links_left scope v trace mid is h.history left.to same now (w.under_way ∙ none) w.links) left.whole) (h.finished refl);
-        stays = stays_by _ _ run.merged run.run.closed (h.kept refl) (on_ok_weaker run.run.closed (λ w some. links_all scope v trace mid is h.history left.to same now (w.under_way ∙ some) w.links) left.whole);
-        stopped = stopped run.merged h.near;
+        linked = on_ok_weaker merged (λ none. on_ok_weaker end.closed (λ w. links_left scope v trace mid is history left.to same now (w.under_way ∙ none) w.links) left.whole) (h.finished refl);
+        stays = stays_by _ _ merged end.closed (h.kept refl) (on_ok_weaker end.closed (λ w some. links_all scope v trace mid is history left.to same now (w.under_way ∙ some) w.links) left.whole);
+        stopped = stopped merged h.near;
       }
 
   -- and the counts
-  with_counts : (scope : Scope) (old : Disk) → disk chain.store ≡ record old { told = (disk chain.store).told } → WhereBothTold (HasServedOver scope lines h.guests h.history h.broken run.merged run.run.closed) old.told after.told → HasServedWith scope names lines run old after
+  with_counts : (scope : Scope) (old : Disk) → disk chain.store ≡ record old { told = (disk chain.store).told } → WhereBothTold (HasServedOver scope asking guests history h.broken merged end.closed) old.told after.told → HasServedWith scope asking guests history end merged old after
   with_counts scope old counts have = record {
-    guests = h.guests;
-    history = h.history;
     broken = h.broken;
     count = h.count;
-    transcript = h.transcript;
     counted = h.counted.last;
-    ended = counts_change after run.run.closed h.counted.end;
-    quiet = λ none. on_ok_weaker run.run.closed (λ same. counts_join old (disk first.store) after (quiet_since disk chain first sealed.met sealed.sealing old counts (sealed.told none)) same) (h.counted.quiet none);
+    ended = counts_change after end.closed h.counted.end;
+    quiet = λ none. on_ok_weaker end.closed (λ same. counts_join old (disk first.store) after (quiet_since disk chain first sealed.met sealed.sealing old counts (sealed.told none)) same) (h.counted.quiet none);
     faults =
         let k = h.faults in
-        subst (λ n. FaultsAreTold (all_told h.guests) (failed_by run.run.closed) n old.failed_changes after.failed_reads after.failed_changes) (files_are disk chain first sealed.met sealed.sealing old counts)
+        subst (λ n. FaultsAreTold (all_told guests) (failed_by end.closed) n old.failed_changes after.failed_reads after.failed_changes) (files_are disk chain first sealed.met sealed.sealing old counts)
         (record { each = k.each; end = k.end; none = λ none. k.none none ∙ changes_are disk chain first sealed.met sealed.sealing old counts });
-    unread = subst (λ n. AllByRecursion (λ fault. fault.file < n) (all_unread h.guests)) (files_are disk chain first sealed.met sealed.sealing old counts) h.unread;
+    unread = subst (λ n. AllByRecursion (λ fault. fault.file < n) (all_unread guests)) (files_are disk chain first sealed.met sealed.sealing old counts) h.unread;
     unfetched = h.unfetched;
     unread_is = h.unread_is;
-    tally_is = h.tally_is;
     stopped = h.stopped;
     served = have;
   }
 
   abbrev Left : Trace → Trace → Type 0
-  Left trace now = (from : State) → IsServing first.layers from trace → from.history ≡ [] → HasLeft (is_some first.layers.leaf) h.under_way from h.history h.full h.breach run.run.closed now
+  Left trace now = (from : State) → IsServing first.layers from trace → from.history ≡ [] → HasLeft (is_some first.layers.leaf) h.under_way from history h.full h.breach end.closed now
 
   abbrev Over : Scope → Trace → Trace → Type 0
-  Over scope = HasServedOver scope lines h.guests h.history h.broken run.merged run.run.closed
+  Over scope = HasServedOver scope asking guests history h.broken merged end.closed
 
   -- ---- of a file below the leaf
   module _ (files : List LinkedFile) (name : List ℕ) (old : Disk) (drawn now_drawn : Option (List (List ℕ))) (can : CanStart files old) (begun : HasStartedMerge files name old (disk chain.store) drawn now_drawn chain.layers) where
@@ -181,8 +178,8 @@ module _ {S T : Type 0} (disk : S → Disk) (chain : Chain S KeepAll T) (names :
         files_left (scope_of m) (ap (λ (layers : Layers). layers.geometry) same_layers ∙ begun.begun.geometry) (ap (λ (layers : Layers). is_some layers.leaf) same_layers ∙ begun.begun.session) (record v { since = s }) a s
         (sealed_scope chain.layers (scope_of m) v a b s g scope) e serving c (l (record v { since = s }) serving refl)
 
-    pub merge_ran : HasRunServeMerge files name names lines run old after drawn now_drawn
-    merge_ran = record {
+    pub guests_merged : HasRunMerge files name asking guests history end merged old after drawn now_drawn
+    guests_merged = record {
       m = m;
       merge = begun.merge;
       planned = begun.planned;
@@ -210,13 +207,31 @@ module _ {S T : Type 0} (disk : S → Disk) (chain : Chain S KeepAll T) (names :
         files_left (leaf_scope_of of_leaf) (ap (λ (layers : Layers). layers.geometry) same_layers ∙ begun.begun.geometry) (ap (λ (layers : Layers). is_some layers.leaf) same_layers ∙ begun.begun.session) (record v { since = s }) a s
         (sealed_scope chain.layers (leaf_scope_of of_leaf) v a b s g scope) e serving c (l (record v { since = s }) serving refl)
 
-    pub leaf_merge_ran : HasRunServeLeafMerge files names lines run old after drawn now_drawn
-    leaf_merge_ran = record {
+    pub guests_leaf_merged : HasRunLeafMerge files asking guests history end merged old after drawn now_drawn
+    guests_leaf_merged = record {
       m = of_leaf;
       merge = begun.merge;
       planned = begun.planned;
       serves = with_counts (leaf_scope_of of_leaf) old begun.begun.counts (have_leaf old.told (disk chain.store).told (disk first.store).told after.told refl begun.begun.serving begun.still refl sealed.sealing.goes h.leaves);
     }
+
+-- and of a script
+module _ {S T : Type 0} (disk : S → Disk) (chain : Chain S KeepAll T) (names : List (List ℕ)) (lines : List Line) (run : MergeRun) (after : Disk) (s : ServesScript disk true chain names lines run after) (sector : chain.layers.geometry.sector ≡ 512) where
+  pub merge_ran : (files : List LinkedFile) (name : List ℕ) (old : Disk) (drawn now_drawn : Option (List (List ℕ))) → CanStart files old → HasStartedMerge files name old (disk chain.store) drawn now_drawn chain.layers → HasRunServeMerge files name names lines run old after drawn now_drawn
+  merge_ran files name old drawn now_drawn can begun = record {
+    guests = s.guests;
+    history = s.history;
+    ran = guests_merged disk chain (asked_by lines) s.guests s.history (ending_of run.run run.unread) run.merged after s.sealed sector files name old drawn now_drawn can begun;
+    written = s.written;
+  }
+
+  pub leaf_merge_ran : (files : List LinkedFile) (old : Disk) (drawn now_drawn : Option (List (List ℕ))) → CanStart files old → HasStartedLeafMerge files old (disk chain.store) drawn now_drawn chain.layers → HasRunServeLeafMerge files names lines run old after drawn now_drawn
+  leaf_merge_ran files old drawn now_drawn can begun = record {
+    guests = s.guests;
+    history = s.history;
+    ran = guests_leaf_merged disk chain (asked_by lines) s.guests s.history (ending_of run.run run.unread) run.merged after s.sealed sector files old drawn now_drawn can begun;
+    written = s.written;
+  }
 
 -- a session that has started with a merge serves its first state
 pub merge_first : {S T : Type 0} (disk : S → Disk) (chain : Chain S KeepAll T) (m : MergeFiles) (merge : Merge) (a : Option Trace) → StartsMerge m merge chain.layers a (disk chain.store).told → ServesFirst disk chain

@@ -13,6 +13,7 @@ use Rattle.vx_base.specs.declared.parts.Geometry.{Geometry}
 use Rattle.guest_model.specs.Calls.{Disk as GuestDisk}
 use Rattle.guest_model.specs.History.{History, is_dirty, replay}
 use Rattle.guest_model.specs.declared.recorder.KeepAll.{KeepAll}
+use Rattle.guest_model.specs.declared.refusal.ChainRefusal.{ChainRefusal}
 use Rattle.chain_model.specs.Members.{Way}
 use Rattle.chain_model.specs.Moments.{EachOpens, EachOpensToPrefix}
 use Rattle.layer_session.specs.Unnamed.{NamesNoLog}
@@ -36,9 +37,10 @@ use Rattle.shared_chain.proofs.Breaking.{past_wider, wider}
 use Rattle.shared_chain.specs.Closing.{HasLeft}
 use Rattle.shared_chain.specs.Faults as shared
 use Rattle.shared_chain.specs.Steps.{open_by as opens_by}
-use Rattle.serve_session.specs.Running.{HasRunServe, HasServedFiles, HaveServed}
-use Rattle.serve_session.specs.Served.{AreServed, all_told, all_unread}
-use Rattle.serve_session.specs.Sealing.{IsSealing, ServesFirst, ServesSealed}
+use Rattle.serve_session.specs.Endings.{Ending, ending_of}
+use Rattle.serve_session.specs.Running.{HasRunGuests, HasRunServe, HasServedFiles, HaveServed}
+use Rattle.serve_session.specs.Served.{AreServed, Asking, Outcome, all_told, all_unread, asked_by}
+use Rattle.serve_session.specs.Sealing.{IsSealing, ServesFirst, ServesScript, ServesSealed}
 use Rattle.serve_session.specs.Serving.{HasServed, IsUpTo, drive_from}
 use Rattle.serve_session.specs.declared.merging.MergeRun.{MergeRun}
 use Rattle.serve_session.proofs.Filled.{long_up}
@@ -83,12 +85,12 @@ module _ {S T : Type 0} (disk : S → Disk) (chain first : Chain S KeepAll T) (m
   pub quiet_since : met ≡ None → disk first.store ≡ record old { told = (disk first.store).told }
   quiet_since none = counts_join old (disk chain.store) (disk first.store) begun (sealing.quiet none)
 
-module _ {S T : Type 0} (disk : S → Disk) (chain : Chain S KeepAll T) (names : List (List ℕ)) (lines : List Line) (run : MergeRun) (after : Disk) (sealed : ServesSealed disk false chain names lines run after) (sector : chain.layers.geometry.sector ≡ 512)
+module _ {S T : Type 0} (disk : S → Disk) (chain : Chain S KeepAll T) (asking : Asking) (guests : List (List Outcome)) (history : History) (end : Ending) (merged : Result (Unit {0}) ChainRefusal) (after : Disk) (sealed : ServesSealed disk false chain asking guests history end merged after) (sector : chain.layers.geometry.sector ≡ 512)
     (leaf : LinkedFile) (others : List LinkedFile) (old : Disk) (drawn now_drawn : Option (List (List ℕ))) (begun : HasStarted Guests (leaf ∷ others) chain.layers old (disk chain.store) drawn now_drawn) (geometry : chain.layers.geometry ≡ leaf.parts.geometry) where
   abbrev first : Chain S KeepAll T
   first = sealed.first
 
-  abbrev h : HasServed disk false first names lines run after
+  abbrev h : HasServed disk false first asking guests history end merged after
   h = sealed.served
 
   same_layers : first.layers ≡ chain.layers
@@ -113,47 +115,47 @@ module _ {S T : Type 0} (disk : S → Disk) (chain : Chain S KeepAll T) (names :
     drive_is : drive_from first from ≡ drive_of Guests leaf others trace
     drive_is = ap₂ (λ (g : Geometry) c. record { geometry = g; can_change = c; opening = opening_disk trace (leaf ∷ others) }) (ap (λ (l : Layers). l.geometry) same_layers ∙ geometry) has_session
 
-    served : AreServed false (drive_of Guests leaf others trace) lines h.guests h.history (failed_by run.run.closed) h.broken
-    served = subst (λ d. AreServed false d lines h.guests h.history (failed_by run.run.closed) h.broken) drive_is (h.served mid mid_is from serving refl)
+    served : AreServed false (drive_of Guests leaf others trace) asking guests history (failed_by end.closed) h.broken
+    served = subst (λ d. AreServed false d asking guests history (failed_by end.closed) h.broken) drive_is (h.served mid mid_is from serving refl)
 
     -- a file that isn't the leaf was sealed at most
     kept : (other : ℕ) → other ≢ 0 → IsKept (file_of trace other) (file_of mid other)
     kept other apart = subst (λ f. IsKept f (file_of mid other)) (began.still other (ne_eqb other 0 apart)) (goes.kept other)
 
-    module _ (now : Trace) (left : HasLeft (is_some first.layers.leaf) h.under_way from h.history h.full h.breach run.run.closed now) where
+    module _ (now : Trace) (left : HasLeft (is_some first.layers.leaf) h.under_way from history h.full h.breach end.closed now) where
       on : GoesOn from left.to
       on = goes_on from left.to refl left.comes.later.goes
 
       to_size : sector_of left.to ≡ sector_size
       to_size = left.comes.sector ∙ size
 
-      files : HasServedFiles leaf others lines h.guests h.history h.broken run.run.closed trace now
+      files : HasServedFiles leaf others asking guests history h.broken end.closed trace now
       files = record {
         served = served;
-        moments = past_wider sector_size (opening_disk trace (leaf ∷ others)) h.history (opens_by h.breach) (open_by h.broken) (way_to leaf (leaf ∷ others) None) trace now h.opens
+        moments = past_wider sector_size (opening_disk trace (leaf ∷ others)) history (opens_by h.breach) (open_by h.broken) (way_to leaf (leaf ∷ others) None) trace now h.opens
             (subst (λ k. EachOpensToPrefix sector_size (opening_disk trace (leaf ∷ others)) k (opens_by h.breach) (way_to leaf (leaf ∷ others) None) trace now) left.comes.later.history
             (past_as (sector_of left.to) sector_size left.to.opening (opening_disk trace (leaf ∷ others)) left.to.leaf (way_to leaf (leaf ∷ others) None) left.to.began trace left.to.history (λ z. opens_by h.breach) now to_size left.comes.later.opening left.comes.later.leaf left.comes.later.began left.past));
-        last = wider (way_to leaf (leaf ∷ others) None) (λ s. is_dirty sector_size h.history s || opens_by h.breach s) (open_last h.history h.broken) (disk_after (drive_of Guests leaf others trace) h.history) now
-            (λ s apart. let parts = or_parts (is_dirty sector_size h.history s) (open_by h.broken s) apart in or_from (is_dirty sector_size h.history s) (opens_by h.breach s) parts.0 (h.opens s parts.1))
-            (last_as (sector_of left.to) sector_size left.to.opening (opening_disk trace (leaf ∷ others)) left.to.leaf (way_to leaf (leaf ∷ others) None) left.to.history h.history now to_size left.comes.later.opening left.comes.later.leaf left.comes.later.history (opens_by h.breach) left.last);
-        full = ends_later (IsUpTo h.full) (IsSoLong (λ n. n == 0) now) (long_up h.full (λ n. n == 0) now left.long) (all_told h.guests) h.ends;
+        last = wider (way_to leaf (leaf ∷ others) None) (λ s. is_dirty sector_size history s || opens_by h.breach s) (open_last history h.broken) (disk_after (drive_of Guests leaf others trace) history) now
+            (λ s apart. let parts = or_parts (is_dirty sector_size history s) (open_by h.broken s) apart in or_from (is_dirty sector_size history s) (opens_by h.breach s) parts.0 (h.opens s parts.1))
+            (last_as (sector_of left.to) sector_size left.to.opening (opening_disk trace (leaf ∷ others)) left.to.leaf (way_to leaf (leaf ∷ others) None) left.to.history history now to_size left.comes.later.opening left.comes.later.leaf left.comes.later.history (opens_by h.breach) left.last);
+        full = ends_later (IsUpTo h.full) (IsSoLong (λ n. n == 0) now) (long_up h.full (λ n. n == 0) now left.long) (all_told guests) h.ends;
         still = λ other apart.
             subst (IsKept (file_of trace other)) (sym (left.still other (ap (λ (w : ℕ → Bool). w other) on.writes ∙ ne_eqb other 0 apart) ∙ ap (λ t. file_of t other) on.since)) (kept other apart);
-        at_rest = on_ok_weaker run.run.closed (λ w. record {
+        at_rest = on_ok_weaker end.closed (λ w. record {
           synced = subst (λ n. is_synced (file_of now n) ≡ true) on.number (w.synced has_session).0;
           no_log = λ can.
               let mine : left.to.writes left.to.top.number ≡ true = subst (λ n. left.to.writes n ≡ true) (sym on.number) (ap (λ (w : ℕ → Bool). w 0) on.writes) in
               subst (λ n. NamesNoLog (seen (file_of now n))) on.number ((w.no_log has_session).0 mine);
-          opens = whole_as (sector_of left.to) sector_size left.to.opening (opening_disk trace (leaf ∷ others)) left.to.leaf (way_to leaf (leaf ∷ others) None) left.to.history h.history now to_size left.comes.later.opening left.comes.later.leaf left.comes.later.history w.opens;
+          opens = whole_as (sector_of left.to) sector_size left.to.opening (opening_disk trace (leaf ∷ others)) left.to.leaf (way_to leaf (leaf ∷ others) None) left.to.history history now to_size left.comes.later.opening left.comes.later.leaf left.comes.later.history w.opens;
         }) left.whole;
       }
 
-  have : WhereBothTold (HaveServed (leaf ∷ others) lines h.guests h.history h.broken run.run.closed) old.told after.told
+  have : WhereBothTold (HaveServed (leaf ∷ others) asking guests history h.broken end.closed) old.told after.told
   have = go old.told (disk chain.store).told begun.1.serving (disk first.store).told refl sealed.sealing.goes after.told h.leaves
     where
       go : (a b : Option Trace) → StartsWith (under begun.1.ids) (leaf ∷ others) chain.layers a b → (s : Option Trace) → (disk first.store).told ≡ s → WhereBothTold (GoesOnSealed chain.layers) b s → (c : Option Trace)
-          → WhereBothTold (λ trace now. (from : State) → IsServing first.layers from trace → from.history ≡ [] → HasLeft (is_some first.layers.leaf) h.under_way from h.history h.full h.breach run.run.closed now) s c
-          → WhereBothTold (HaveServed (leaf ∷ others) lines h.guests h.history h.broken run.run.closed) a c
+          → WhereBothTold (λ trace now. (from : State) → IsServing first.layers from trace → from.history ≡ [] → HasLeft (is_some first.layers.leaf) h.under_way from history h.full h.breach end.closed now) s c
+          → WhereBothTold (HaveServed (leaf ∷ others) asking guests history h.broken end.closed) a c
       go None None st None e g None l = tt
       go None None st None e g (Some c) l = absurd l
       go None None st (Some s) e g c l = absurd g
@@ -163,31 +165,38 @@ module _ {S T : Type 0} (disk : S → Disk) (chain : Chain S KeepAll T) (names :
       go (Some a) (Some b) st (Some s) e g None l = absurd l
       go (Some a) (Some b) st (Some s) e g (Some c) l = files a b s e g st c (l (record (started a leaf others (under begun.1.ids leaf.parts)) { since = s }) (serving a b s e g st) refl)
 
-  pub has_run : HasRunServe (leaf ∷ others) names lines (record { run = run.run; unread = run.unread; tally = run.tally }) old after drawn now_drawn
+  pub has_run : HasRunGuests (leaf ∷ others) asking guests history end old after drawn now_drawn
   has_run = record {
-    guests = h.guests;
-    history = h.history;
     broken = h.broken;
     count = h.count;
-    transcript = h.transcript;
     drawn = (begun.0, begun.1.ids, begun.1.fit);
     counted = h.counted.last;
-    ended = counts_change after run.run.closed h.counted.end;
-    quiet = λ none. on_ok_weaker run.run.closed (λ same. counts_join old (disk first.store) after (quiet_since disk chain first sealed.met sealed.sealing old begun.1.counts (sealed.told none)) same) (h.counted.quiet none);
+    ended = counts_change after end.closed h.counted.end;
+    quiet = λ none. on_ok_weaker end.closed (λ same. counts_join old (disk first.store) after (quiet_since disk chain first sealed.met sealed.sealing old begun.1.counts (sealed.told none)) same) (h.counted.quiet none);
     faults =
         let k = h.faults in
-        subst (λ n. FaultsAreTold (all_told h.guests) (failed_by run.run.closed) n old.failed_changes after.failed_reads after.failed_changes) (files_are disk chain first sealed.met sealed.sealing old begun.1.counts)
+        subst (λ n. FaultsAreTold (all_told guests) (failed_by end.closed) n old.failed_changes after.failed_reads after.failed_changes) (files_are disk chain first sealed.met sealed.sealing old begun.1.counts)
         (record { each = k.each; end = k.end; none = λ none. k.none none ∙ changes_are disk chain first sealed.met sealed.sealing old begun.1.counts });
-    unread = subst (λ n. AllByRecursion (λ fault. fault.file < n) (all_unread h.guests)) (files_are disk chain first sealed.met sealed.sealing old begun.1.counts) h.unread;
-    tally_is = h.tally_is;
+    unread = subst (λ n. AllByRecursion (λ fault. fault.file < n) (all_unread guests)) (files_are disk chain first sealed.met sealed.sealing old begun.1.counts) h.unread;
     unread_is = (let all = h.unread_is in let none = h.none_fetched refl in omega (arith, all, none));
     served = have;
   }
 
-pub serve_ran : {S T : Type 0} (disk : S → Disk) (chain : Chain S KeepAll T) (files : List LinkedFile) (names : List (List ℕ)) (lines : List Line) (run : MergeRun) (old after : Disk) (drawn now : Option (List (List ℕ))) → ServesSealed disk false chain names lines run after
+-- of a session without a merge
+pub guests_ran : {S T : Type 0} (disk : S → Disk) (chain : Chain S KeepAll T) (files : List LinkedFile) (asking : Asking) (guests : List (List Outcome)) (history : History) (end : Ending) (merged : Result (Unit {0}) ChainRefusal) (old after : Disk) (drawn now : Option (List (List ℕ)))
+    → ServesSealed disk false chain asking guests history end merged after → HasStarted Guests files chain.layers old (disk chain.store) drawn now → CanStart files old → chain.layers.geometry.sector ≡ 512 → IsOfDisk files chain.layers.geometry → HasRunGuests files asking guests history end old after drawn now
+guests_ran disk chain [] asking guests history end merged old after drawn now sealed begun can sector geometry = absurd can.line
+guests_ran disk chain (leaf ∷ others) asking guests history end merged old after drawn now sealed begun can sector geometry = has_run disk chain asking guests history end merged after sealed sector leaf others old drawn now begun geometry
+
+-- and of a script
+pub serve_ran : {S T : Type 0} (disk : S → Disk) (chain : Chain S KeepAll T) (files : List LinkedFile) (names : List (List ℕ)) (lines : List Line) (run : MergeRun) (old after : Disk) (drawn now : Option (List (List ℕ))) → ServesScript disk false chain names lines run after
     → HasStarted Guests files chain.layers old (disk chain.store) drawn now → CanStart files old → chain.layers.geometry.sector ≡ 512 → IsOfDisk files chain.layers.geometry → HasRunServe files names lines (record { run = run.run; unread = run.unread; tally = run.tally }) old after drawn now
-serve_ran disk chain [] names lines run old after drawn now sealed begun can sector geometry = absurd can.line
-serve_ran disk chain (leaf ∷ others) names lines run old after drawn now sealed begun can sector geometry = has_run disk chain names lines run after sealed sector leaf others old drawn now begun geometry
+serve_ran disk chain files names lines run old after drawn now s begun can sector geometry = record {
+  guests = s.guests;
+  history = s.history;
+  ran = guests_ran disk chain files (asked_by lines) s.guests s.history (ending_of run.run run.unread) run.merged old after drawn now s.sealed begun can sector geometry;
+  written = s.written;
+}
 
 -- the session that has started serves its first state
 pub serves_first : {S T : Type 0} (disk : S → Disk) (chain : Chain S KeepAll T) (files : List LinkedFile) (old : Disk) (drawn now : Option (List (List ℕ))) → CanStart files old → HasStarted Guests files chain.layers old (disk chain.store) drawn now → ServesFirst disk chain

@@ -1,5 +1,5 @@
 -- A guest of a script, behind one of its lines.
-use Rattle.std.proofs.Common.{◌≡◌, ◌+◌, ◌^◌, ◌<◌, ◌≤◌, arith, ◌++◌, ◌∷◌, ℕ, Bool, true, false, [], List, length, Result, Ok, Err, refl, sym, ap, subst, ◌∙◌, length-append, lt-ltb}
+use Rattle.std.proofs.Common.{◌≡◌, ◌+◌, ◌^◌, ◌<◌, ◌≤◌, arith, ◌++◌, ◌∷◌, ℕ, Bool, true, false, [], List, length, map, Result, Ok, Err, refl, sym, ap, subst, ◌∙◌, length-append, lt-ltb}
 use Rattle.std.specs.Prelude.{◌||◌, IfErr, IfOk, MatchBool, if◌then◌else◌, not}
 use Rattle.std.proofs.lemmas.List.{append-nil}
 use Rattle.store_model.specs.Cause.{Rose}
@@ -28,7 +28,7 @@ use Rattle.guest_io.specs.declared.placed.Placed.{Placed}
 use Rattle.serve_session.specs.Asking.{IsAsked, IsMade, IsTooLong, OnlyReadsMiss, asks_too_many, count_of, emptied, is_want, outcome_of, read_as, reply_in, shown_in, with_answer, with_read}
 use Rattle.serve_session.specs.Served.{Outcome, call_of, counts_behind, none_failed, told_call, unread_in, unread_of}
 use Rattle.serve_session.specs.Tallies.{AddsUp, with_outcome}
-use Rattle.serve_session.proofs.Guests.{told_snoc, unread_count, unread_few}
+use Rattle.serve_session.proofs.Guests.{as_many, calls_append, told_snoc, unread_count, unread_few}
 use Rattle.serve_session.proofs.Reading.{missed_by, readers_after}
 use Rattle.serve_session.proofs.Hearing.{asked_kept, next_one, nothing_more}
 
@@ -87,9 +87,10 @@ module _ {S T : Type 0} where
   asked_free disk who form room lock old new answer asked free = let k = asked_seat disk who form room old new answer asked in (k.lock ∙ free.0, k.free)
 
   module _ (disk : S → Disk) (first : Chain S KeepAll T) (lock : TableId) (names : List (List ℕ)) (forms : List Form) (form : Form) (old : Actor S T) (is : IsActor disk first lock names forms old) where
-    more_heard : (fs : List Form) → HasHeard disk first old.number (forms ++ fs) old.guest.seat is.outcomes
+    more_heard : (fs : List Form) → HasHeard disk first old.number (map call_of (forms ++ fs)) old.guest.seat is.outcomes
     more_heard fs =
-        nothing_more disk first old.number forms is.outcomes form old.guest.seat old.guest.seat is.hears (starts-itself old.guest.seat.seen) (contains_itself old.guest.seat.basis) (omega arith) fs refl (omega arith)
+        subst (λ cs. HasHeard disk first old.number cs old.guest.seat is.outcomes) (sym (calls_append forms fs))
+        (nothing_more disk first old.number (map call_of forms) is.outcomes (call_of form) old.guest.seat old.guest.seat is.hears (starts-itself old.guest.seat.seen) (contains_itself old.guest.seat.basis) (omega arith) (map call_of fs) refl (omega arith))
 
     -- memory has run out before
     pub short_passes : old.is_short ≡ true → IsActor disk first lock names (forms ++ called_form form) old
@@ -143,10 +144,11 @@ module _ {S T : Type 0} where
           go (Ok placed) reads own = missed_by disk first form (unread_in is.outcomes) old.guest.readers readers placed.read is.readers own reads
           go (Err x) reads own = tt
 
-      heard : HasHeard disk first old.number (forms ++ form ∷ []) seat outcomes_after
+      heard : HasHeard disk first old.number (map call_of (forms ++ form ∷ [])) seat outcomes_after
       heard =
-          let k = asked_seat disk (caller_of old.guest.number old.guest.next) form room old.guest.seat seat answer asked in
-          asked_kept disk first old.number forms is.outcomes form old.guest.seat seat is.hears k.seen k.basis k.refusals kept.all (asked_drawn disk (caller_of old.guest.number old.guest.next) form room old.guest.seat seat answer asked) is.sector room answer asked_by missed
+          subst (λ cs. HasHeard disk first old.number cs seat outcomes_after) (sym (calls_append forms (form ∷ [])))
+          (let k = asked_seat disk (caller_of old.guest.number old.guest.next) form room old.guest.seat seat answer asked in
+          asked_kept disk first old.number (map call_of forms) is.outcomes (call_of form) old.guest.seat seat is.hears k.seen k.basis k.refusals (kept.all ∙ sym (as_many forms)) (asked_drawn disk (caller_of old.guest.number old.guest.next) form room old.guest.seat seat answer asked) form refl is.sector room answer asked_by missed)
 
       pub called : (a : Actor S T) → a.guest.seat ≡ seat → a.guest.readers ≡ readers → a.guest.number ≡ old.guest.number → a.guest.next ≡ one_more old.guest.next → a.number ≡ old.number → length a.room.items ≡ 1048576 → a.unread ≡ with_answer old.unread answer → AddsUp a.tally outcomes_after
           → (a.is_short ≡ false → (is_want answer ≡ false) × (a.told.items ≡ old.told.items ++ told_call names form (outcome_of (shown_in room form) answer) ∷ [])) → IsActor disk first lock names (forms ++ called_form form) a
@@ -156,7 +158,7 @@ module _ {S T : Type 0} where
         room = rooms;
         sector = is.sector;
         outcomes = outcomes_after;
-        hears = subst (λ n. HasHeard disk first n (forms ++ form ∷ []) a.guest.seat outcomes_after) (sym number) (subst (λ s. HasHeard disk first old.number (forms ++ form ∷ []) s outcomes_after) (sym seat_is) heard);
+        hears = subst (λ n. HasHeard disk first n (map call_of (forms ++ form ∷ [])) a.guest.seat outcomes_after) (sym number) (subst (λ s. HasHeard disk first old.number (map call_of (forms ++ form ∷ [])) s outcomes_after) (sym seat_is) heard);
         readers = subst (HasReaders disk first (unread_in outcomes_after)) (sym readers_are) (readers_after disk first is.outcomes (shown_in room form) answer old.guest.readers readers is.readers by);
         tally = tally;
         unread = unread ∙ unread_more is.outcomes old.unread (shown_in room form) answer is.unread (subst (λ n. n < 2 ^ 32) (sym kept.all) few);

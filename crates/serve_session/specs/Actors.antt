@@ -1,4 +1,4 @@
--- What a guest of a script has done so far, by its seat and what it was told.
+-- What guests have done so far, by their seats and what they were told; and a guest of a script.
 use Rattle.read_plan.specs.Reading.{has_failed}
 use Rattle.std.specs.Prelude.{◌≡◌, ◌⊎◌, ◌+◌, ◌-◌, ◌^◌, ◌<◌, ◌≤◌, ⊤, ℕ, Bool, false, true, All, List, [], ◌∷◌, ◌++◌, if◌then◌else◌, length, map, nat_lt, Some, None, Result, Ok, Err, IfErr, IfOk}
 use Rattle.store_model.specs.Disk.{Disk, Sealed}
@@ -17,7 +17,6 @@ use Rattle.shared_chain.specs.Planned.{IsReaderFor}
 use Rattle.script.specs.Grammar.{is_call}
 use Rattle.script.specs.declared.form.Form.{Form}
 use Rattle.script.specs.declared.form.Line.{Line}
-use Rattle.script.specs.declared.told.ToldCall.{ToldCall}
 use Rattle.script_session.specs.Told.{sector_size}
 use Rattle.seats.specs.Counting.{times}
 use Rattle.turn_lock.specs.Histories.{StartsWith}
@@ -35,19 +34,19 @@ use Rattle.shared_chain.specs.Steps.{done_steps, open_by}
 use Rattle.shared_chain.specs.Seats.{IsFree, MergeBreaksAt}
 use Rattle.serve_session.specs.Tallies.{AddsUp}
 use Rattle.serve_session.specs.declared.actor.Actor.{Actor}
-use Rattle.serve_session.specs.Served.{EachGuest, Has, IsCountedUp, IsRising, IsWhole, Outcome, SomeGuest, call_of, counts_behind, entry_of, forms_of, none_failed, places_in, told_calls, told_guests, unread_in}
+use Rattle.serve_session.specs.Served.{Asking, EachGuest, Has, IsCountedUp, IsRising, Outcome, SomeGuest, call_of, counts_behind, entry_of, forms_of, none_failed, places_in, told_calls, unread_in}
 
--- The call of this form broke a session: it was told so, and what a crash may leave otherwise for it are sectors that it names.
-abbrev pub HasBreach : ℕ → ℕ → Form → Breach → Outcome → Type 0
-HasBreach guest number form b (Err (refusals.Broken file count)) =
-    (b.guest ≡ guest) × (b.no ≡ number) × ((s : ℕ) → is_named sector_size (call_of form) s ≡ false → open_by (Some b) s ≡ false)
-HasBreach guest number form b other = ⊥
+-- The call broke a session: it was told so, and what a crash may leave otherwise for it are sectors that it names.
+abbrev pub HasBreach : ℕ → ℕ → Call → Breach → Outcome → Type 0
+HasBreach guest number call b (Err (refusals.Broken file count)) =
+    (b.guest ≡ guest) × (b.no ≡ number) × ((s : ℕ) → is_named sector_size call s ≡ false → open_by (Some b) s ≡ false)
+HasBreach guest number call b other = ⊥
 
 -- one of these calls did
-abbrev pub HasBreacher : Breach → ℕ → ℕ → List Form → List Outcome → Type 0
-HasBreacher b guest number forms [] = ⊥
+abbrev pub HasBreacher : Breach → ℕ → ℕ → List Call → List Outcome → Type 0
+HasBreacher b guest number calls [] = ⊥
 HasBreacher b guest number [] (o ∷ outcomes) = ⊥
-HasBreacher b guest number (form ∷ forms) (o ∷ outcomes) = HasBreach guest number form b o ⊎ HasBreacher b guest (number + 1) forms outcomes
+HasBreacher b guest number (call ∷ calls) (o ∷ outcomes) = HasBreach guest number call b o ⊎ HasBreacher b guest (number + 1) calls outcomes
 
 -- ---- what a seat has heard
 
@@ -88,32 +87,32 @@ module _ {S T : Type 0} (disk : S → Disk) (first : Chain S KeepAll T) where
       (misplaced call first.layers ≡ None) × HasNote seat.basis.notes (notes.ReadFailed file count) × (HasNote first_notes (notes.ReadFailed file count) → 2 ^ 64 - 1 ≤ count)
   IsHeardOf seat call other = ⊥
 
-  abbrev pub IsHeard : Known Step (Basis S T) → ℕ → ℕ → Form → Outcome → Type 0
-  IsHeard seat guest number form (Ok done) = HasPlace seat.seen guest number (call_of form) done
-  IsHeard seat guest number form (Err refusal) = IsHeardOf seat (call_of form) refusal
+  abbrev pub IsHeard : Known Step (Basis S T) → ℕ → ℕ → Call → Outcome → Type 0
+  IsHeard seat guest number call (Ok done) = HasPlace seat.seen guest number call done
+  IsHeard seat guest number call (Err refusal) = IsHeardOf seat call refusal
 
   -- so it is of a guest's calls, the first of which has this number
-  abbrev pub AreHeard : Known Step (Basis S T) → ℕ → ℕ → List Form → List Outcome → Type 0
-  AreHeard seat guest number forms [] = ⊤
+  abbrev pub AreHeard : Known Step (Basis S T) → ℕ → ℕ → List Call → List Outcome → Type 0
+  AreHeard seat guest number calls [] = ⊤
   AreHeard seat guest number [] (o ∷ outcomes) = ⊥
-  AreHeard seat guest number (form ∷ forms) (o ∷ outcomes) = IsHeard seat guest number form o × AreHeard seat guest (number + 1) forms outcomes
+  AreHeard seat guest number (call ∷ calls) (o ∷ outcomes) = IsHeard seat guest number call o × AreHeard seat guest (number + 1) calls outcomes
 
 -- the call at this place, behind the whole history, is what broke the session: one of this guest's
-pub record BreaksAt (seen : List Step) (p guest : ℕ) (forms : List Form) (outcomes : List Outcome) : Type 0 where
+pub record BreaksAt (seen : List Step) (p guest : ℕ) (calls : List Call) (outcomes : List Outcome) : Type 0 where
   pub before : History
   pub breach : Breach
   pub begins : StartsWith seen (done_steps before ++ Broke breach ∷ [])
   pub place_is : p ≡ length before + 1
-  pub breaker : HasBreacher breach guest 1 forms outcomes
+  pub breaker : HasBreacher breach guest 1 calls outcomes
 
 -- what stands at a place is what a guest was told of
-abbrev pub OwnsAt : List Step → ℕ → ℕ → List Form → List Outcome → Type 0
-OwnsAt seen p guest forms outcomes = Has p (places_in outcomes) ⊎ BreaksAt seen p guest forms outcomes
+abbrev pub OwnsAt : List Step → ℕ → ℕ → List Call → List Outcome → Type 0
+OwnsAt seen p guest calls outcomes = Has p (places_in outcomes) ⊎ BreaksAt seen p guest calls outcomes
 
 -- what stands at a place is what a guest was told of; or, in a session with a merge, what a step of the merge broke
-abbrev pub IsOwned : Bool → List Step → ℕ → List Line → List (List Outcome) → Type 0
-IsOwned false seen p lines guests = SomeGuest (λ guest outcomes. OwnsAt seen p guest (forms_of guest lines) outcomes) 1 guests
-IsOwned true seen p lines guests = SomeGuest (λ guest outcomes. OwnsAt seen p guest (forms_of guest lines) outcomes) 1 guests ⊎ MergeBreaksAt seen p
+abbrev pub IsOwned : Bool → List Step → ℕ → Asking → List (List Outcome) → Type 0
+IsOwned false seen p asking guests = SomeGuest (λ guest outcomes. OwnsAt seen p guest (asking.calls guest) outcomes) 1 guests
+IsOwned true seen p asking guests = SomeGuest (λ guest outcomes. OwnsAt seen p guest (asking.calls guest) outcomes) 1 guests ⊎ MergeBreaksAt seen p
 
 -- ---- guests
 
@@ -123,13 +122,13 @@ called_form form = if is_call form then form ∷ [] else []
 
 module _ {S T : Type 0} (disk : S → Disk) (first : Chain S KeepAll T) where
   -- What a guest with this seat was told of its calls, and nothing else is its own. It drew a ticket for each of them at most.
-  pub record HasHeard (guest : ℕ) (forms : List Form) (seat : Known Step (Basis S T)) (outcomes : List Outcome) : Type 0 where
+  pub record HasHeard (guest : ℕ) (calls : List Call) (seat : Known Step (Basis S T)) (outcomes : List Outcome) : Type 0 where
     pub knows : IsFrom disk first seat.basis
-    pub heard : AreHeard disk first seat guest 1 forms outcomes
+    pub heard : AreHeard disk first seat guest 1 calls outcomes
     pub order : IsRising (places_in outcomes)
     pub unread : IsCountedUp none_failed (unread_in outcomes)
-    pub owns : (p : ℕ) → 0 < times p seat.mine → OwnsAt seat.seen p guest forms outcomes
-    pub drawn : seat.drawn ≤ length forms
+    pub owns : (p : ℕ) → 0 < times p seat.mine → OwnsAt seat.seen p guest calls outcomes
+    pub drawn : seat.drawn ≤ length calls
 
   -- all calls of these forms were made, and what they were told is kept
   pub record HasKept (names : List (List ℕ)) (forms : List Form) (actor : Actor S T) (outcomes : List Outcome) : Type 0 where
@@ -152,7 +151,7 @@ module _ {S T : Type 0} (disk : S → Disk) (first : Chain S KeepAll T) where
     pub room : length actor.room.items ≡ 1048576
     pub sector : first.layers.geometry.sector ≡ sector_size
     pub outcomes : List Outcome
-    pub hears : HasHeard actor.number forms actor.guest.seat outcomes
+    pub hears : HasHeard actor.number (map call_of forms) actor.guest.seat outcomes
     pub readers : HasReaders (unread_in outcomes) actor.guest.readers
     pub unread : actor.unread ≡ length (unread_in outcomes)
     pub tally : AddsUp actor.tally outcomes
@@ -165,13 +164,11 @@ module _ {S T : Type 0} (disk : S → Disk) (first : Chain S KeepAll T) where
   -- ---- all of them
 
   -- What guests were told whose seats were joined into this one, as were those of a merge's workers, if there is a merge.
-  pub record AreJoined (merges : Bool) (lock : TableId) (names : List (List ℕ)) (lines : List Line) (seat : Known Step (Basis S T)) (told : List (List ToldCall)) (short : Bool) (guests : List (List Outcome)) : Type 0 where
+  pub record AreJoined (merges : Bool) (lock : TableId) (asking : Asking) (seat : Known Step (Basis S T)) (guests : List (List Outcome)) : Type 0 where
     pub free : IsFree lock seat
     pub leads : seat.family.is_first ≡ true
     pub knows : IsFrom disk first seat.basis
-    pub heard : EachGuest (λ guest outcomes. AreHeard disk first seat guest 1 (forms_of guest lines) outcomes) 1 guests
+    pub heard : EachGuest (λ guest outcomes. AreHeard disk first seat guest 1 (asking.calls guest) outcomes) 1 guests
     pub order : EachGuest (λ guest outcomes. IsRising (places_in outcomes)) 1 guests
     pub unread : EachGuest (λ guest outcomes. IsCountedUp none_failed (unread_in outcomes)) 1 guests
-    pub owns : (p : ℕ) → 0 < times p seat.mine → IsOwned merges seat.seen p lines guests
-    pub count : length told ≡ length guests
-    pub kept : short ≡ false → IsWhole lines guests × (told ≡ told_guests names 1 lines guests)
+    pub owns : (p : ℕ) → 0 < times p seat.mine → IsOwned merges seat.seen p asking guests

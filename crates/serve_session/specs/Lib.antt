@@ -10,3 +10,5 @@ pub mod MergeServed
 pub mod Serving
 pub mod Tallies
 pub mod Running
+pub mod Endings
+pub mod Written

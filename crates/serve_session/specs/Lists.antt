@@ -19,7 +19,8 @@ use Rattle.copy_workers.specs.declared.worker.Worker.{Worker}
 use Rattle.serve_session.specs.declared.actor.Actor.{Actor}
 use Rattle.shared_chain.specs.Seats.{MergeBreaksAt}
 use Rattle.seats.specs.Counting.{times}
-use Rattle.serve_session.specs.Served.{Outcome, all_unread}
+use Rattle.serve_session.specs.Served.{Outcome, all_unread, asked_by}
+use Rattle.serve_session.specs.Written.{AreKept}
 use Rattle.serve_session.specs.Tallies.{AddsUp, all_outcomes, no_tally}
 use Rattle.serve_session.specs.declared.tally.Tally.{Tally}
 
@@ -101,11 +102,12 @@ module _ {S T : Type 0} where
     pub refusals : old.refusals ≤ new.refusals
     pub own : (p : ℕ) → 0 < times p new.mine → (0 < times p old.mine) ⊎ MergeBreaksAt new.seen p
 
-  -- the seats of so many guests were joined, each of which drew a ticket for each of its calls at most; so many of their reads failed by a
-  -- reader, and this is what their calls came to
+  -- the seats of so many guests of a script were joined, each of which drew a ticket for each of its calls at most; so many of their reads failed
+  -- by a reader, and this is what their calls came to
   pub record HasJoined (disk : S → Disk) (merges : Bool) (first : Chain S KeepAll T) (lock : TableId) (names : List (List ℕ)) (lines : List Line) (count : ℕ) (old new : Known Step (Basis S T)) (told : List (List ToldCall)) (short : Bool) (unread : ℕ) (tally : Tally) : Type 0 where
     pub guests : List (List Outcome)
-    pub joined : AreJoined disk first merges lock names lines new told short guests
+    pub joined : AreJoined disk first merges lock (asked_by lines) new guests
+    pub words : AreKept names lines told short guests
     pub count_is : length guests ≡ count
     pub unread_is : unread ≡ length (all_unread guests)
     pub tally_is : AddsUp tally (all_outcomes guests)

@@ -1,5 +1,5 @@
 -- What a session with several guests, in which a merge runs beside them, does to the files of a chain, from its start to its end.
-use Rattle.std.specs.Prelude.{◌≡◌, ◌+◌, ◌^◌, ◌<◌, ⊤, ℕ, Bool, true, false, List, map, length, string_bytes, Option, None, Some, Result, Err, IfErr, IfOk, IfSome, OnOk}
+use Rattle.std.specs.Prelude.{◌≡◌, ◌+◌, ◌^◌, ◌<◌, ⊤, ℕ, Bool, true, false, List, map, length, Option, None, Result, IfErr, IfSome, OnOk}
 use Rattle.std.specs.List.{AllByRecursion}
 use Rattle.store_model.specs.Disk.{Disk, WhereBothTold}
 use Rattle.store_model.specs.Trace.{Trace, file_of}
@@ -24,9 +24,9 @@ use Rattle.script_session.specs.Histories.{Break, IsEndTold, IsSoLong, disk_afte
 use Rattle.script_session.specs.MergeRunning.{IsAtRestOver, Scope, drive_over, leaf_scope_of, scope_of}
 use Rattle.script_session.specs.Running.{open_by, open_last}
 use Rattle.script_session.specs.Told.{failed_by, sector_size}
-use Rattle.script_session.specs.declared.session.ScriptRun.{ScriptRun}
-use Rattle.serve_session.specs.Served.{AreServed, IsTranscript, Outcome, all_told, all_unread, guest_count}
-use Rattle.serve_session.specs.Tallies.{AddsUp, all_outcomes}
+use Rattle.serve_session.specs.Endings.{Ending, StopsMerge, ending_of}
+use Rattle.serve_session.specs.Served.{AreServed, Asking, Outcome, all_told, all_unread, asked_by}
+use Rattle.serve_session.specs.Written.{IsWritten}
 use Rattle.serve_session.specs.declared.merging.MergeRun.{MergeRun}
 
 -- Where a merge isn't finished at the end for want of room, a file that may be changed is so long, within 1,024 MB of the greatest place that a
@@ -38,8 +38,8 @@ IsStopTold may now other = ⊤
 -- What stands behind guests that were told so, over the files of a store, whatever of the merge was done between their calls. At each moment
 -- each image opens from the leaf's name to the disk of a prefix of the history, outside the sectors that are open then, and at the end to that
 -- of all. No file but those was changed, though one that is only read may have been sealed. Where the merge was finished the leaf's name leads to the files that stay, and where it was stopped to all.
-pub record HasServedOver (scope : Scope) (lines : List Line) (guests : List (List Outcome)) (history : History) (broken : Option Break) (merged : Result (Unit {0}) ChainRefusal) (closed : Result (Unit {0}) StoreFault) (trace now : Trace) : Type 0 where
-  pub served : AreServed true (drive_over scope trace) lines guests history (failed_by closed) broken
+pub record HasServedOver (scope : Scope) (asking : Asking) (guests : List (List Outcome)) (history : History) (broken : Option Break) (merged : Result (Unit {0}) ChainRefusal) (closed : Result (Unit {0}) StoreFault) (trace now : Trace) : Type 0 where
+  pub served : AreServed true (drive_over scope trace) asking guests history (failed_by closed) broken
   pub moments : EachOpensToPrefix sector_size (opening_disk trace scope.files) history (open_by broken) scope.leaf trace now
   pub last : EachOpens scope.leaf (open_last history broken) (disk_after (drive_over scope trace) history) now
   pub full : AllByRecursion (IsEndTold (IsSoLong scope.changes now)) (all_told guests)
@@ -49,49 +49,47 @@ pub record HasServedOver (scope : Scope) (lines : List Line) (guests : List (Lis
   pub stays : IfErr merged (λ x. OnOk closed (EachLinks scope.leaf.name (map (λ (f : LinkedFile). f.name) scope.files) now))
   pub stopped : IfErr merged (IsStopTold scope.changes now)
 
--- Why a merge isn't finished at the end: a file is full; a read failed, as the last fault that was met; or a fault has broken the session. Where
--- memory ran out there is no transcript.
-abbrev pub StopsMerge : ScriptRun → ChainRefusal → Type 0
-StopsMerge run (refusals.FileFull next) = ⊤
-StopsMerge run (refusals.ReadFault file count) = run.fault ≡ Some (record { file = file; count = count })
-StopsMerge run (refusals.Broken file count) = run.closed ≡ Err (record { file = file; count = count })
-StopsMerge run refusals.NoRoom = IfOk run.transcript (λ text. ⊥)
-StopsMerge run other = ⊥
-
--- Guests were served over these files, and the session ended: what they were told is one history's, and the transcript, if there is one, is of
--- all calls of the script. What was told of faults the store counts, but for the reads that failed by a reader of one of its files, which are
--- so many.
-pub record HasServedWith (scope : Scope) (names : List (List ℕ)) (lines : List Line) (run : MergeRun) (old new : Disk) : Type 0 where
-  pub guests : List (List Outcome)
-  pub history : History
+-- Guests were served over these files, and the session ended: what they were told is one history's. What was told of faults the store counts, but
+-- for the reads that failed by a reader of one of its files, which are so many.
+pub record HasServedWith (scope : Scope) (asking : Asking) (guests : List (List Outcome)) (history : History) (end : Ending) (merged : Result (Unit {0}) ChainRefusal) (old new : Disk) : Type 0 where
   pub broken : Option Break
-  pub count : length guests ≡ guest_count lines
-  pub transcript : IfOk run.run.transcript (λ text. IsTranscript names lines guests history (string_bytes text))
+  pub count : length guests ≡ asking.count
   -- the store counts the last fault that refused a call or a step of the merge, and the one by which the end failed; with neither the counts
   -- stay
-  pub counted : IfSome run.run.fault (Counts new)
-  pub ended : IfErr run.run.closed (Counts new)
-  pub quiet : run.run.fault ≡ None → OnOk run.run.closed (new ≡ record old { told = new.told })
-  pub faults : FaultsAreTold (all_told guests) (failed_by run.run.closed) old.files old.failed_changes new.failed_reads new.failed_changes
+  pub counted : IfSome end.fault (Counts new)
+  pub ended : IfErr end.closed (Counts new)
+  pub quiet : end.fault ≡ None → OnOk end.closed (new ≡ record old { told = new.told })
+  pub faults : FaultsAreTold (all_told guests) (failed_by end.closed) old.files old.failed_changes new.failed_reads new.failed_changes
   pub unread : AllByRecursion (λ fault. fault.file < old.files) (all_unread guests)
   -- and so many of stripes that workers couldn't fetch
   pub unfetched : ℕ
-  pub unread_is : run.unread ≡ length (all_unread guests) + unfetched
-  -- and what the guests' calls came to
-  pub tally_is : AddsUp run.tally (all_outcomes guests)
-  pub stopped : IfErr run.merged (StopsMerge run.run)
-  pub served : WhereBothTold (HasServedOver scope lines guests history broken run.merged run.run.closed) old.told new.told
+  pub unread_is : end.unread ≡ length (all_unread guests) + unfetched
+  pub stopped : IfErr merged (StopsMerge end)
+  pub served : WhereBothTold (HasServedOver scope asking guests history broken merged end.closed) old.told new.told
 
 -- A session started with the merge of the file of this name, its guests were served beside the merge, and it ended.
-pub record HasRunServeMerge (files : List LinkedFile) (name : List ℕ) (names : List (List ℕ)) (lines : List Line) (run : MergeRun) (old new : Disk) (before now : Option (List (List ℕ))) : Type 0 where
+pub record HasRunMerge (files : List LinkedFile) (name : List ℕ) (asking : Asking) (guests : List (List Outcome)) (history : History) (end : Ending) (merged : Result (Unit {0}) ChainRefusal) (old new : Disk) (before now : Option (List (List ℕ))) : Type 0 where
   pub m : MergeFiles
   pub merge : Merge
   pub planned : PlansMerge files name old before now m merge
-  pub serves : HasServedWith (scope_of m) names lines run old new
+  pub serves : HasServedWith (scope_of m) asking guests history end merged old new
 
 -- and with the merge of the leaf
-pub record HasRunServeLeafMerge (files : List LinkedFile) (names : List (List ℕ)) (lines : List Line) (run : MergeRun) (old new : Disk) (before now : Option (List (List ℕ))) : Type 0 where
+pub record HasRunLeafMerge (files : List LinkedFile) (asking : Asking) (guests : List (List Outcome)) (history : History) (end : Ending) (merged : Result (Unit {0}) ChainRefusal) (old new : Disk) (before now : Option (List (List ℕ))) : Type 0 where
   pub m : LeafFiles
   pub merge : LeafMerge
   pub planned : PlansLeafMerge files old before now m merge
-  pub serves : HasServedWith (leaf_scope_of m) names lines run old new
+  pub serves : HasServedWith (leaf_scope_of m) asking guests history end merged old new
+
+-- The guests of a script were served so, and its run is written as they were told.
+pub record HasRunServeMerge (files : List LinkedFile) (name : List ℕ) (names : List (List ℕ)) (lines : List Line) (run : MergeRun) (old new : Disk) (before now : Option (List (List ℕ))) : Type 0 where
+  pub guests : List (List Outcome)
+  pub history : History
+  pub ran : HasRunMerge files name (asked_by lines) guests history (ending_of run.run run.unread) run.merged old new before now
+  pub written : IsWritten names lines guests history run.run run.tally
+
+pub record HasRunServeLeafMerge (files : List LinkedFile) (names : List (List ℕ)) (lines : List Line) (run : MergeRun) (old new : Disk) (before now : Option (List (List ℕ))) : Type 0 where
+  pub guests : List (List Outcome)
+  pub history : History
+  pub ran : HasRunLeafMerge files (asked_by lines) guests history (ending_of run.run run.unread) run.merged old new before now
+  pub written : IsWritten names lines guests history run.run run.tally

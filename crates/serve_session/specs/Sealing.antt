@@ -2,7 +2,9 @@
 use Rattle.std.specs.Prelude.{◌≡◌, ℕ, Bool, List, [], Option, None, Result}
 use Rattle.store_model.specs.Disk.{Disk, Sealed, WhereBothTold, WhereTold}
 use Rattle.store_model.specs.declared.fault.StoreFault.{StoreFault}
+use Rattle.guest_model.specs.History.{History}
 use Rattle.guest_model.specs.declared.recorder.KeepAll.{KeepAll}
+use Rattle.guest_model.specs.declared.refusal.ChainRefusal.{ChainRefusal}
 use Rattle.chain_core.specs.declared.chain.Chain.{Chain}
 use Rattle.chain_core.specs.Sealed.{GoesOnSealed}
 use Rattle.chain_core.specs.Sessions.{IsSound, has_merge}
@@ -12,7 +14,10 @@ use Rattle.shared_chain.specs.Faults.{EndsCounted}
 use Rattle.shared_chain.specs.Homes.{session_of}
 use Rattle.script.specs.declared.form.Line.{Line}
 use Rattle.serve_session.specs.Actors.{HasReaders}
+use Rattle.serve_session.specs.Endings.{Ending, ending_of}
+use Rattle.serve_session.specs.Served.{Asking, Outcome, asked_by}
 use Rattle.serve_session.specs.Serving.{HasServed}
+use Rattle.serve_session.specs.Written.{IsWritten}
 use Rattle.serve_session.specs.declared.merging.MergeRun.{MergeRun}
 
 module _ {S T : Type 0} (disk : S → Disk) where
@@ -43,9 +48,16 @@ module _ {S T : Type 0} (disk : S → Disk) where
 
   -- Guests were served once what their session only reads was sealed; or the session ended before, as a read failed, which is told, or memory ran
   -- out.
-  pub record ServesSealed (merges : Bool) (chain : Chain S KeepAll T) (names : List (List ℕ)) (lines : List Line) (run : MergeRun) (after : Disk) : Type 0 where
+  pub record ServesSealed (merges : Bool) (chain : Chain S KeepAll T) (asking : Asking) (guests : List (List Outcome)) (history : History) (end : Ending) (merged : Result (Unit {0}) ChainRefusal) (after : Disk) : Type 0 where
     pub first : Chain S KeepAll T
     pub met : Option StoreFault
     pub sealing : IsSealing chain first met
-    pub told : run.run.fault ≡ None → met ≡ None
-    pub served : HasServed disk merges first names lines run after
+    pub told : end.fault ≡ None → met ≡ None
+    pub served : HasServed disk merges first asking guests history end merged after
+
+  -- the guests of a script were served so
+  pub record ServesScript (merges : Bool) (chain : Chain S KeepAll T) (names : List (List ℕ)) (lines : List Line) (run : MergeRun) (after : Disk) : Type 0 where
+    pub guests : List (List Outcome)
+    pub history : History
+    pub sealed : ServesSealed merges chain (asked_by lines) guests history (ending_of run.run run.unread) run.merged after
+    pub written : IsWritten names lines guests history run.run run.tally

@@ -1,11 +1,11 @@
--- What a script of several guests is told over one disk: there is one history of the calls that were made, and each call is told its
--- reply at its place (profile).
-use Rattle.std.specs.Prelude.{◌≡◌, ◌⊎◌, ◌+◌, ◌*◌, ◌<◌, ◌≤◌, ◌==◌, ◌&&◌, if◌then◌else◌, ⊤, ℕ, Bool, true, false, List, [], ◌∷◌, ◌++◌, length, max, min, replicate, Option, Some, None, Result, Ok, Err, IfErr, IfOk, IfSome}
+-- What several guests are told over one disk: there is one history of the calls that were made, and each call is told its reply at its place
+-- (profile).
+use Rattle.std.specs.Prelude.{◌≡◌, ◌⊎◌, ◌+◌, ◌*◌, ◌<◌, ◌≤◌, ◌==◌, ◌&&◌, if◌then◌else◌, ⊤, ℕ, Bool, true, false, List, [], ◌∷◌, ◌++◌, length, map, max, min, replicate, Option, Some, None, Result, Ok, Err, IfErr, IfOk, IfSome}
 use Rattle.std.specs.List.{AllByRecursion, flat_map}
 use Rattle.store_model.specs.Cause.{Rose}
 use Rattle.store_model.specs.declared.fault.StoreFault.{StoreFault}
 use Rattle.guest_model.specs.declared.call.Call.{Call}
-use Rattle.guest_model.specs.declared.call.Call.TheVariants as calls
+use Rattle.guest_model.specs.declared.call.Call.TheVariants as asks
 use Rattle.guest_model.specs.declared.call.Entry.{Entry}
 use Rattle.guest_model.specs.declared.call.Reply.{Reply}
 use Rattle.guest_model.specs.declared.refusal.ChainRefusal.{ChainRefusal}
@@ -27,10 +27,10 @@ use Rattle.turn_lock.specs.Histories.{StartsWith}
 
 -- the call that a guest's line asks for; each byte of a write is the line's
 abbrev pub call_of : Form → Call
-call_of (Read first count) = calls.Read first count
-call_of (Write first count byte) = calls.Write first (replicate (sector_size * count) byte)
-call_of (Trim first count) = calls.Trim first count
-call_of other = calls.Flush
+call_of (Read first count) = asks.Read first count
+call_of (Write first count byte) = asks.Write first (replicate (sector_size * count) byte)
+call_of (Trim first count) = asks.Trim first count
+call_of other = asks.Flush
 
 -- the forms of one guest's calls, in the script's order
 abbrev pub forms_of : ℕ → List Line → List Form
@@ -45,6 +45,17 @@ greatest_from guest (line ∷ lines) = greatest_from (max guest line.guest) line
 -- how many guests are run: up to the greatest number of one, and at most 64
 abbrev pub guest_count : List Line → ℕ
 guest_count lines = min (greatest_from 0 lines) 64
+
+-- ---- what is asked
+
+-- What guests ask of one disk, whatever front they come by: how many they are, from guest 1 on, and the calls that each makes, in its order.
+pub record Asking : Type 0 where
+  pub count : ℕ
+  pub calls : ℕ → List Call
+
+-- by a script
+abbrev pub asked_by : List Line → Asking
+asked_by lines = record { count = guest_count lines; calls = λ guest. map call_of (forms_of guest lines) }
 
 -- ---- what is told
 
@@ -168,44 +179,44 @@ IsOutcome drive h broken guest number call (Ok done) = HasDone drive h (entry_of
 IsOutcome drive h broken guest number call (Err e) = IsRefused drive broken call e
 
 -- so it is of its calls, the first of which has this number; where memory ran out not all of them were made
-abbrev pub AreOutcomes : Drive → History → Option StoreFault → ℕ → ℕ → List Form → List Outcome → Type 0
-AreOutcomes drive h broken guest number forms [] = ⊤
+abbrev pub AreOutcomes : Drive → History → Option StoreFault → ℕ → ℕ → List Call → List Outcome → Type 0
+AreOutcomes drive h broken guest number calls [] = ⊤
 AreOutcomes drive h broken guest number [] (o ∷ outcomes) = ⊥
-AreOutcomes drive h broken guest number (form ∷ forms) (o ∷ outcomes) = IsOutcome drive h broken guest number (call_of form) o × AreOutcomes drive h broken guest (number + 1) forms outcomes
+AreOutcomes drive h broken guest number (call ∷ calls) (o ∷ outcomes) = IsOutcome drive h broken guest number call o × AreOutcomes drive h broken guest (number + 1) calls outcomes
 
--- The call of this form broke the session: it was told so, by the fault that did.
-abbrev pub HasBroken : Form → Break → Outcome → Type 0
-HasBroken form b (Err (refusals.Broken file count)) = (b.fault ≡ record { file = file; count = count }) × (b.call ≡ Some (call_of form))
-HasBroken form b other = ⊥
+-- The call broke the session: it was told so, by the fault that did.
+abbrev pub HasBroken : Call → Break → Outcome → Type 0
+HasBroken call b (Err (refusals.Broken file count)) = (b.fault ≡ record { file = file; count = count }) × (b.call ≡ Some call)
+HasBroken call b other = ⊥
 
 -- one of these calls did
-abbrev pub HasBreaker : Break → List Form → List Outcome → Type 0
-HasBreaker b forms [] = ⊥
+abbrev pub HasBreaker : Break → List Call → List Outcome → Type 0
+HasBreaker b calls [] = ⊥
 HasBreaker b [] (o ∷ outcomes) = ⊥
-HasBreaker b (form ∷ forms) (o ∷ outcomes) = HasBroken form b o ⊎ HasBreaker b forms outcomes
+HasBreaker b (call ∷ calls) (o ∷ outcomes) = HasBroken call b o ⊎ HasBreaker b calls outcomes
 
 -- What broke a session is one of the guests' calls; or, in a session with a merge, a step of the merge, by the fault that the session's end is
 -- answered.
-abbrev pub IsBreakOf : Bool → List Line → List (List Outcome) → Option StoreFault → Break → Type 0
-IsBreakOf false lines guests ended b = SomeGuest (λ guest outcomes. HasBreaker b (forms_of guest lines) outcomes) 1 guests
-IsBreakOf true lines guests ended b = SomeGuest (λ guest outcomes. HasBreaker b (forms_of guest lines) outcomes) 1 guests ⊎ ((b.call ≡ None) × (ended ≡ Some b.fault))
+abbrev pub IsBreakOf : Bool → Asking → List (List Outcome) → Option StoreFault → Break → Type 0
+IsBreakOf false asking guests ended b = SomeGuest (λ guest outcomes. HasBreaker b (asking.calls guest) outcomes) 1 guests
+IsBreakOf true asking guests ended b = SomeGuest (λ guest outcomes. HasBreaker b (asking.calls guest) outcomes) 1 guests ⊎ ((b.call ≡ None) × (ended ≡ Some b.fault))
 
 -- What guests were told over one disk, the first list being guest 1's: each call its outcome. Of each guest the calls that were done stand in
--- the history in the script's order, and the history has nothing else; the reads of it that a reader failed are counted up, file by file. The
+-- the history in its order, and the history has nothing else; the reads of it that a reader failed are counted up, file by file. The
 -- session's end is answered this fault, if it failed or if a fault had broken the session; the call that this one broke it in is one of theirs,
 -- if it wasn't a step of a merge.
-pub record AreServed (merges : Bool) (drive : Drive) (lines : List Line) (guests : List (List Outcome)) (h : History) (ended : Option StoreFault) (broken : Option Break) : Type 0 where
-  pub told : EachGuest (λ guest outcomes. AreOutcomes drive h ended guest 1 (forms_of guest lines) outcomes) 1 guests
+pub record AreServed (merges : Bool) (drive : Drive) (asking : Asking) (guests : List (List Outcome)) (h : History) (ended : Option StoreFault) (broken : Option Break) : Type 0 where
+  pub told : EachGuest (λ guest outcomes. AreOutcomes drive h ended guest 1 (asking.calls guest) outcomes) 1 guests
   pub order : EachGuest (λ guest outcomes. IsRising (places_in outcomes)) 1 guests
   pub unread : EachGuest (λ guest outcomes. IsCountedUp none_failed (unread_in outcomes)) 1 guests
   pub all : (p : ℕ) → 1 ≤ p → p ≤ length h → SomeGuest (λ guest outcomes. Has p (places_in outcomes)) 1 guests
-  pub breaker : IfSome broken (IsBreakOf merges lines guests ended)
+  pub breaker : IfSome broken (IsBreakOf merges asking guests ended)
 
--- all calls of the script were made
-abbrev pub IsWhole : List Line → List (List Outcome) → Type 0
-IsWhole lines guests = EachGuest (λ guest outcomes. length outcomes ≡ length (forms_of guest lines)) 1 guests
+-- all calls were made
+abbrev pub IsWhole : Asking → List (List Outcome) → Type 0
+IsWhole asking guests = EachGuest (λ guest outcomes. length outcomes ≡ length (asking.calls guest)) 1 guests
 
 -- The transcript of a script of which all calls were made.
 pub record IsTranscript (names : List (List ℕ)) (lines : List Line) (guests : List (List Outcome)) (h : History) (text : List ℕ) : Type 0 where
-  pub whole : IsWhole lines guests
+  pub whole : IsWhole (asked_by lines) guests
   pub text_is : text ≡ serve_text h (told_guests names 1 lines guests)

@@ -4,7 +4,7 @@ ghost use Rattle.std.specs.Prelude.{◌≡◌, ◌≤◌, ◌^◌, All, [], None
 ghost use Rattle.chain_core.specs.Sessions.{IsSound, has_merge};
 ghost use Rattle.shared_chain.specs.Homes.{session_of};
 ghost use Rattle.serve_session.specs.Back.{any_failed};
-ghost use Rattle.serve_session.specs.Sealing.{ServesFirst, ServesSealed};
+ghost use Rattle.serve_session.specs.Sealing.{ServesFirst, ServesScript};
 ghost use Rattle.serve_session.specs.Served.{guest_count};
 
 use crate::merging::MergeRun;
@@ -54,7 +54,7 @@ where
     requires each { All (λ room. length room.items ≡ 1048576) rooms.items }
     requires workers { length pieces.items ≤ 64 }
     requires alone { is_some last ≡ false → length pieces.items ≡ 0 }
-    ensures served { ServesSealed S.disk (is_some last.entry) chain (map N.text names.now) lines.now result.1 (S.disk result.0) }
+    ensures served { ServesScript S.disk (is_some last.entry) chain (map N.text names.now) lines.now result.1 (S.disk result.0) }
     ensures back { any_failed result.2.items ≡ nat_lt 0 result.1.unread }
 {
     let readers = (rooms.len() + pieces.len()) as u32;

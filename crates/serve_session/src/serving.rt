@@ -13,10 +13,11 @@ ghost use Rattle.serve_session.specs.Back.{any_failed};
 ghost use Rattle.script.specs.Transcript.{IsTold, serve_text};
 ghost use Rattle.serve_session.specs.Lists.{AreActors, AreFresh, CanWork, HasDone, HasJoined, IsFreshWorker, IsReady, RunsEach, WorkersJoin, WorksEach, with_splits};
 ghost use Rattle.serve_session.specs.Tools.{AreToolsFor};
-ghost use Rattle.serve_session.specs.Served.{greatest_from, guest_count};
+ghost use Rattle.serve_session.specs.Served.{asked_by, greatest_from, guest_count};
 ghost use Rattle.serve_session.specs.Sealing.{IsSetFor};
 ghost use Rattle.serve_session.specs.Tallies.{no_tally};
-ghost use Rattle.serve_session.specs.Serving.{EndsAs, HasBegun, HasServed, IsShared};
+ghost use Rattle.serve_session.specs.Serving.{EndsAs, HasBegun, HasServedScript, IsShared};
+ghost use Rattle.serve_session.specs.Written.{AreKept};
 
 use crate::actor::{Actor, Left as GuestLeft, ROOM_LEN};
 use crate::merging::MergeRun;
@@ -129,8 +130,8 @@ fn add_actors<S: Store>(
     }
 }
 
-// Calls the first for each of one slice, beside the second for each of another, each in a thread of its own where one can be made.
-fn beside<
+/// Calls the first for each of one slice, beside the second for each of another, each in a thread of its own where one can be made.
+pub fn beside<
     R: Threads + Sync,
     A: Send,
     B: Send,
@@ -173,7 +174,8 @@ fn end_actors<S: Store, N: AsStr>(
     names: &[N],
     lines: &[Line],
 ) -> Totals
-    requires joined { AreJoined S.disk chain.now.value.first false lock.now (map N.text names.now) lines.now first.old told.old.items false [] }
+    requires joined { AreJoined S.disk chain.now.value.first false lock.now (asked_by lines.now) first.old [] }
+    requires words { AreKept (map N.text names.now) lines.now told.old.items false [] }
     requires ran { AreActors (HasRun S.disk chain.now.value.first lock.now (map N.text names.now) lines.now) (length actors.old.items) actors.old.items }
     requires few { length lines.now ≤ 2 ^ 20 }
     requires guests { length actors.old.items ≤ 64 }
@@ -392,8 +394,8 @@ fn plans_for(alloc: Global, guests: usize) -> Result<Vec<Plan>, NoRoom>
     Ok(plans)
 }
 
-// Room for the readers of so many guests.
-fn room_for_sets<R: Reader + Drop>(
+/// Room for the readers of so many guests and workers.
+pub fn room_for_sets<R: Reader + Drop>(
     alloc: Global,
     guests: usize,
 ) -> Result<Vec<ReaderSet<R>>, AllocError>
@@ -544,7 +546,7 @@ where
     requires tools { All (AreToolsFor S.disk chain.first) tools.items }
     requires workers { length tools.items ≤ 64 }
     requires alone { is_some last ≡ false → length tools.items ≡ 0 }
-    ensures served { HasServed S.disk (is_some last.entry) chain.first (map N.text names.now) lines.now result.1 (S.disk result.0) }
+    ensures served { HasServedScript S.disk (is_some last.entry) chain.first (map N.text names.now) lines.now result.1 (S.disk result.0) }
     ensures back { any_failed result.2.items ≡ nat_lt 0 result.1.unread }
 {
     let left = share(

@@ -3,14 +3,16 @@ use Rattle.std.specs.Prelude.{◌||◌, nat_lt}
 use Rattle.turn_lock.specs.Histories.{StartsWith}
 use Rattle.turn_lock.specs.Seats.{together_of}
 use Rattle.shared_chain.specs.Bases.{Contains, together}
-use Rattle.serve_session.specs.Actors.{AreJoined, HasRun}
+use Rattle.serve_session.specs.Actors.{HasRun}
+use Rattle.serve_session.specs.Served.{asked_by}
+use Rattle.serve_session.specs.Written.{AreKept}
 use Rattle.serve_session.specs.Back.{any_failed}
 use Rattle.read_plan.specs.Reading.{has_failed}
 use Rattle.serve_session.specs.Lists.{AreActors}
 use Rattle.serve_session.proofs.Back.{any_more}
-use Rattle.serve_session.proofs.Guests.{all_unread_count, forms_few}
+use Rattle.serve_session.proofs.Guests.{all_unread_count, calls_few}
 use Rattle.serve_session.specs.Tallies.{AddsUp, all_outcomes}
-use Rattle.serve_session.proofs.Joining.{few_told_of, few_unread, join_more, last_actor, one_joined}
+use Rattle.serve_session.proofs.Joining.{few_told_of, few_unread, join_more, last_actor, one_joined, one_kept, run_hears}
 use Rattle.serve_session.proofs.Tallies.{all_outcomes_snoc, both_add}
 use Rattle.serve_session.proofs.serving.end_actors.Goals as goal
 use Rattle.serve_session.proofs.serving.end_actors.Goals.{then-is_short, else-is_short}
@@ -65,11 +67,14 @@ loop-actor-preserved g c =
     let outcomes_few = few_told_of disk c.args.chain.now.value.first c.args.lock.now names c.args.lines.now a last.2 in
     let length_now : length (all_outcomes (i.guests ++ outcomes ∷ [])) ≡ length (all_outcomes i.guests) + length outcomes = ap length outcomes_now ∙ length-append (all_outcomes i.guests) outcomes in
     let drawn : c.join.new.first.drawn ≡ c.loop-actor.first.drawn + a.guest.seat.drawn = ap (λ s. s.drawn) met.0 in
-    let joined = one_joined disk c.args.chain.now.value.first c.args.lock.now names c.args.lines.now c.loop-actor.first c.join.new.first c.loop-actor.told.items c.loop-actor.is_short i.guests i.joined a last.2 (last.1 ∙ omega (arith, i.count, popped)) met.0 met.1 met.2 in
+    let number : a.number ≡ 1 + length i.guests = last.1 ∙ omega (arith, i.count, popped) in
+    let hears = run_hears disk c.args.chain.now.value.first c.args.lock.now names c.args.lines.now (1 + length i.guests) a last.2 number in
+    let words = one_kept disk c.args.chain.now.value.first c.args.lock.now names c.args.lines.now c.loop-actor.told.items c.loop-actor.is_short i.guests i.words a last.2 number in
     record {
       guests = i.guests ++ outcomes ∷ [];
-      joined = subst (λ t. AreJoined disk c.args.chain.now.value.first false c.args.lock.now names c.args.lines.now c.join.new.first t c.if-is_short.is_short (i.guests ++ outcomes ∷ [])) (sym told)
-          (subst (λ b. AreJoined disk c.args.chain.now.value.first false c.args.lock.now names c.args.lines.now c.join.new.first (c.loop-actor.told.items ++ a.told.items ∷ []) b (i.guests ++ outcomes ∷ [])) (sym short) joined);
+      joined = one_joined disk c.args.chain.now.value.first c.args.lock.now (asked_by c.args.lines.now) c.loop-actor.first a.guest.seat c.join.new.first i.guests outcomes i.joined hears met.0 met.1 met.2;
+      words = subst (λ t. AreKept names c.args.lines.now t c.if-is_short.is_short (i.guests ++ outcomes ∷ [])) (sym told)
+          (subst (λ b. AreKept names c.args.lines.now (c.loop-actor.told.items ++ a.told.items ∷ []) b (i.guests ++ outcomes ∷ [])) (sym short) words);
       left = last.0;
       count = omega (arith, more, i.count, popped);
       unread = omega (arith, i.unread, c.end-seat.ensures.2, last.2.unread, unread_now);
@@ -80,7 +85,7 @@ loop-actor-preserved g c =
       few_unread = omega (arith, i.few_unread, unread_now, unread_most, c.requires.few, more);
       family = join_more c.args.first.now.family c.loop-actor.first.family c.join.new.first.family (length i.guests) (length (i.guests ++ outcomes ∷ [])) i.family (ap (λ s. s.family) c.join.ensures.both) more;
       first_ticket = ap (λ s. s.first_ticket) c.join.ensures.both ∙ i.first_ticket;
-      drawn = omega (arith, drawn, last.2.hears.drawn, forms_few a.number c.args.lines.now, c.requires.few, more, i.drawn);
+      drawn = omega (arith, drawn, last.2.hears.drawn, calls_few a.number c.args.lines.now, c.requires.few, more, i.drawn);
       reserved = c.push_reserved-in-Some.ensures.capacity ∙ i.reserved;
       back = ap any_failed c.push_reserved.ensures.items
           ∙ any_more c.loop-actor.back.items c.end-seat.result.1 c.loop-actor.unread c.end-seat.result.2.unread i.back (ap has_failed c.end-seat.ensures.4 ∙ last.2.readers.failed ∙ ap (nat_lt 0) (sym (c.end-seat.ensures.2 ∙ last.2.unread)));

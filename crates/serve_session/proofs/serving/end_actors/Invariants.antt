@@ -2,15 +2,17 @@ use Rattle.std.proofs.Common.{◌≡◌, ◌+◌, ◌*◌, ◌^◌, ◌≤◌, f
 use Rattle.serve_session.specs.Actors.{AreJoined, HasRun}
 use Rattle.serve_session.specs.Back.{any_failed}
 use Rattle.serve_session.specs.Lists.{AreActors}
-use Rattle.serve_session.specs.Served.{Outcome, all_unread}
+use Rattle.serve_session.specs.Served.{Outcome, all_unread, asked_by}
 use Rattle.serve_session.specs.Tallies.{AddsUp, all_outcomes}
+use Rattle.serve_session.specs.Written.{AreKept}
 use Rattle.serve_session.proofs.serving.end_actors.Given as goal
 
 -- the seats of the actors that were taken are joined
 abbrev pub invariant-loop-actor : goal.invariant-loop-actor
 invariant-loop-actor g l = record {
   guests : List (List Outcome);
-  joined : AreJoined g.S.Store.disk l.chain.value.first false l.lock (map g.N.AsStr.text l.names) l.lines l.first l.told.items l.is_short guests;
+  joined : AreJoined g.S.Store.disk l.chain.value.first false l.lock (asked_by l.lines) l.first guests;
+  words : AreKept (map g.N.AsStr.text l.names) l.lines l.told.items l.is_short guests;
   left : AreActors (HasRun g.S.Store.disk l.chain.value.first l.lock (map g.N.AsStr.text l.names) l.lines) (length l.fn.actors.items) l.actors.items;
   count : length guests + length l.actors.items ≡ length l.fn.actors.items;
   unread : l.unread ≡ length (all_unread guests);

@@ -4,7 +4,7 @@ use Rattle.serve_session.specs.Actors.{AreJoined, HasRun}
 use Rattle.serve_session.specs.Lists.{AreActors, AreFresh, CanWork, HasDone, IsFreshWorker, IsReady}
 use Rattle.serve_session.specs.Sealing.{IsSetFor}
 use Rattle.serve_session.specs.Serving.{IsShared}
-use Rattle.serve_session.specs.Served.{all_unread, greatest_from}
+use Rattle.serve_session.specs.Served.{all_unread, asked_by, greatest_from}
 use Rattle.serve_session.specs.Tools.{AreToolsFor}
 use Rattle.layer_session.proofs.Equal.{false_true}
 use Rattle.serve_session.proofs.Back.{sat_least, sat_none, sat_some}
@@ -87,12 +87,9 @@ close-chain-requires-clause-all g c =
 pub returns-clause-alone : goal.returns-clause-alone
 returns-clause-alone g c none =
     let disk = g.S.Store.disk in
-    let names = map g.N.AsStr.text c.args.names.now in
     let lines = c.args.lines.now in
     let lock = c.in-Ok-new.made.0 in
     let j = c.end_actors-unread.ensures.joined in
-    let told = c.end_actors-unread.new.told.items in
-    let short = c.end_actors-unread.result.is_short in
     let guests : c.add_actors.new.actors.len ≡ length c.run_beside.new.actors = c.add_actors.new.actors.ok.0 ∙ ap length (sym c.as_mut_slice-guests.ensures.value) ∙ sym c.run_beside.ensures.guests.count in
     let hands : c.add_workers.new.workers.len ≡ length c.run_beside.new.workers = c.add_workers.new.workers.ok.0 ∙ ap length (sym c.as_mut_slice-hands.ensures.value) ∙ sym c.run_beside.ensures.workers.count in
     let actors = ap length (written_all c.add_actors.new.actors.len c.run_beside.new.actors (drop (length c.run_beside.new.actors) c.add_actors.new.actors.items) guests) in
@@ -100,15 +97,15 @@ returns-clause-alone g c none =
     let same = c.end_workers-unfetched.ensures.same (workers ∙ c.run_beside.ensures.workers.count ∙ ap length c.as_mut_slice-hands.ensures.value ∙ c.add_workers.ensures.count ∙ none) in
     let n_is = actors ∙ c.run_beside.ensures.guests.count ∙ ap length c.as_mut_slice-guests.ensures.value ∙ c.add_actors.ensures.count ∙ c.requires.count in
     let m_is = workers ∙ c.run_beside.ensures.workers.count ∙ ap length c.as_mut_slice-hands.ensures.value ∙ c.add_workers.ensures.count in
-    let bounds = few_turns disk lock _ c.in-Ok-new.made.1 c.add_actors.new.first c.add_workers.new.first c.end_actors-unread.new.first c.end_workers-unfetched.new.first _ _ _ _ (greatest_from 0 lines) c.close-chain.result.chain.events
-    c.in-Ok-new.ensures.ok c.add_actors.ensures.seat c.add_workers.ensures.seat j.first_ticket j.drawn c.end_workers-unfetched.ensures.first_ticket c.end_workers-unfetched.ensures.drawn n_is (omega (arith, m_is, c.requires.workers))
+    let n_few = few_guests _ (greatest_from 0 lines) n_is in
+    let bounds = few_turns disk lock _ c.in-Ok-new.made.1 c.add_actors.new.first c.add_workers.new.first c.end_actors-unread.new.first c.end_workers-unfetched.new.first _ _ _ c.close-chain.result.chain.events
+    c.in-Ok-new.ensures.ok c.add_actors.ensures.seat c.add_workers.ensures.seat j.first_ticket (omega (arith, j.drawn, n_few)) c.end_workers-unfetched.ensures.first_ticket c.end_workers-unfetched.ensures.drawn (omega (arith, m_is, c.requires.workers))
     c.close-chain.ensures.refused c.close-chain.ensures.worked in
-    IsShared.was_shared (record {
+    IsShared.was_shared j.guests (record {
       lock = lock;
       seat = c.end_workers-unfetched.new.first;
-      guests = j.guests;
-      joined = subst (λ f. AreJoined disk f false lock names lines c.end_workers-unfetched.new.first told short j.guests) (ap (λ v. v.first) c.of-was.ensures)
-          (subst (λ s. AreJoined disk c.of-was.result.value.first false lock names lines s told short j.guests) (sym same) j.joined);
+      joined = subst (λ f. AreJoined disk f false lock (asked_by lines) c.end_workers-unfetched.new.first j.guests) (ap (λ v. v.first) c.of-was.ensures)
+          (subst (λ s. AreJoined disk c.of-was.result.value.first false lock (asked_by lines) s j.guests) (sym same) j.joined);
       count = j.count_is ∙ actors ∙ c.run_beside.ensures.guests.count ∙ ap length c.as_mut_slice-guests.ensures.value ∙ c.add_actors.ensures.count ∙ c.requires.count;
       unfetched = 0;
       none_fetched = λ merges. refl;
@@ -117,39 +114,35 @@ returns-clause-alone g c none =
           let sum = sat_none c.end_actors-unread.result.unread c.end_workers-unfetched.result c.saturating_add.result
           (c.end_workers-unfetched.ensures.alone (workers ∙ c.run_beside.ensures.workers.count ∙ ap length c.as_mut_slice-hands.ensures.value ∙ c.add_workers.ensures.count ∙ none)) (omega (arith, few)) c.saturating_add.ensures in
           omega (arith, sum, j.unread_is));
-      tally_is = j.tally_is;
       history = c.close-chain.ensures.history;
       basis = c.close-chain.ensures.basis;
       places = c.close-chain.ensures.places;
       refusals = bounds.0;
       few = bounds.1;
-    })
+    }) j.words j.tally_is
 
 pub returns-clause-beside : goal.returns-clause-beside
 returns-clause-beside g c =
     let disk = g.S.Store.disk in
-    let names = map g.N.AsStr.text c.args.names.now in
     let lines = c.args.lines.now in
     let lock = c.in-Ok-new.made.0 in
     let j = c.end_actors-unread.ensures.joined in
-    let told = c.end_actors-unread.new.told.items in
-    let short = c.end_actors-unread.result.is_short in
     let first = c.of-was.result.value.first in
     let guests : c.add_actors.new.actors.len ≡ length c.run_beside.new.actors = c.add_actors.new.actors.ok.0 ∙ ap length (sym c.as_mut_slice-guests.ensures.value) ∙ sym c.run_beside.ensures.guests.count in
     let actors = ap length (written_all c.add_actors.new.actors.len c.run_beside.new.actors (drop (length c.run_beside.new.actors) c.add_actors.new.actors.items) guests) in
     let hands : c.add_workers.new.workers.len ≡ length c.run_beside.new.workers = c.add_workers.new.workers.ok.0 ∙ ap length (sym c.as_mut_slice-hands.ensures.value) ∙ sym c.run_beside.ensures.workers.count in
     let workers = ap length (written_all c.add_workers.new.workers.len c.run_beside.new.workers (drop (length c.run_beside.new.workers) c.add_workers.new.workers.items) hands) in
-    let wide = workers_joined disk first lock names lines c.end_actors-unread.new.first c.end_workers-unfetched.new.first told short j.guests (wider_joined disk first lock names lines c.end_actors-unread.new.first told short j.guests j.joined) c.end_workers-unfetched.ensures.joined in
+    let wide = workers_joined disk first lock (asked_by lines) c.end_actors-unread.new.first c.end_workers-unfetched.new.first j.guests (wider_joined disk first lock (asked_by lines) c.end_actors-unread.new.first j.guests j.joined) c.end_workers-unfetched.ensures.joined in
     let n_is = actors ∙ c.run_beside.ensures.guests.count ∙ ap length c.as_mut_slice-guests.ensures.value ∙ c.add_actors.ensures.count ∙ c.requires.count in
     let m_is = workers ∙ c.run_beside.ensures.workers.count ∙ ap length c.as_mut_slice-hands.ensures.value ∙ c.add_workers.ensures.count in
-    let bounds = few_turns disk lock _ c.in-Ok-new.made.1 c.add_actors.new.first c.add_workers.new.first c.end_actors-unread.new.first c.end_workers-unfetched.new.first _ _ _ _ (greatest_from 0 lines) c.close-chain.result.chain.events
-    c.in-Ok-new.ensures.ok c.add_actors.ensures.seat c.add_workers.ensures.seat j.first_ticket j.drawn c.end_workers-unfetched.ensures.first_ticket c.end_workers-unfetched.ensures.drawn n_is (omega (arith, m_is, c.requires.workers))
+    let n_few = few_guests _ (greatest_from 0 lines) n_is in
+    let bounds = few_turns disk lock _ c.in-Ok-new.made.1 c.add_actors.new.first c.add_workers.new.first c.end_actors-unread.new.first c.end_workers-unfetched.new.first _ _ _ c.close-chain.result.chain.events
+    c.in-Ok-new.ensures.ok c.add_actors.ensures.seat c.add_workers.ensures.seat j.first_ticket (omega (arith, j.drawn, n_few)) c.end_workers-unfetched.ensures.first_ticket c.end_workers-unfetched.ensures.drawn (omega (arith, m_is, c.requires.workers))
     c.close-chain.ensures.refused c.close-chain.ensures.worked in
-    IsShared.was_shared (record {
+    IsShared.was_shared j.guests (record {
       lock = lock;
       seat = c.end_workers-unfetched.new.first;
-      guests = j.guests;
-      joined = subst (λ f. AreJoined disk f true lock names lines c.end_workers-unfetched.new.first told short j.guests) (ap (λ v. v.first) c.of-was.ensures) wide;
+      joined = subst (λ f. AreJoined disk f true lock (asked_by lines) c.end_workers-unfetched.new.first j.guests) (ap (λ v. v.first) c.of-was.ensures) wide;
       count = j.count_is ∙ actors ∙ c.run_beside.ensures.guests.count ∙ ap length c.as_mut_slice-guests.ensures.value ∙ c.add_actors.ensures.count ∙ c.requires.count;
       unfetched = c.saturating_add.result - length (all_unread j.guests);
       none_fetched = λ never. absurd (false_true (sym never));
@@ -157,13 +150,12 @@ returns-clause-beside g c =
           (let few = c.end_actors-unread.ensures.few in
           let least = sat_least c.end_actors-unread.result.unread c.end_workers-unfetched.result c.saturating_add.result (omega (arith, few)) c.saturating_add.ensures in
           omega (arith, least, j.unread_is));
-      tally_is = j.tally_is;
       history = c.close-chain.ensures.history;
       basis = c.close-chain.ensures.basis;
       places = c.close-chain.ensures.places;
       refusals = bounds.0;
       few = bounds.1;
-    })
+    }) j.words j.tally_is
 
 pub returns-clause-back : goal.returns-clause-back
 returns-clause-back g c =
