@@ -23,7 +23,6 @@ use Rattle.script.specs.Transcript.{IsTold, serve_text}
 use Rattle.script_session.specs.Faults.{IsFailedChange}
 use Rattle.script_session.specs.Told.{failed_by}
 use Rattle.script_session.specs.declared.session.ScriptRun.{ScriptRun}
-use Rattle.seats.specs.declared.Family.{Family}
 use Rattle.turn_lock.specs.Seats.{Known, TableId, first_seat}
 use Rattle.shared_chain.specs.declared.basis.Basis.{Basis}
 use Rattle.shared_chain.specs.declared.basis.Note.TheVariants as notes
@@ -49,7 +48,7 @@ use Rattle.serve_session.specs.Lists.{AreActors, AreFresh, IsReady, RunsEach, wi
 use Rattle.serve_session.specs.Endings.{Ending, StopsMerge, ending_of}
 use Rattle.serve_session.specs.Served.{Asking, EachGuest, IsBreakOf, IsTranscript, Outcome, all_unread, asked_by, greatest_from, guest_count, told_of, unread_in}
 use Rattle.serve_session.specs.Serving.{EndsAs, HasBegun, HasServed, HasServedScript, IsNearEnd, IsShared, WasShared}
-use Rattle.serve_session.specs.Written.{AreKept, IsWritten}
+use Rattle.serve_session.specs.Written.{IsWritten}
 use Rattle.serve_session.proofs.Hearing.{nothing}
 use Rattle.serve_session.proofs.Filled.{ends_told, full_noted}
 use Rattle.serve_session.proofs.Joining.{all_run, fresh_ready, none_joined}
@@ -127,33 +126,43 @@ module _ {S T : Type 0} (disk : S → Disk) where
     made_none asking n seat split = subst (λ (s : Known Step (Basis S T)). AreJoined disk v.first false lock asking s []) (sym split)
         (none_joined disk v.first lock asking (with_splits made n) (ap (λ (s : Known Step (Basis S T)). s.lock) is, ap (λ (s : Known Step (Basis S T)). s.turn) is) (ap (λ (s : Known Step (Basis S T)). s.family.is_first) is) made_knows (ap (λ (s : Known Step (Basis S T)). s.mine) is))
 
-    -- and all that were split from it are joined
-    pub made_all : (n m n' m' : ℕ) (a b j k : Known Step (Basis S T)) → a ≡ with_splits made n → b ≡ with_splits a m → j.family ≡ record (b.family) { joins = b.family.joins + n' } → k.family ≡ record (j.family) { joins = j.family.joins + m' } → n' ≡ n → m' ≡ m
-        → k.family.joins ≡ k.family.splits
-    made_all n m n' m' a b j k a_is b_is j_is k_is ns ms =
+    -- so many were split from it for guests, and so many for workers
+    pub made_splits : (n m : ℕ) (a b : Known Step (Basis S T)) → a ≡ with_splits made n → b ≡ with_splits a m → (n' m' : ℕ) → n' ≡ n → m' ≡ m → b.family.splits ≡ b.family.joins + n' + m'
+    made_splits n m a b a_is b_is n' m' ns ms =
         let made_joins : made.family.joins ≡ 0 = ap (λ (s : Known Step (Basis S T)). s.family.joins) is in
-        let made_splits : made.family.splits ≡ 0 = ap (λ (s : Known Step (Basis S T)). s.family.splits) is in
+        let made_none : made.family.splits ≡ 0 = ap (λ (s : Known Step (Basis S T)). s.family.splits) is in
         let a_joins : a.family.joins ≡ made.family.joins = ap (λ (s : Known Step (Basis S T)). s.family.joins) a_is in
         let a_splits : a.family.splits ≡ made.family.splits + n = ap (λ (s : Known Step (Basis S T)). s.family.splits) a_is in
         let b_joins : b.family.joins ≡ a.family.joins = ap (λ (s : Known Step (Basis S T)). s.family.joins) b_is in
         let b_splits : b.family.splits ≡ a.family.splits + m = ap (λ (s : Known Step (Basis S T)). s.family.splits) b_is in
-        let j_joins : j.family.joins ≡ b.family.joins + n' = ap (λ (f : Family). f.joins) j_is in
-        let j_splits : j.family.splits ≡ b.family.splits = ap (λ (f : Family). f.splits) j_is in
-        let k_joins : k.family.joins ≡ j.family.joins + m' = ap (λ (f : Family). f.joins) k_is in
-        let k_splits : k.family.splits ≡ j.family.splits = ap (λ (f : Family). f.splits) k_is in
-        omega (arith, made_joins, made_splits, a_joins, a_splits, b_joins, b_splits, j_joins, j_splits, k_joins, k_splits, ns, ms)
+        omega (arith, made_joins, made_none, a_joins, a_splits, b_joins, b_splits, ns, ms)
 
-  -- no turn was refused, and few events there were, where the guests drew so many tickets at most
-  pub few_turns : (lock : TableId) (basis : Basis S T) (made a b j k : Known Step (Basis S T)) (splits others m events : ℕ) → made ≡ first_seat lock 0 basis → a ≡ with_splits made splits → b ≡ with_splits a others
-      → j.first_ticket ≡ b.first_ticket → j.drawn ≤ b.drawn + 2 ^ 58 → k.first_ticket ≡ j.first_ticket → k.drawn ≤ j.drawn + 2 ^ 34 * m → m ≤ 64
+  -- no turn was refused, and few events there were, where the guests drew few tickets, and so many workers
+  pub few_turns : (seat k : Known Step (Basis S T)) (m events : ℕ) → seat.first_ticket ≡ Some 0 → seat.drawn ≤ 2 ^ 58 → k.first_ticket ≡ seat.first_ticket → k.drawn ≤ seat.drawn + 2 ^ 34 * m → m ≤ 64
       → IfSome k.first_ticket (λ t. k.refusals ≡ t + k.drawn - 2 ^ 63) → IfSome k.first_ticket (λ t. events ≤ 2 * (t + k.drawn)) → (k.refusals ≡ 0) × (events ≤ 2 ^ 60)
-  few_turns lock basis made a b j k splits others m events is a_is b_is j_first j_drawn k_first k_drawn workers refused worked =
-      let first : k.first_ticket ≡ Some 0 =
-      k_first ∙ j_first ∙ ap (λ (s : Known Step (Basis S T)). s.first_ticket) b_is ∙ ap (λ (s : Known Step (Basis S T)). s.first_ticket) a_is ∙ ap (λ (s : Known Step (Basis S T)). s.first_ticket) is in
-      let none : b.drawn ≡ 0 = ap (λ (s : Known Step (Basis S T)). s.drawn) b_is ∙ ap (λ (s : Known Step (Basis S T)). s.drawn) a_is ∙ ap (λ (s : Known Step (Basis S T)). s.drawn) is in
+  few_turns seat k m events ticket drawn same more workers refused worked =
+      let first : k.first_ticket ≡ Some 0 = same ∙ ticket in
       let r = subst (λ o. IfSome o (λ t. k.refusals ≡ t + k.drawn - 2 ^ 63)) first refused in
       let w = subst (λ o. IfSome o (λ t. events ≤ 2 * (t + k.drawn))) first worked in
-      (omega (arith, r, none, j_drawn, k_drawn, workers), omega (arith, w, none, j_drawn, k_drawn, workers))
+      (omega (arith, r, drawn, more, workers), omega (arith, w, drawn, more, workers))
+
+  -- they failed so often, stripes with guests' reads
+  pub was_unread : (merges : Bool) (old new : Shared (Chain S KeepAll T)) (asking : Asking) (guests : List (List Outcome)) (unread : ℕ) → WasShared disk merges old asking new guests unread → (n stripes : ℕ) → n ≡ length (all_unread guests) + stripes → (merges ≡ false → stripes ≡ 0)
+      → WasShared disk merges old asking new guests n
+  was_unread merges old new asking guests unread s n stripes is none = record {
+    lock = s.lock;
+    seat = s.seat;
+    joined = s.joined;
+    count = s.count;
+    unfetched = stripes;
+    none_fetched = none;
+    unread_is = is;
+    history = s.history;
+    basis = s.basis;
+    places = s.places;
+    refusals = s.refusals;
+    few = s.few;
+  }
 
   -- a chain that was just made to be shared
   pub begun_is : (chain : Chain S KeepAll T) (s : Shared (Chain S KeepAll T)) → s ≡ record { chain = chain; first = chain; full = None; broke = None; fault = None; copied = s.copied; finished = false } → IsSound (session_of disk chain) → chain.recorder ≡ [] → chain.broken ≡ None → chain.events ≡ 0 → HasBegun disk s

@@ -29,7 +29,7 @@ use Rattle.serve_session.specs.Actors.{AreHeard, AreJoined, HasHeard, HasRun, Is
 use Rattle.claims.specs.Seats.{Counter}
 use Rattle.serve_session.specs.Sealing.{IsSetFor}
 use Rattle.serve_session.specs.Lists.{AreActors, AreFresh, CanWork, HasDone, IsFresh, IsFreshWorker, IsReady, RunsEach, WorkersJoin, WorksEach, with_splits}
-use Rattle.serve_session.specs.Served.{Asking, EachGuest, IsCountedUp, IsRising, IsWhole, Outcome, SomeGuest, asked_by, call_of, forms_of, none_failed, places_in, told_calls, told_guests, unread_in}
+use Rattle.serve_session.specs.Served.{Asking, IsCountedUp, IsRising, IsWhole, Outcome, SomeGuest, asked_by, call_of, forms_of, none_failed, places_in, told_calls, told_guests, unread_in}
 use Rattle.serve_session.specs.Written.{AreKept}
 use Rattle.serve_session.proofs.Guests.{as_many, calls_few, each_map, each_snoc, some_last, some_left, some_map, told_guests_snoc, unread_few}
 use Rattle.serve_session.specs.Tallies.{AddsUp}

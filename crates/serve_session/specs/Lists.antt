@@ -1,5 +1,5 @@
 -- The guests of a script, one after the other.
-use Rattle.std.specs.Prelude.{◌≡◌, ◌⊎◌, ◌+◌, ◌-◌, ◌*◌, ◌^◌, ◌<◌, ◌≤◌, ⊤, ℕ, Bool, false, true, List, [], ◌∷◌, length, slice_index_or}
+use Rattle.std.specs.Prelude.{◌≡◌, ◌⊎◌, ◌+◌, ◌-◌, ◌*◌, ◌^◌, ◌<◌, ◌≤◌, ⊤, ℕ, Bool, false, List, [], ◌∷◌, length, slice_index_or}
 use Rattle.store_model.specs.Disk.{Disk, Sealed}
 use Rattle.guest_io.specs.Guests.{HaveReaders}
 use Rattle.guest_model.specs.declared.recorder.KeepAll.{KeepAll}

@@ -1,5 +1,5 @@
 -- What a session with several guests does to the files of a chain, from its first call to its end.
-use Rattle.std.specs.Prelude.{◌≡◌, ◌+◌, ◌^◌, ◌<◌, ◌≤◌, ⊤, ℕ, Bool, true, false, List, [], length, is_some, Option, None, Some, Result, Ok, IfErr, IfOk, OnOk}
+use Rattle.std.specs.Prelude.{◌≡◌, ◌+◌, ◌^◌, ◌<◌, ◌≤◌, ⊤, ℕ, Bool, true, false, List, [], length, is_some, Option, None, Some, Result, Ok, IfErr, OnOk}
 use Rattle.std.specs.List.{AllByRecursion}
 use Rattle.store_model.specs.Disk.{Disk, WhereTold}
 use Rattle.guest_model.specs.declared.recorder.KeepAll.{KeepAll}

@@ -14,7 +14,9 @@ mod tools;
 
 pub use merging::{MergeRun, pieces_for, run_serve_leaf_merge, run_serve_merge, stripes_of};
 pub use sealing::{Unserved, seal};
-pub use serving::{add_workers, beside, end_merge, end_workers, room_for_sets, rooms_for};
+pub use serving::{
+    add_workers, beside, close_shared, end_merge, end_workers, room_for_sets, rooms_for,
+};
 pub use session::{ServeRun, run_serve};
 pub use tally::Tally;
 pub use tools::{Tools, tools_for};

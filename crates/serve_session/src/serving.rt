@@ -1,6 +1,6 @@
 //! A script's session with several guests, from the first call to its end.
 
-ghost use Rattle.std.specs.Prelude.{◌≡◌, ◌+◌, ◌*◌, ◌≤◌, ◌<◌, ◌^◌, ◌||◌, ℕ, Bool, List, All, Err, Ok, false, true, length, map, nat_lt, is_some, string_bytes, vec_capacity, [], IfOk, IfSome, None};
+ghost use Rattle.std.specs.Prelude.{◌≡◌, ◌+◌, ◌*◌, ◌≤◌, ◌<◌, ◌^◌, ◌||◌, ℕ, Bool, List, All, Err, Ok, false, true, length, map, nat_lt, is_some, string_bytes, vec_capacity, [], IfOk, IfSome, None, Some};
 ghost use denote.Param.Send.{IsSend, IsSync};
 ghost use Rattle.std.specs.Fork.{AcceptsEach};
 ghost use Rattle.serve_session.specs.Beside.{WasCalledAt};
@@ -13,10 +13,10 @@ ghost use Rattle.serve_session.specs.Back.{any_failed};
 ghost use Rattle.script.specs.Transcript.{IsTold, serve_text};
 ghost use Rattle.serve_session.specs.Lists.{AreActors, AreFresh, CanWork, HasDone, HasJoined, IsFreshWorker, IsReady, RunsEach, WorkersJoin, WorksEach, with_splits};
 ghost use Rattle.serve_session.specs.Tools.{AreToolsFor};
-ghost use Rattle.serve_session.specs.Served.{asked_by, greatest_from, guest_count};
+ghost use Rattle.serve_session.specs.Served.{Asking, Outcome, all_unread, asked_by, greatest_from, guest_count};
 ghost use Rattle.serve_session.specs.Sealing.{IsSetFor};
 ghost use Rattle.serve_session.specs.Tallies.{no_tally};
-ghost use Rattle.serve_session.specs.Serving.{EndsAs, HasBegun, HasServedScript, IsShared};
+ghost use Rattle.serve_session.specs.Serving.{EndsAs, HasBegun, HasServedScript, IsShared, WasShared};
 ghost use Rattle.serve_session.specs.Written.{AreKept};
 
 use crate::actor::{Actor, Left as GuestLeft, ROOM_LEN};
@@ -334,6 +334,37 @@ pub fn end_workers<S: Store>(
     unfetched
 }
 
+/// Joins the seats of a merge's workers into the first, to which those of all guests are joined, keeps their readers, for which there is room, and
+/// takes the chain out of its lock. Answers how many stripes they couldn't fetch, as a reader failed.
+pub fn close_shared<S: Store>(
+    lock: TurnLock<SharedChain<S>>,
+    first: Seat<SharedChain<S>>,
+    workers: Vec<Worker<S>>,
+    back: &mut Vec<ReaderSet<S::R>>,
+    was: &Snapshot<SharedChain<S>>,
+) -> (SharedChain<S>, u64)
+    requires own { IsFree lock first }
+    requires leads { first.family.is_first ≡ true }
+    requires all { first.family.splits ≡ first.family.joins + length workers.items }
+    requires ticket { first.first_ticket ≡ Some 0 }
+    requires drawn { first.drawn ≤ 2 ^ 58 }
+    requires done { All (HasDone lock) workers.items }
+    requires few { length workers.items ≤ 64 }
+    requires reserved { length back.old.items + length workers.items ≤ vec_capacity back.old }
+    ensures alone { (asking : Asking) (guests : List (List Outcome)) → AreJoined S.disk was.now.value.first false lock asking first guests → length guests ≡ asking.count → length workers.items ≡ 0
+        → WasShared S.disk false was.now.value asking result.0 guests (length (all_unread guests)) }
+    ensures beside { (asking : Asking) (guests : List (List Outcome)) → AreJoined S.disk was.now.value.first false lock asking first guests → length guests ≡ asking.count
+        → WasShared S.disk true was.now.value asking result.0 guests (length (all_unread guests) + result.1) }
+    ensures back { any_failed back.new.items ≡ (any_failed back.old.items || nat_lt 0 result.1) }
+    ensures none { length workers.items ≡ 0 → result.1 ≡ 0 }
+{
+    let mut first = first;
+    let mut workers = workers;
+    let unfetched = end_workers(&lock, &mut first, &mut workers, back);
+    workers.destroy_empty();
+    (lock.close(first), unfetched)
+}
+
 // What threads left of a chain that they shared: the chain, what each guest was told, the readers of guests and workers, how many reads failed by
 // one, what the guests' calls came to, and whether memory ran out.
 struct Left<S: Store> {
@@ -356,6 +387,65 @@ fn unshared<S: Store>(alloc: Global, chain: SharedChain<S>) -> Left<S>
         unread: 0,
         tally: Tally::none(),
         is_short: true,
+    }
+}
+
+// Joins the seats of all guests and workers, and takes the chain out of its lock.
+fn end_all<S: Store, N: AsStr>(
+    lock: TurnLock<SharedChain<S>>,
+    first: Seat<SharedChain<S>>,
+    actors: Vec<Actor<S>>,
+    workers: Vec<Worker<S>>,
+    told: Vec<ToldCalls>,
+    back: Vec<ReaderSet<S::R>>,
+    was: &Snapshot<SharedChain<S>>,
+    names: &[N],
+    lines: &[Line],
+) -> Left<S>
+    requires joined { AreJoined S.disk was.now.value.first false lock (asked_by lines.now) first [] }
+    requires words { AreKept (map N.text names.now) lines.now told.items false [] }
+    requires ran { AreActors (HasRun S.disk was.now.value.first lock (map N.text names.now) lines.now) (length actors.items) actors.items }
+    requires few { length lines.now ≤ 2 ^ 20 }
+    requires count { length actors.items ≡ guest_count lines.now }
+    requires done { All (HasDone lock) workers.items }
+    requires workers { length workers.items ≤ 64 }
+    requires split { first.family.splits ≡ first.family.joins + length actors.items + length workers.items }
+    requires ticket { first.first_ticket ≡ Some 0 }
+    requires none { first.drawn ≡ 0 }
+    requires empty { back.items ≡ [] }
+    requires reserved { length actors.items ≤ vec_capacity told }
+    requires reserved_back { length actors.items + length workers.items ≤ vec_capacity back }
+    ensures alone { length workers.items ≡ 0 → IsShared S.disk false was.now.value (map N.text names.now) lines.now result.chain result.told.items result.is_short result.unread result.tally }
+    ensures beside { IsShared S.disk true was.now.value (map N.text names.now) lines.now result.chain result.told.items result.is_short result.unread result.tally }
+    ensures back { any_failed result.back.items ≡ nat_lt 0 result.unread }
+{
+    let mut first = first;
+    let mut actors = actors;
+    let mut told = told;
+    let mut back = back;
+    let Totals {
+        unread,
+        tally,
+        is_short,
+    } = end_actors(
+        &lock,
+        &mut first,
+        &mut actors,
+        &mut told,
+        &mut back,
+        was,
+        names,
+        lines,
+    );
+    actors.destroy_empty();
+    let (chain, unfetched) = close_shared(lock, first, workers, &mut back, was);
+    Left {
+        chain,
+        told,
+        back,
+        unread: unread.saturating_add(unfetched),
+        tally,
+        is_short,
     }
 }
 
@@ -406,6 +496,39 @@ pub fn room_for_sets<R: Reader + Drop>(
     Ok(sets)
 }
 
+// The same, with a plan for the reads of each guest, and room for the readers of all.
+fn ready<S: Store>(
+    alloc: Global,
+    guests: usize,
+    workers: usize,
+) -> Option<
+    (
+        Vec<Actor<S>>,
+        Vec<Worker<S>>,
+        Vec<ToldCalls>,
+        Vec<Plan>,
+        Vec<ReaderSet<S::R>>,
+    ),
+>
+where
+    S::R: Drop,
+    requires few { guests + workers < 2 ^ 32 }
+    ensures actors { IfSome result (λ r. (r.0.items ≡ []) × (guests ≤ vec_capacity r.0)) }
+    ensures workers { IfSome result (λ r. (r.1.items ≡ []) × (workers ≤ vec_capacity r.1)) }
+    ensures told { IfSome result (λ r. (r.2.items ≡ []) × (guests ≤ vec_capacity r.2)) }
+    ensures plans { IfSome result (λ r. length r.3.items ≡ guests) }
+    ensures back { IfSome result (λ r. (r.4.items ≡ []) × (guests + workers ≤ vec_capacity r.4)) }
+{
+    let Ok(plans) = plans_for(alloc, guests) else {
+        return None;
+    };
+    let Ok(back) = room_for_sets(alloc, guests + workers) else {
+        return None;
+    };
+    let (actors, hands, told) = reserved(alloc, guests, workers)?;
+    Some((actors, hands, told, plans, back))
+}
+
 // Shares a chain among guests, and among a worker for each one's tools, each of which gets a set of readers.
 fn share<S: Store + Send, R: Threads + Wait + Sync, G: Gate + Sync, N: AsStr + Sync>(
     rt: &R,
@@ -439,13 +562,11 @@ where
     let Ok((claims, mut claim)) = Claims::new(alloc, stripes) else {
         return unshared(alloc, chain);
     };
-    let Ok(mut plans) = plans_for(alloc, rooms.len()) else {
-        return unshared(alloc, chain);
-    };
-    let Ok(mut back) = room_for_sets(alloc, rooms.len() + tools.len()) else {
-        return unshared(alloc, chain);
-    };
-    let Some((mut actors, mut workers, mut told)) = reserved(alloc, rooms.len(), tools.len()) else {
+    let Some((mut actors, mut workers, told, mut plans, back)) = ready(
+        alloc,
+        rooms.len(),
+        tools.len(),
+    ) else {
         return unshared(alloc, chain);
     };
     let (lock, mut first) = match TurnLock::new(alloc, chain) {
@@ -478,32 +599,7 @@ where
     );
     let (guests, hands) = (actors.as_mut_slice(), workers.as_mut_slice());
     run_beside(rt, alloc, &lock, gate, names, lines, guests, &claims, hands);
-    let Totals {
-        unread,
-        tally,
-        is_short,
-    } = end_actors(
-        &lock,
-        &mut first,
-        &mut actors,
-        &mut told,
-        &mut back,
-        &was,
-        names,
-        lines,
-    );
-    let unfetched = end_workers(&lock, &mut first, &mut workers, &mut back);
-    actors.destroy_empty();
-    workers.destroy_empty();
-    let chain = lock.close(first);
-    Left {
-        chain,
-        told,
-        back,
-        unread: unread.saturating_add(unfetched),
-        tally,
-        is_short,
-    }
+    end_all(lock, first, actors, workers, told, back, &was, names, lines)
 }
 
 /// Finishes the merge, if there is one.

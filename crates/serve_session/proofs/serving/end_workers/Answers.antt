@@ -8,7 +8,7 @@ use Rattle.read_plan.specs.Reading.{has_failed}
 use Rattle.serve_session.specs.Back.{any_failed}
 use Rattle.serve_session.specs.Lists.{HasDone}
 use Rattle.serve_session.proofs.Back.{any_sat, sat_some}
-use Rattle.serve_session.proofs.Joining.{join_more, none_join, one_joins}
+use Rattle.serve_session.proofs.Joining.{join_more, one_joins}
 use Rattle.serve_session.proofs.serving.end_workers.Goals as goal
 
 pub join-requires-clause-own : goal.join-requires-clause-own

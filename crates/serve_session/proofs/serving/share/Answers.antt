@@ -1,16 +1,13 @@
-use Rattle.std.proofs.Common.{◌*◌, ◌≡◌, ◌++◌, ◌+◌, ◌-◌, ◌||◌, Some, ap, arith, drop, false, length, map, refl, sym, subst, take, true, ◌∙◌}
-use Rattle.std.specs.Prelude.{All, nat_lt}
-use Rattle.serve_session.specs.Actors.{AreJoined, HasRun}
+use Rattle.std.proofs.Common.{◌*◌, ◌≡◌, ◌++◌, ◌+◌, Some, ap, arith, drop, false, length, map, sym, subst, take, true, ◌∙◌}
+use Rattle.std.specs.Prelude.{All}
+use Rattle.serve_session.specs.Actors.{HasRun}
 use Rattle.serve_session.specs.Lists.{AreActors, AreFresh, CanWork, HasDone, IsFreshWorker, IsReady}
 use Rattle.serve_session.specs.Sealing.{IsSetFor}
 use Rattle.serve_session.specs.Serving.{IsShared}
-use Rattle.serve_session.specs.Served.{all_unread, asked_by, greatest_from}
 use Rattle.serve_session.specs.Tools.{AreToolsFor}
-use Rattle.layer_session.proofs.Equal.{false_true}
-use Rattle.serve_session.proofs.Back.{sat_least, sat_none, sat_some}
-use Rattle.serve_session.proofs.Final.{few_guests, few_turns, made_all, made_first, made_ready, made_run}
+use Rattle.serve_session.proofs.Final.{made_first, made_ready, made_run, made_splits}
 use Rattle.serve_session.proofs.Guests.{written_all}
-use Rattle.serve_session.proofs.Joining.{all_done, fresh_can, wider_joined, workers_joined}
+use Rattle.serve_session.proofs.Joining.{all_done, fresh_can}
 use Rattle.serve_session.proofs.serving.share.Goals as goal
 
 pub run_beside-requires-clause-guests : goal.run_beside-requires-clause-guests
@@ -39,8 +36,8 @@ add_workers-requires-clause-many g c = omega (arith, c.add_actors.ensures.left, 
 pub add_workers-requires-clause-tools : goal.add_workers-requires-clause-tools
 add_workers-requires-clause-tools g c = subst (λ v. All (AreToolsFor g.S.Store.disk v.first) c.args.tools.items) (sym c.of-was.ensures) c.requires.tools
 
-pub end_actors-unread-requires-clause-ran : goal.end_actors-unread-requires-clause-ran
-end_actors-unread-requires-clause-ran g c =
+pub end_all-requires-clause-ran : goal.end_all-requires-clause-ran
+end_all-requires-clause-ran g c =
     let disk = g.S.Store.disk in
     let names = map g.N.AsStr.text c.args.names.now in
     let lines = c.args.lines.now in
@@ -55,15 +52,8 @@ end_actors-unread-requires-clause-ran g c =
     subst (λ f. AreActors (HasRun disk f lock names lines) (length xs) xs) (sym (ap (λ v. v.first) c.of-was.ensures))
     (subst (λ xs. AreActors (HasRun disk c.args.chain.first lock names lines) (length xs) xs) (sym all) (subst (λ k. AreActors (HasRun disk c.args.chain.first lock names lines) k c.run_beside.new.actors) (sym count) made))
 
-pub end_actors-unread-requires-clause-guests : goal.end_actors-unread-requires-clause-guests
-end_actors-unread-requires-clause-guests g c =
-    let whole : c.add_actors.new.actors.len ≡ length c.run_beside.new.actors = c.add_actors.new.actors.ok.0 ∙ ap length (sym c.as_mut_slice-guests.ensures.value) ∙ sym c.run_beside.ensures.guests.count in
-    let all = written_all c.add_actors.new.actors.len c.run_beside.new.actors (drop (length c.run_beside.new.actors) c.add_actors.new.actors.items) whole in
-    few_guests (length (take c.add_actors.new.actors.len (c.run_beside.new.actors ++ drop (length c.run_beside.new.actors) c.add_actors.new.actors.items))) (greatest_from 0 c.args.lines.now)
-    (ap length all ∙ c.run_beside.ensures.guests.count ∙ ap length c.as_mut_slice-guests.ensures.value ∙ c.add_actors.ensures.count ∙ c.requires.count)
-
-pub end_workers-unfetched-requires-clause-done : goal.end_workers-unfetched-requires-clause-done
-end_workers-unfetched-requires-clause-done g c =
+pub end_all-requires-clause-done : goal.end_all-requires-clause-done
+end_all-requires-clause-done g c =
     let disk = g.S.Store.disk in
     let lock = c.in-Ok-new.made.0 in
     let whole : c.add_workers.new.workers.len ≡ length c.run_beside.new.workers = c.add_workers.new.workers.ok.0 ∙ ap length (sym c.as_mut_slice-hands.ensures.value) ∙ sym c.run_beside.ensures.workers.count in
@@ -72,92 +62,38 @@ end_workers-unfetched-requires-clause-done g c =
     (all_done disk lock c.add_actors.new.first c.in-Ok.claims (4 * c.in-Ok.claims.limit + 1) c.as_mut_slice-hands.result.now c.run_beside.new.workers (omega (arith, c.in-Ok.ensures.counter.0, c.ranges.stripes.fits)) (ap (λ s. s.lock) c.add_actors.ensures.seat ∙ ap (λ s. s.lock) c.in-Ok-new.ensures.ok)
     (subst (All (IsFreshWorker disk c.add_actors.new.first c.in-Ok.claims)) (sym c.as_mut_slice-hands.ensures.value) c.add_workers.ensures.fresh) c.run_beside.ensures.workers)
 
-pub close-chain-requires-clause-all : goal.close-chain-requires-clause-all
-close-chain-requires-clause-all g c =
+pub end_all-requires-clause-count : goal.end_all-requires-clause-count
+end_all-requires-clause-count g c =
+    let guests : c.add_actors.new.actors.len ≡ length c.run_beside.new.actors = c.add_actors.new.actors.ok.0 ∙ ap length (sym c.as_mut_slice-guests.ensures.value) ∙ sym c.run_beside.ensures.guests.count in
+    ap length (written_all c.add_actors.new.actors.len c.run_beside.new.actors (drop (length c.run_beside.new.actors) c.add_actors.new.actors.items) guests)
+    ∙ c.run_beside.ensures.guests.count ∙ ap length c.as_mut_slice-guests.ensures.value ∙ c.add_actors.ensures.count ∙ c.requires.count
+
+pub end_all-requires-clause-split : goal.end_all-requires-clause-split
+end_all-requires-clause-split g c =
     let guests : c.add_actors.new.actors.len ≡ length c.run_beside.new.actors = c.add_actors.new.actors.ok.0 ∙ ap length (sym c.as_mut_slice-guests.ensures.value) ∙ sym c.run_beside.ensures.guests.count in
     let hands : c.add_workers.new.workers.len ≡ length c.run_beside.new.workers = c.add_workers.new.workers.ok.0 ∙ ap length (sym c.as_mut_slice-hands.ensures.value) ∙ sym c.run_beside.ensures.workers.count in
     let actors = ap length (written_all c.add_actors.new.actors.len c.run_beside.new.actors (drop (length c.run_beside.new.actors) c.add_actors.new.actors.items) guests) in
     let workers = ap length (written_all c.add_workers.new.workers.len c.run_beside.new.workers (drop (length c.run_beside.new.workers) c.add_workers.new.workers.items) hands) in
-    made_all g.S.Store.disk c.args.chain c.requires.begun.fresh c.requires.begun.whole c.in-Ok-new.made.0 c.in-Ok-new.made.1 c.in-Ok-new.ensures.ok
-    (length c.args.rooms.items) (length c.args.tools.items) _ _ c.add_actors.new.first c.add_workers.new.first c.end_actors-unread.new.first c.end_workers-unfetched.new.first
-    c.add_actors.ensures.seat c.add_workers.ensures.seat c.end_actors-unread.ensures.joined.family c.end_workers-unfetched.ensures.family
+    made_splits g.S.Store.disk c.args.chain c.requires.begun.fresh c.requires.begun.whole c.in-Ok-new.made.0 c.in-Ok-new.made.1 c.in-Ok-new.ensures.ok
+    (length c.args.rooms.items) (length c.args.tools.items) c.add_actors.new.first c.add_workers.new.first c.add_actors.ensures.seat c.add_workers.ensures.seat _ _
     (actors ∙ c.run_beside.ensures.guests.count ∙ ap length c.as_mut_slice-guests.ensures.value ∙ c.add_actors.ensures.count)
     (workers ∙ c.run_beside.ensures.workers.count ∙ ap length c.as_mut_slice-hands.ensures.value ∙ c.add_workers.ensures.count)
 
+pub end_all-requires-clause-ticket : goal.end_all-requires-clause-ticket
+end_all-requires-clause-ticket g c = ap (λ s. s.first_ticket) c.add_workers.ensures.seat ∙ ap (λ s. s.first_ticket) c.add_actors.ensures.seat ∙ ap (λ s. s.first_ticket) c.in-Ok-new.ensures.ok
+
+pub end_all-requires-clause-none : goal.end_all-requires-clause-none
+end_all-requires-clause-none g c = ap (λ s. s.drawn) c.add_workers.ensures.seat ∙ ap (λ s. s.drawn) c.add_actors.ensures.seat ∙ ap (λ s. s.drawn) c.in-Ok-new.ensures.ok
+
 pub returns-clause-alone : goal.returns-clause-alone
 returns-clause-alone g c none =
-    let disk = g.S.Store.disk in
-    let lines = c.args.lines.now in
-    let lock = c.in-Ok-new.made.0 in
-    let j = c.end_actors-unread.ensures.joined in
-    let guests : c.add_actors.new.actors.len ≡ length c.run_beside.new.actors = c.add_actors.new.actors.ok.0 ∙ ap length (sym c.as_mut_slice-guests.ensures.value) ∙ sym c.run_beside.ensures.guests.count in
     let hands : c.add_workers.new.workers.len ≡ length c.run_beside.new.workers = c.add_workers.new.workers.ok.0 ∙ ap length (sym c.as_mut_slice-hands.ensures.value) ∙ sym c.run_beside.ensures.workers.count in
-    let actors = ap length (written_all c.add_actors.new.actors.len c.run_beside.new.actors (drop (length c.run_beside.new.actors) c.add_actors.new.actors.items) guests) in
     let workers = ap length (written_all c.add_workers.new.workers.len c.run_beside.new.workers (drop (length c.run_beside.new.workers) c.add_workers.new.workers.items) hands) in
-    let same = c.end_workers-unfetched.ensures.same (workers ∙ c.run_beside.ensures.workers.count ∙ ap length c.as_mut_slice-hands.ensures.value ∙ c.add_workers.ensures.count ∙ none) in
-    let n_is = actors ∙ c.run_beside.ensures.guests.count ∙ ap length c.as_mut_slice-guests.ensures.value ∙ c.add_actors.ensures.count ∙ c.requires.count in
-    let m_is = workers ∙ c.run_beside.ensures.workers.count ∙ ap length c.as_mut_slice-hands.ensures.value ∙ c.add_workers.ensures.count in
-    let n_few = few_guests _ (greatest_from 0 lines) n_is in
-    let bounds = few_turns disk lock _ c.in-Ok-new.made.1 c.add_actors.new.first c.add_workers.new.first c.end_actors-unread.new.first c.end_workers-unfetched.new.first _ _ _ c.close-chain.result.chain.events
-    c.in-Ok-new.ensures.ok c.add_actors.ensures.seat c.add_workers.ensures.seat j.first_ticket (omega (arith, j.drawn, n_few)) c.end_workers-unfetched.ensures.first_ticket c.end_workers-unfetched.ensures.drawn (omega (arith, m_is, c.requires.workers))
-    c.close-chain.ensures.refused c.close-chain.ensures.worked in
-    IsShared.was_shared j.guests (record {
-      lock = lock;
-      seat = c.end_workers-unfetched.new.first;
-      joined = subst (λ f. AreJoined disk f false lock (asked_by lines) c.end_workers-unfetched.new.first j.guests) (ap (λ v. v.first) c.of-was.ensures)
-          (subst (λ s. AreJoined disk c.of-was.result.value.first false lock (asked_by lines) s j.guests) (sym same) j.joined);
-      count = j.count_is ∙ actors ∙ c.run_beside.ensures.guests.count ∙ ap length c.as_mut_slice-guests.ensures.value ∙ c.add_actors.ensures.count ∙ c.requires.count;
-      unfetched = 0;
-      none_fetched = λ merges. refl;
-      unread_is =
-          (let few = c.end_actors-unread.ensures.few in
-          let sum = sat_none c.end_actors-unread.result.unread c.end_workers-unfetched.result c.saturating_add.result
-          (c.end_workers-unfetched.ensures.alone (workers ∙ c.run_beside.ensures.workers.count ∙ ap length c.as_mut_slice-hands.ensures.value ∙ c.add_workers.ensures.count ∙ none)) (omega (arith, few)) c.saturating_add.ensures in
-          omega (arith, sum, j.unread_is));
-      history = c.close-chain.ensures.history;
-      basis = c.close-chain.ensures.basis;
-      places = c.close-chain.ensures.places;
-      refusals = bounds.0;
-      few = bounds.1;
-    }) j.words j.tally_is
+    let m_is = workers ∙ c.run_beside.ensures.workers.count ∙ ap length c.as_mut_slice-hands.ensures.value ∙ c.add_workers.ensures.count ∙ none in
+    let left = c.end_all.result in
+    subst (λ v. IsShared g.S.Store.disk false v (map g.N.AsStr.text c.args.names.now) c.args.lines.now left.chain left.told.items left.is_short left.unread left.tally) c.of-was.ensures (c.end_all.ensures.alone m_is)
 
 pub returns-clause-beside : goal.returns-clause-beside
 returns-clause-beside g c =
-    let disk = g.S.Store.disk in
-    let lines = c.args.lines.now in
-    let lock = c.in-Ok-new.made.0 in
-    let j = c.end_actors-unread.ensures.joined in
-    let first = c.of-was.result.value.first in
-    let guests : c.add_actors.new.actors.len ≡ length c.run_beside.new.actors = c.add_actors.new.actors.ok.0 ∙ ap length (sym c.as_mut_slice-guests.ensures.value) ∙ sym c.run_beside.ensures.guests.count in
-    let actors = ap length (written_all c.add_actors.new.actors.len c.run_beside.new.actors (drop (length c.run_beside.new.actors) c.add_actors.new.actors.items) guests) in
-    let hands : c.add_workers.new.workers.len ≡ length c.run_beside.new.workers = c.add_workers.new.workers.ok.0 ∙ ap length (sym c.as_mut_slice-hands.ensures.value) ∙ sym c.run_beside.ensures.workers.count in
-    let workers = ap length (written_all c.add_workers.new.workers.len c.run_beside.new.workers (drop (length c.run_beside.new.workers) c.add_workers.new.workers.items) hands) in
-    let wide = workers_joined disk first lock (asked_by lines) c.end_actors-unread.new.first c.end_workers-unfetched.new.first j.guests (wider_joined disk first lock (asked_by lines) c.end_actors-unread.new.first j.guests j.joined) c.end_workers-unfetched.ensures.joined in
-    let n_is = actors ∙ c.run_beside.ensures.guests.count ∙ ap length c.as_mut_slice-guests.ensures.value ∙ c.add_actors.ensures.count ∙ c.requires.count in
-    let m_is = workers ∙ c.run_beside.ensures.workers.count ∙ ap length c.as_mut_slice-hands.ensures.value ∙ c.add_workers.ensures.count in
-    let n_few = few_guests _ (greatest_from 0 lines) n_is in
-    let bounds = few_turns disk lock _ c.in-Ok-new.made.1 c.add_actors.new.first c.add_workers.new.first c.end_actors-unread.new.first c.end_workers-unfetched.new.first _ _ _ c.close-chain.result.chain.events
-    c.in-Ok-new.ensures.ok c.add_actors.ensures.seat c.add_workers.ensures.seat j.first_ticket (omega (arith, j.drawn, n_few)) c.end_workers-unfetched.ensures.first_ticket c.end_workers-unfetched.ensures.drawn (omega (arith, m_is, c.requires.workers))
-    c.close-chain.ensures.refused c.close-chain.ensures.worked in
-    IsShared.was_shared j.guests (record {
-      lock = lock;
-      seat = c.end_workers-unfetched.new.first;
-      joined = subst (λ f. AreJoined disk f true lock (asked_by lines) c.end_workers-unfetched.new.first j.guests) (ap (λ v. v.first) c.of-was.ensures) wide;
-      count = j.count_is ∙ actors ∙ c.run_beside.ensures.guests.count ∙ ap length c.as_mut_slice-guests.ensures.value ∙ c.add_actors.ensures.count ∙ c.requires.count;
-      unfetched = c.saturating_add.result - length (all_unread j.guests);
-      none_fetched = λ never. absurd (false_true (sym never));
-      unread_is =
-          (let few = c.end_actors-unread.ensures.few in
-          let least = sat_least c.end_actors-unread.result.unread c.end_workers-unfetched.result c.saturating_add.result (omega (arith, few)) c.saturating_add.ensures in
-          omega (arith, least, j.unread_is));
-      history = c.close-chain.ensures.history;
-      basis = c.close-chain.ensures.basis;
-      places = c.close-chain.ensures.places;
-      refusals = bounds.0;
-      few = bounds.1;
-    }) j.words j.tally_is
-
-pub returns-clause-back : goal.returns-clause-back
-returns-clause-back g c =
-    c.end_workers-unfetched.ensures.back ∙ ap (λ b. b || nat_lt 0 c.end_workers-unfetched.result) c.end_actors-unread.ensures.back
-    ∙ sym (sat_some c.end_actors-unread.result.unread c.end_workers-unfetched.result c.end_workers-unfetched.result c.saturating_add.result refl c.saturating_add.ensures)
+    let left = c.end_all.result in
+    subst (λ v. IsShared g.S.Store.disk true v (map g.N.AsStr.text c.args.names.now) c.args.lines.now left.chain left.told.items left.is_short left.unread left.tally) c.of-was.ensures c.end_all.ensures.beside
