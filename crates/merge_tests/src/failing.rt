@@ -30,7 +30,7 @@ const FIRST_REFUSED: &str = " 1 1 write 0 1 aa = refused 38 ReadFault ";
 const OTHER_DONE: &str = " 2 1 write 4097 1 cc = done\n";
 
 // Of how many calls that fail, and of how many crashes, one is mended: what it leaves is merged to the end.
-const MENDED: u64 = 32;
+const MENDED: u64 = 16;
 
 // The disks that may be left, each with which writes it has: the first of guest 1, its second, and that of guest 2.
 static DISKS: [((bool, bool, bool), &str); 8] = [
@@ -233,13 +233,14 @@ fn is_done<R: Abort + Threads + Wait + Sync>(
     done
 }
 
-// Asks it of each call, up to the first that no session makes. Threads take their turns in any order, so that the number of calls differs from
-// run to run.
-fn each_failing_call<R: Abort + Threads + Wait + Sync>(rt: &R, alloc: Global, name: &str) {
+// Asks it of every fourth call from this one on, up to the first that no session makes. Threads take their turns in any order, so that the number
+// of calls differs from run to run.
+fn failing_calls<R: Abort + Threads + Wait + Sync>(rt: &R, alloc: Global, name: &str, first: u64) {
     let host = chain(rt, alloc);
     let files = files_in(rt, alloc, &host);
-    for call in 1..10_000u64 {
-        if is_done(rt, alloc, name, &files, call, call % MENDED == 0) {
+    for turn in 0..2_500u64 {
+        let call = turn.saturating_mul(4).saturating_add(first);
+        if is_done(rt, alloc, name, &files, call, turn % MENDED == 0) {
             ask(rt, call > 60, "too few calls");
             return;
         }
@@ -248,13 +249,43 @@ fn each_failing_call<R: Abort + Threads + Wait + Sync>(rt: &R, alloc: Global, na
 }
 
 #[test]
-fn failing_calls_of_a_leaf_merge(rt: HostRuntime) {
-    each_failing_call(&rt, rt.alloc(), "c.vhdx");
+fn calls_1_5_9_of_a_leaf_merge_fail(rt: HostRuntime) {
+    failing_calls(&rt, rt.alloc(), "c.vhdx", 1);
 }
 
 #[test]
-fn failing_calls_of_a_merge(rt: HostRuntime) {
-    each_failing_call(&rt, rt.alloc(), "b.vhdx");
+fn calls_2_6_10_of_a_leaf_merge_fail(rt: HostRuntime) {
+    failing_calls(&rt, rt.alloc(), "c.vhdx", 2);
+}
+
+#[test]
+fn calls_3_7_11_of_a_leaf_merge_fail(rt: HostRuntime) {
+    failing_calls(&rt, rt.alloc(), "c.vhdx", 3);
+}
+
+#[test]
+fn calls_4_8_12_of_a_leaf_merge_fail(rt: HostRuntime) {
+    failing_calls(&rt, rt.alloc(), "c.vhdx", 4);
+}
+
+#[test]
+fn calls_1_5_9_of_a_merge_fail(rt: HostRuntime) {
+    failing_calls(&rt, rt.alloc(), "b.vhdx", 1);
+}
+
+#[test]
+fn calls_2_6_10_of_a_merge_fail(rt: HostRuntime) {
+    failing_calls(&rt, rt.alloc(), "b.vhdx", 2);
+}
+
+#[test]
+fn calls_3_7_11_of_a_merge_fail(rt: HostRuntime) {
+    failing_calls(&rt, rt.alloc(), "b.vhdx", 3);
+}
+
+#[test]
+fn calls_4_8_12_of_a_merge_fail(rt: HostRuntime) {
+    failing_calls(&rt, rt.alloc(), "b.vhdx", 4);
 }
 
 // The session's store as it comes back, behind those of the openings: it tells what was done to the chain's files.
