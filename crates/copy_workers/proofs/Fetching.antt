@@ -7,7 +7,7 @@ use Rattle.std.proofs.lemmas.Simd.{map-map}
 use Rattle.store_model.specs.Disk.{Disk, Sealed, SealedReadFailed, WhereTold, reader_of}
 use Rattle.store_model.specs.File.{seen}
 use Rattle.store_model.specs.Trace.{Trace, file_of}
-use Rattle.guest_model.specs.declared.recorder.KeepAll.{KeepAll}
+use Rattle.ledger.specs.declared.ledger.Ledger.{Ledger}
 use Rattle.vx_base.specs.declared.parts.Geometry.{Geometry}
 use Rattle.chain_model.specs.Layers as chain
 use Rattle.chain_model.specs.Stripes.{stripe_count}
@@ -148,7 +148,7 @@ module _ {S T : Type 0} (disk : S → Disk) where
   pub source_later : (old new : Basis S T) (r : Reading) → new.first ≡ old.first → HasSource disk old r → HasSource disk new r
   source_later old new r same h = later_from old new r.readers r.source same h
 
-  placed_from : (first : Chain S KeepAll T) (basis : Basis S T) (readers : List Sealed) (given : Option SealedSource) (source : Option Source) → IsPlaced readers given source → basis.first ≡ Some first
+  placed_from : (first : Chain S Ledger T) (basis : Basis S T) (readers : List Sealed) (given : Option SealedSource) (source : Option Source) → IsPlaced readers given source → basis.first ≡ Some first
       → All (IsReaderFor disk first) readers → IfSome given (IsSealedSource first.layers (disk first.store)) → IfSome source (ReadsSource disk basis readers)
   placed_from first basis readers given None placed began own of = tt
   placed_from first basis readers None (Some s) placed began own of = absurd placed
@@ -163,7 +163,7 @@ module _ {S T : Type 0} (disk : S → Disk) where
   }
 
   -- a worker's source where it has a reader of that
-  pub placed_source : (first : Chain S KeepAll T) (basis : Basis S T) (readers : List Sealed) (given : Option SealedSource) (r : Reading) → r.readers ≡ readers → IsPlaced readers given r.source → basis.first ≡ Some first
+  pub placed_source : (first : Chain S Ledger T) (basis : Basis S T) (readers : List Sealed) (given : Option SealedSource) (r : Reading) → r.readers ≡ readers → IsPlaced readers given r.source → basis.first ≡ Some first
       → All (IsReaderFor disk first) readers → IfSome given (IsSealedSource first.layers (disk first.store)) → HasSource disk basis r
   placed_source first basis readers given r same placed began own of =
       subst (λ (V : List Sealed). IfSome r.source (ReadsSource disk basis V)) (sym same) (placed_from first basis readers given r.source placed began own of)

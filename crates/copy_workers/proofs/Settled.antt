@@ -3,7 +3,7 @@ use Rattle.std.proofs.Common.{◌≡◌, ◌⊎◌, ◌+◌, ◌<◌, ◌≤◌,
 use Rattle.std.specs.Prelude.{◌&&◌, ◌||◌, IfErr, IfOk, if◌then◌else◌, nat_le, nat_lt}
 use Rattle.std.proofs.lemmas.Bool.{le-leb, leb-true, lt-ltb}
 use Rattle.store_model.specs.Disk.{Disk}
-use Rattle.guest_model.specs.declared.recorder.KeepAll.{KeepAll}
+use Rattle.ledger.specs.declared.ledger.Ledger.{Ledger}
 use Rattle.guest_model.specs.declared.refusal.ChainRefusal.{ChainRefusal}
 use Rattle.guest_model.specs.declared.refusal.ChainRefusal.TheVariants.{Abandoned, Broken, EmptyRange, FileFull, NoMerge, NoPiece, NoRoom, NoStripe, NotYet, OutOfRange, ReadFault, ReadOnly, Spent, Stale, TooLong}
 use Rattle.chain_core.specs.declared.chain.Chain.{Chain}
@@ -50,7 +50,7 @@ passed_mark : (marks : Marks) (stripe n t : ℕ) → t < marks.stripes → strip
 passed_mark marks stripe n t less from to =
     ap₂ (λ a b. if a then b || marks_of marks t else marks_of marks t) (lt-ltb t marks.stripes less) (ap₂ (λ a b. a && b) (le-leb stripe t from) (lt-ltb t (stripe + n) to))
 
-module _ {S T : Type 0} (disk : S → Disk) (old mid new : Shared (Chain S KeepAll T)) (stripe : ℕ) (looked : IsStepped disk (passes stripe 0) old mid (Ok tt)) where
+module _ {S T : Type 0} (disk : S → Disk) (old mid new : Shared (Chain S Ledger T)) (stripe : ℕ) (looked : IsStepped disk (passes stripe 0) old mid (Ok tt)) where
   same_marks : (t : ℕ) → marks_of mid.copied t ≡ marks_of old.copied t
   same_marks t = looked.copied t ∙ none_marked old.copied stripe t
 
@@ -112,27 +112,27 @@ module _ {S T : Type 0} (disk : S → Disk) (old mid new : Shared (Chain S KeepA
 
 -- ---- as the code has it: the look's answer, and the put's
 
-module _ {S T : Type 0} (disk : S → Disk) (piece : Piece) (old : Shared (Chain S KeepAll T)) (stripe : ℕ) (stripe_is : stripe ≡ piece.stripe) where
-  looked_at : (mid : Shared (Chain S KeepAll T)) (answer : Result ℕ ChainRefusal) (n : ℕ) → answer ≡ Ok n → IsStepped disk (passes stripe (passed_by answer)) old mid (unstamped answer) → IsStepped disk (passes piece.stripe n) old mid (Ok tt)
+module _ {S T : Type 0} (disk : S → Disk) (piece : Piece) (old : Shared (Chain S Ledger T)) (stripe : ℕ) (stripe_is : stripe ≡ piece.stripe) where
+  looked_at : (mid : Shared (Chain S Ledger T)) (answer : Result ℕ ChainRefusal) (n : ℕ) → answer ≡ Ok n → IsStepped disk (passes stripe (passed_by answer)) old mid (unstamped answer) → IsStepped disk (passes piece.stripe n) old mid (Ok tt)
   looked_at mid answer n is k =
       subst (λ s. IsStepped disk (passes s n) old mid (Ok tt)) stripe_is (subst (λ r. IsStepped disk (passes stripe (passed_by r)) old mid (unstamped r)) is k)
 
-  none_looked : (mid : Shared (Chain S KeepAll T)) (answer : Result ℕ ChainRefusal) (n : ℕ) → answer ≡ Ok n → n ≤ 0 → IsStepped disk (passes stripe (passed_by answer)) old mid (unstamped answer) → IsStepped disk (passes piece.stripe 0) old mid (Ok tt)
+  none_looked : (mid : Shared (Chain S Ledger T)) (answer : Result ℕ ChainRefusal) (n : ℕ) → answer ≡ Ok n → n ≤ 0 → IsStepped disk (passes stripe (passed_by answer)) old mid (unstamped answer) → IsStepped disk (passes piece.stripe 0) old mid (Ok tt)
   none_looked mid answer n is few k = let zero_is : n ≡ 0 = omega (arith, few) in subst (λ m. IsStepped disk (passes piece.stripe m) old mid (Ok tt)) zero_is (looked_at mid answer n is k)
 
-  pub fetched_still : (mid : Shared (Chain S KeepAll T)) (answer : Result ℕ ChainRefusal) (n : ℕ) → answer ≡ Ok n → n ≤ 0 → IsStepped disk (passes stripe (passed_by answer)) old mid (unstamped answer)
+  pub fetched_still : (mid : Shared (Chain S Ledger T)) (answer : Result ℕ ChainRefusal) (n : ℕ) → answer ≡ Ok n → n ≤ 0 → IsStepped disk (passes stripe (passed_by answer)) old mid (unstamped answer)
       → WasFetched disk (steps_of old.chain.recorder old.broke) old.first piece → WasFetched disk (steps_of mid.chain.recorder mid.broke) mid.first piece
   fetched_still mid answer n is few k fetched = fetched_on disk old mid mid piece.stripe (none_looked mid answer n is few k) piece fetched
 
-  pub settles_refused : (mid : Shared (Chain S KeepAll T)) (answer : Result ℕ ChainRefusal) (x : ChainRefusal) → answer ≡ Err x → IsStepped disk (passes stripe (passed_by answer)) old mid (unstamped answer) → IfErr answer (StopsFetch disk stripe old mid) → Settles disk piece old mid (Err x)
+  pub settles_refused : (mid : Shared (Chain S Ledger T)) (answer : Result ℕ ChainRefusal) (x : ChainRefusal) → answer ≡ Err x → IsStepped disk (passes stripe (passed_by answer)) old mid (unstamped answer) → IfErr answer (StopsFetch disk stripe old mid) → Settles disk piece old mid (Err x)
   settles_refused mid answer x is k stops =
       not_looked x (subst (λ s. IsStepped disk (passes s 0) old mid (Err x)) stripe_is (subst (λ r. IsStepped disk (passes stripe (passed_by r)) old mid (unstamped r)) is k))
       (subst (λ s. StopsFetch disk s old mid x) stripe_is (subst (λ r. IfErr r (StopsFetch disk stripe old mid)) is stops))
 
-  pub settles_passed : (mid : Shared (Chain S KeepAll T)) (answer : Result ℕ ChainRefusal) (n : ℕ) → answer ≡ Ok n → 0 < n → IsStepped disk (passes stripe (passed_by answer)) old mid (unstamped answer) → Settles disk piece old mid (Ok (range_of stripe n))
+  pub settles_passed : (mid : Shared (Chain S Ledger T)) (answer : Result ℕ ChainRefusal) (n : ℕ) → answer ≡ Ok n → 0 < n → IsStepped disk (passes stripe (passed_by answer)) old mid (unstamped answer) → Settles disk piece old mid (Ok (range_of stripe n))
   settles_passed mid answer n is some k = subst (λ s. Settles disk piece old mid (Ok (range_of s n))) (sym stripe_is) (was_passed n some (looked_at mid answer n is k))
 
-  module _ (mid new : Shared (Chain S KeepAll T)) (answer : Result ℕ ChainRefusal) (n : ℕ) (is : answer ≡ Ok n) (few : n ≤ 0) (k : IsStepped disk (passes stripe (passed_by answer)) old mid (unstamped answer)) where
+  module _ (mid new : Shared (Chain S Ledger T)) (answer : Result ℕ ChainRefusal) (n : ℕ) (is : answer ≡ Ok n) (few : n ≤ 0) (k : IsStepped disk (passes stripe (passed_by answer)) old mid (unstamped answer)) where
     pub settles_put : (done : Result (Unit {0}) ChainRefusal) → done ≡ Ok tt → IsStepped disk (copies piece.stripe) mid new done → Settles disk piece old new (Ok (record { from = stripe; to = stripe }))
     settles_put done done_is put =
         subst (λ s. Settles disk piece old new (Ok (record { from = s; to = s }))) (sym stripe_is)
@@ -148,19 +148,19 @@ module _ {S T : Type 0} (disk : S → Disk) (piece : Piece) (old : Shared (Chain
 
 module _ {S T : Type 0} where
   -- it is a step of a merge
-  record Stepped (disk : S → Disk) (old new : Shared (Chain S KeepAll T)) : Type 0 where
+  record Stepped (disk : S → Disk) (old new : Shared (Chain S Ledger T)) : Type 0 where
     step : MergeStep
     two : most_events step ≤ 2
     answer : Result (Unit {0}) ChainRefusal
     is : IsStepped disk step old new answer
 
-  stepped_by : (disk : S → Disk) (piece : Piece) (old new : Shared (Chain S KeepAll T)) (answer : Result Passed ChainRefusal) → Settles disk piece old new answer → Stepped disk old new
+  stepped_by : (disk : S → Disk) (piece : Piece) (old new : Shared (Chain S Ledger T)) (answer : Result Passed ChainRefusal) → Settles disk piece old new answer → Stepped disk old new
   stepped_by disk piece old new _ (was_put k) = record { step = copies piece.stripe; two = omega arith; answer = Ok tt; is = k }
   stepped_by disk piece old new _ (not_put x k stops) = record { step = copies piece.stripe; two = omega arith; answer = Err x; is = k }
   stepped_by disk piece old new _ (not_looked x k stops) = record { step = passes piece.stripe 0; two = omega arith; answer = Err x; is = k }
   stepped_by disk piece old new _ (was_passed n some k) = record { step = passes piece.stripe n; two = omega arith; answer = Ok tt; is = k }
 
-  module _ (disk : S → Disk) (before after : Known Step (Basis S T)) (held : Out (Shared (Chain S KeepAll T)) Step (Basis S T)) (old new : Shared (Chain S KeepAll T)) (piece : Piece) (answer : Result Passed ChainRefusal) (is : old ≡ held.value)
+  module _ (disk : S → Disk) (before after : Known Step (Basis S T)) (held : Out (Shared (Chain S Ledger T)) Step (Basis S T)) (old new : Shared (Chain S Ledger T)) (piece : Piece) (answer : Result Passed ChainRefusal) (is : old ≡ held.value)
       (turn : HasTurn Contains before after held.seat (told_of held.value) (basis_of disk held.value)) (settles : Settles disk piece old new answer) where
     pub may_settle : MayUnlock Contains work after held.seat (told_of new) (basis_of disk new)
     may_settle = let s = stepped_by disk piece old new answer settles in may_turn disk before after held old new s.step s.two s.answer is turn s.is
@@ -170,7 +170,7 @@ module _ {S T : Type 0} where
 
   -- ---- what is passed over
 
-  passed_now : (disk : S → Disk) (stripe n : ℕ) (old new : Shared (Chain S KeepAll T)) (basis : Basis S T) → IsStepped disk (passes stripe n) old new (Ok tt) → basis ≡ basis_of disk new → ArePassed basis (range_of stripe n)
+  passed_now : (disk : S → Disk) (stripe n : ℕ) (old new : Shared (Chain S Ledger T)) (basis : Basis S T) → IsStepped disk (passes stripe n) old new (Ok tt) → basis ≡ basis_of disk new → ArePassed basis (range_of stripe n)
   passed_now disk stripe n old new basis k is = record { each = λ t from to. by_end t from to (nat_lt t new.copied.stripes) refl }
     where
       here : (P : Basis S T → Type 0) → P (basis_of disk new) → P basis
@@ -194,7 +194,7 @@ module _ {S T : Type 0} where
       go t (inl has) = inl (more.copied t has)
       go t (inr past) = inr (let same = more.stripes in omega (arith, past, same))
 
-  pub settled_passed : (disk : S → Disk) (piece : Piece) (old new : Shared (Chain S KeepAll T)) (answer : Result Passed ChainRefusal) (basis : Basis S T) → Settles disk piece old new answer → basis ≡ basis_of disk new → IfOk answer (ArePassed basis)
+  pub settled_passed : (disk : S → Disk) (piece : Piece) (old new : Shared (Chain S Ledger T)) (answer : Result Passed ChainRefusal) (basis : Basis S T) → Settles disk piece old new answer → basis ≡ basis_of disk new → IfOk answer (ArePassed basis)
   settled_passed disk piece old new _ basis (was_put k) is = none_between basis piece.stripe
   settled_passed disk piece old new _ basis (not_put x k stops) is = tt
   settled_passed disk piece old new _ basis (not_looked x k stops) is = tt
@@ -219,7 +219,7 @@ module _ {S T : Type 0} where
       go (inr past) = inr (inl past)
 
   -- it is copied behind the turn, or what stopped that shows
-  pub settled_swept : (disk : S → Disk) (piece : Piece) (answer : Result Passed ChainRefusal) (before last : Known Step (Basis S T)) (old new : Shared (Chain S KeepAll T)) → Settles disk piece old new answer
+  pub settled_swept : (disk : S → Disk) (piece : Piece) (answer : Result Passed ChainRefusal) (before last : Known Step (Basis S T)) (old new : Shared (Chain S Ledger T)) → Settles disk piece old new answer
       → Contains (basis_of disk old) before.basis → IsHeld disk before old.first piece → StartsWith (told_of old) before.seen → last.seen ≡ told_of new → last.basis ≡ basis_of disk new → IsSwept piece.stripe before last
   settled_swept disk piece _ before last old new (was_put k) knows held earlier seen is = has_swept disk piece (Ok tt) before last old new k tt knows held earlier seen is
   settled_swept disk piece _ before last old new (not_put x k stops) knows held earlier seen is = has_swept disk piece (Err x) before last old new k stops knows held earlier seen is

@@ -4,7 +4,7 @@ use Rattle.std.specs.Prelude.{◌&&◌, ◌||◌, IfErr, IfSome, OnOk, Option, i
 use Rattle.std.proofs.lemmas.Bool.{eqb-true, eq-eqb, lt-ltb, ltb-false, ltb-true}
 use Rattle.std.proofs.lemmas.List.{append-nil, length-map}
 use Rattle.store_model.specs.Disk.{Disk}
-use Rattle.guest_model.specs.declared.recorder.KeepAll.{KeepAll}
+use Rattle.ledger.specs.declared.ledger.Ledger.{Ledger}
 use Rattle.guest_model.specs.declared.refusal.ChainRefusal.{ChainRefusal}
 use Rattle.guest_model.specs.declared.refusal.ChainRefusal.TheVariants.{Abandoned, Broken, EmptyRange, FileFull, NoMerge, NoPiece, NoRoom, NoStripe, NotYet, OutOfRange, ReadFault, ReadOnly, Spent, Stale, TooLong}
 use Rattle.chain_core.specs.declared.chain.Chain.{Chain}
@@ -123,7 +123,7 @@ marked_now stripe marks less =
     ap₂ (λ a b. if a then b || marks_of marks stripe else marks_of marks stripe) (lt-ltb stripe marks.stripes less) (eq-eqb stripe stripe refl)
 
 module _ {S T : Type 0} where
-  abbrev pub told_of : Shared (Chain S KeepAll T) → List Step
+  abbrev pub told_of : Shared (Chain S Ledger T) → List Step
   told_of s = steps_of s.chain.recorder s.broke
 
   -- how much is done to the chain: its events
@@ -131,11 +131,11 @@ module _ {S T : Type 0} where
   work b = b.events
 
   -- the steps stay, or the merge breaks the session
-  data Gained (old new : Shared (Chain S KeepAll T)) : Type 0 where
+  data Gained (old new : Shared (Chain S Ledger T)) : Type 0 where
     is_same : told_of new ≡ told_of old → Gained old new
     has_broken : old.broke ≡ None → told_of new ≡ done_steps old.chain.recorder ++ Broke merge_breach ∷ [] → Gained old new
 
-  gained : (disk : S → Disk) (old new : Shared (Chain S KeepAll T)) (step : MergeStep) (answer : Result (Unit {0}) ChainRefusal) → IsStepped disk step old new answer → Gained old new
+  gained : (disk : S → Disk) (old new : Shared (Chain S Ledger T)) (step : MergeStep) (answer : Result (Unit {0}) ChainRefusal) → IsStepped disk step old new answer → Gained old new
   gained disk old new step answer k = go answer k.broke
     where
       still : new.broke ≡ old.broke → Gained old new
@@ -163,7 +163,7 @@ module _ {S T : Type 0} where
       go (Err NoPiece) e = still e
       go (Err NoRoom) e = still e
 
-  module _ (disk : S → Disk) (before after locked : Known Step (Basis S T)) (old new : Shared (Chain S KeepAll T)) (step : MergeStep) (two : most_events step ≤ 2) (answer : Result (Unit {0}) ChainRefusal)
+  module _ (disk : S → Disk) (before after locked : Known Step (Basis S T)) (old new : Shared (Chain S Ledger T)) (step : MergeStep) (two : most_events step ≤ 2) (answer : Result (Unit {0}) ChainRefusal)
       (turn : HasTurn Contains before after locked (told_of old) (basis_of disk old)) (k : IsStepped disk step old new answer) where
     covers : Contains (basis_of disk new) (basis_of disk old)
     covers = record { first = ap Some k.first; notes = λ n h. (k.noted n).1 (inr h); events = k.later; stripes = k.stripes; copied = λ t h. subst (λ n. HasStripe t (marked_below (marks_of new.copied) n)) (sym k.stripes) (marked_more (marks_of old.copied) (marks_of new.copied) old.copied.stripes t (λ u m. k.copied u ∙ still_marked step answer old.copied u m) h); finished = λ e. k.finished ∙ still_finished step answer old.finished e }
@@ -253,10 +253,10 @@ module _ {S T : Type 0} where
 
   -- ---- as a worker's turn has them
 
-  module _ (disk : S → Disk) (before after : Known Step (Basis S T)) (held : Out (Shared (Chain S KeepAll T)) Step (Basis S T)) (old new : Shared (Chain S KeepAll T)) (step : MergeStep) (two : most_events step ≤ 2) (answer : Result (Unit {0}) ChainRefusal)
+  module _ (disk : S → Disk) (before after : Known Step (Basis S T)) (held : Out (Shared (Chain S Ledger T)) Step (Basis S T)) (old new : Shared (Chain S Ledger T)) (step : MergeStep) (two : most_events step ≤ 2) (answer : Result (Unit {0}) ChainRefusal)
       (is : old ≡ held.value) (turn : HasTurn Contains before after held.seat (told_of held.value) (basis_of disk held.value)) (k : IsStepped disk step old new answer) where
     has_turn : HasTurn Contains before after held.seat (told_of old) (basis_of disk old)
-    has_turn = subst (λ (v : Shared (Chain S KeepAll T)). HasTurn Contains before after held.seat (told_of v) (basis_of disk v)) (sym is) turn
+    has_turn = subst (λ (v : Shared (Chain S Ledger T)). HasTurn Contains before after held.seat (told_of v) (basis_of disk v)) (sym is) turn
 
     pub may_turn : MayUnlock Contains work after held.seat (told_of new) (basis_of disk new)
     may_turn = may_end disk before after held.seat old new step two answer has_turn k
@@ -267,7 +267,7 @@ module _ {S T : Type 0} where
   -- ---- a stripe
 
   -- what stopped a fetch of it shows, behind the turn
-  pub stops_turn : (disk : S → Disk) (stripe : ℕ) (step : MergeStep) (answer : Result (Unit {0}) ChainRefusal) (before last : Known Step (Basis S T)) (old new : Shared (Chain S KeepAll T)) → IsStepped disk step old new answer → finished_behind step (Err NoMerge) old.finished ≡ true
+  pub stops_turn : (disk : S → Disk) (stripe : ℕ) (step : MergeStep) (answer : Result (Unit {0}) ChainRefusal) (before last : Known Step (Basis S T)) (old new : Shared (Chain S Ledger T)) → IsStepped disk step old new answer → finished_behind step (Err NoMerge) old.finished ≡ true
       → Contains (basis_of disk old) before.basis → last.basis ≡ basis_of disk new → (x : ChainRefusal) → answer ≡ Err x → StopsFetch disk stripe old new x → StopsTurn stripe before last x
   stops_turn disk stripe step answer before last old new k none knows is = go
     where
@@ -291,7 +291,7 @@ module _ {S T : Type 0} where
       go NoPiece e h = absurd h
       go NoRoom e h = absurd h
 
-  pub fetch_stops : (disk : S → Disk) (stripe : ℕ) (answer : Result (Unit {0}) ChainRefusal) (before last : Known Step (Basis S T)) (old new : Shared (Chain S KeepAll T)) → IsStepped disk (fetches stripe) old new answer → IfErr answer (StopsFetch disk stripe old new)
+  pub fetch_stops : (disk : S → Disk) (stripe : ℕ) (answer : Result (Unit {0}) ChainRefusal) (before last : Known Step (Basis S T)) (old new : Shared (Chain S Ledger T)) → IsStepped disk (fetches stripe) old new answer → IfErr answer (StopsFetch disk stripe old new)
       → Contains (basis_of disk old) before.basis → last.basis ≡ basis_of disk new → IfErr answer (StopsTurn stripe before last)
   fetch_stops disk stripe answer before last old new k stops knows is = go answer refl
     where
@@ -300,7 +300,7 @@ module _ {S T : Type 0} where
       go (Err x) e = stops_turn disk stripe (fetches stripe) answer before last old new k refl knows is x e (subst (λ r. IfErr r (StopsFetch disk stripe old new)) e stops)
 
   -- what was fetched in a turn is a piece behind all that the seat has seen
-  pub has_fetched : (disk : S → Disk) (stripe : ℕ) (answer : Result (Unit {0}) ChainRefusal) (last : Known Step (Basis S T)) (new : Shared (Chain S KeepAll T)) (piece : Piece) → OnOk answer (new.broke ≡ None) → OnOk answer (piece.stripe ≡ stripe) → OnOk answer (IsFetched disk new.first new.chain.recorder piece)
+  pub has_fetched : (disk : S → Disk) (stripe : ℕ) (answer : Result (Unit {0}) ChainRefusal) (last : Known Step (Basis S T)) (new : Shared (Chain S Ledger T)) (piece : Piece) → OnOk answer (new.broke ≡ None) → OnOk answer (piece.stripe ≡ stripe) → OnOk answer (IsFetched disk new.first new.chain.recorder piece)
       → last.seen ≡ told_of new → last.basis ≡ basis_of disk new → OnOk answer (HasFetched disk last stripe piece)
   has_fetched disk stripe (Err x) last new piece whole is_of fetched seen is = tt
   has_fetched disk stripe (Ok done) last new piece whole is_of fetched seen is = λ filled.
@@ -315,23 +315,23 @@ module _ {S T : Type 0} where
             }),
       )
 
-  pub has_filled : (disk : S → Disk) (answer : Result (Unit {0}) ChainRefusal) (first : Chain S KeepAll T) (h : History) (piece : Piece) → OnOk answer (IsFetched disk first h piece) → OnOk answer (piece.filled ≡ true)
+  pub has_filled : (disk : S → Disk) (answer : Result (Unit {0}) ChainRefusal) (first : Chain S Ledger T) (h : History) (piece : Piece) → OnOk answer (IsFetched disk first h piece) → OnOk answer (piece.filled ≡ true)
   has_filled disk (Ok done) first h piece fetched = fetched.filled
   has_filled disk (Err x) first h piece fetched = tt
 
   -- what was held when the turn began was fetched behind steps of the chain
-  pub was_fetched : (disk : S → Disk) (before : Known Step (Basis S T)) (old : Shared (Chain S KeepAll T)) (piece : Piece) → Contains (basis_of disk old) before.basis → StartsWith (told_of old) before.seen → IfSome before.basis.first (λ first. IsHeld disk before first piece)
+  pub was_fetched : (disk : S → Disk) (before : Known Step (Basis S T)) (old : Shared (Chain S Ledger T)) (piece : Piece) → Contains (basis_of disk old) before.basis → StartsWith (told_of old) before.seen → IfSome before.basis.first (λ first. IsHeld disk before first piece)
       → IsHeld disk before old.first piece × WasFetched disk (told_of old) old.first piece
   was_fetched disk before old piece knows seen held =
       let is = subst (λ o. IfSome o (λ first. IsHeld disk before first piece)) (sym knows.first) held in
       (is, record { before = is.before; begins = starts-through (told_of old) before.seen (done_steps is.before) seen is.begins; fetched = is.fetched })
 
   -- a stale piece shows that a call changed its stripe
-  stale_shows : (disk : S → Disk) (before last : Known Step (Basis S T)) (old new : Shared (Chain S KeepAll T)) (piece : Piece) (taken now : ℕ) → new.first ≡ old.first → new.chain.recorder ≡ old.chain.recorder → IsHeld disk before old.first piece → StartsWith (told_of old) before.seen → last.seen ≡ told_of new
+  stale_shows : (disk : S → Disk) (before last : Known Step (Basis S T)) (old new : Shared (Chain S Ledger T)) (piece : Piece) (taken now : ℕ) → new.first ≡ old.first → new.chain.recorder ≡ old.chain.recorder → IsHeld disk before old.first piece → StartsWith (told_of old) before.seen → last.seen ≡ told_of new
       → (taken ≡ piece.stamp) × (now ≡ stamp_behind new.first.layers.retiring new.chain.recorder piece.stripe) × (taken ≢ now) → ChangesAt last.seen piece.stripe now × (length before.seen < now)
   stale_shows disk before last old new piece taken now first history held earlier seen h =
       let begins : StartsWith old.chain.recorder held.before = done_starts old.chain.recorder held.before old.broke (starts-through (told_of old) before.seen (done_steps held.before) earlier held.begins) in
-      let now_is : now ≡ stamp_behind old.first.layers.retiring old.chain.recorder piece.stripe = h.1 ∙ ap₂ (λ (f : Chain S KeepAll T) (k : History). stamp_behind f.layers.retiring k piece.stripe) first history in
+      let now_is : now ≡ stamp_behind old.first.layers.retiring old.chain.recorder piece.stripe = h.1 ∙ ap₂ (λ (f : Chain S Ledger T) (k : History). stamp_behind f.layers.retiring k piece.stripe) first history in
       let since = changed_since disk old.first held.before old.chain.recorder piece now held.fetched begins now_is (λ same. h.2 (h.0 ∙ same)) in
       let changed = since.1 in (
         record {
@@ -346,7 +346,7 @@ module _ {S T : Type 0} where
       )
 
   -- the stripe of a put is copied, or what stopped that shows
-  pub has_swept : (disk : S → Disk) (piece : Piece) (answer : Result (Unit {0}) ChainRefusal) (before last : Known Step (Basis S T)) (old new : Shared (Chain S KeepAll T)) → IsStepped disk (copies piece.stripe) old new answer → IfErr answer (StopsPut disk piece old new)
+  pub has_swept : (disk : S → Disk) (piece : Piece) (answer : Result (Unit {0}) ChainRefusal) (before last : Known Step (Basis S T)) (old new : Shared (Chain S Ledger T)) → IsStepped disk (copies piece.stripe) old new answer → IfErr answer (StopsPut disk piece old new)
       → Contains (basis_of disk old) before.basis → IsHeld disk before old.first piece → StartsWith (told_of old) before.seen → last.seen ≡ told_of new → last.basis ≡ basis_of disk new → IsSwept piece.stripe before last
   has_swept disk piece answer before last old new k stops knows held earlier seen is = go answer refl
     where

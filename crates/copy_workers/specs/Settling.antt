@@ -1,7 +1,7 @@
 -- What a worker passes over of a merge, and what it knows of that.
 use Rattle.std.specs.Prelude.{◌⊎◌, ◌+◌, ◌<◌, ◌≤◌, ℕ, Result, Ok, Err}
 use Rattle.store_model.specs.Disk.{Disk}
-use Rattle.guest_model.specs.declared.recorder.KeepAll.{KeepAll}
+use Rattle.ledger.specs.declared.ledger.Ledger.{Ledger}
 use Rattle.guest_model.specs.declared.refusal.ChainRefusal.{ChainRefusal}
 use Rattle.merge_core.specs.declared.piece.Piece.{Piece}
 use Rattle.chain_core.specs.declared.chain.Chain.{Chain}
@@ -27,7 +27,7 @@ module _ {S T : Type 0} where
 
   -- A piece was put, and none was passed over; or that was refused; or the look at what can be passed over was; or the piece's stripe was passed over,
   -- with those behind it.
-  pub data Settles (disk : S → Disk) (piece : Piece) (old new : Shared (Chain S KeepAll T)) : Result Passed ChainRefusal → Type 0 where
+  pub data Settles (disk : S → Disk) (piece : Piece) (old new : Shared (Chain S Ledger T)) : Result Passed ChainRefusal → Type 0 where
     was_put : IsStepped disk (copies piece.stripe) old new (Ok tt) → Settles disk piece old new (Ok (record { from = piece.stripe; to = piece.stripe }))
     not_put : (x : ChainRefusal) → IsStepped disk (copies piece.stripe) old new (Err x) → StopsPut disk piece old new x → Settles disk piece old new (Err x)
     not_looked : (x : ChainRefusal) → IsStepped disk (passes piece.stripe 0) old new (Err x) → StopsFetch disk piece.stripe old new x → Settles disk piece old new (Err x)

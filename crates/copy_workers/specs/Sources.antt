@@ -2,7 +2,7 @@
 use Rattle.std.specs.Prelude.{◌≡◌, ◌<◌, ⊤, ℕ, true, is_some, Option, Some, None, List, length, nat_lt, slice_index_or, IfSome}
 use Rattle.store_model.specs.Disk.{Disk, Sealed, WhereTold, reader_of}
 use Rattle.guest_model.specs.History.{History}
-use Rattle.guest_model.specs.declared.recorder.KeepAll.{KeepAll}
+use Rattle.ledger.specs.declared.ledger.Ledger.{Ledger}
 use Rattle.chain_model.specs.Layers as chain
 use Rattle.chain_model.specs.Stripes.{stripe_count}
 use Rattle.layer_session.specs.FileLayers.{table_parts}
@@ -101,7 +101,7 @@ HaveFailed r unfetched = has_failed r.readers ≡ nat_lt 0 unfetched
 module _ {S T : Type 0} (disk : S → Disk) where
   -- the reader tells what the source had when the session began of which a seat knows
   pub record ReadsSource (basis : Basis S T) (readers : List Sealed) (s : Source) : Type 0 where
-    pub first : Chain S KeepAll T
+    pub first : Chain S Ledger T
     pub began : basis.first ≡ Some first
     pub there : s.at < length readers
     pub tells : (d : Sealed) → (reader_at readers s d).content ≡ (reader_of s.read.file (disk first.store)).content
@@ -111,7 +111,7 @@ module _ {S T : Type 0} (disk : S → Disk) where
   HasSource basis r = IfSome r.source (ReadsSource basis r.readers)
 
   -- A piece was fetched in the session that began with this chain, behind calls that a seat has seen: behind all of them, where the leaf is merged.
-  pub record IsHeld (seat : Known Step (Basis S T)) (first : Chain S KeepAll T) (piece : Piece) : Type 0 where
+  pub record IsHeld (seat : Known Step (Basis S T)) (first : Chain S Ledger T) (piece : Piece) : Type 0 where
     pub before : History
     pub begins : StartsWith seat.seen (done_steps before)
     pub recent : is_some first.layers.retiring ≡ true → length seat.seen ≡ length before

@@ -6,7 +6,7 @@ ghost use Rattle.chain_core.specs.Sealed.{IsSealedSource};
 ghost use Rattle.copy_workers.specs.Settling.{ArePassed};
 ghost use Rattle.copy_workers.specs.Sources.{HasFetched, HasSource, HaveFailed};
 ghost use Rattle.copy_workers.specs.Sweeps.{AreLeft, IsLeft};
-ghost use Rattle.guest_model.specs.declared.recorder.KeepAll.{KeepAll};
+ghost use Rattle.ledger.specs.declared.ledger.Ledger.{Ledger};
 ghost use Rattle.read_plan.specs.Reading.{ReaderFailed};
 ghost use Rattle.shared_chain.specs.Planned.{IsReaderFor};
 ghost use Rattle.shared_chain.specs.Seats.{HasWorked, IsFree, IsSwept, StopsTurn};
@@ -46,7 +46,7 @@ impl<S: Store> Worker<S> {
         ensures seats { (result.seat ≡ seat) × (result.claim ≡ claim) }
         ensures readers { result.reads.readers ≡ readers }
         ensures unfetched { result.unfetched ≡ 0 }
-        ensures source { (first : Chain S KeepAll S.R) → seat.basis.first ≡ Some first → All (IsReaderFor S.disk first) readers → IfSome source (IsSealedSource first.layers (S.disk first.store))
+        ensures source { (first : Chain S Ledger S.R) → seat.basis.first ≡ Some first → All (IsReaderFor S.disk first) readers → IfSome source (IsSealedSource first.layers (S.disk first.store))
             → HasSource S.disk seat.basis result.reads }
     {
         Worker {

@@ -11,7 +11,7 @@ use Rattle.guest_model.specs.declared.call.Reply.{Reply}
 use Rattle.guest_model.specs.declared.call.Reply.TheVariants as replies
 use Rattle.guest_model.specs.Calls.{Disk as GuestDisk, reply}
 use Rattle.guest_model.specs.History.{History}
-use Rattle.guest_model.specs.declared.recorder.KeepAll.{KeepAll}
+use Rattle.ledger.specs.declared.ledger.Ledger.{Ledger}
 use Rattle.guest_model.specs.declared.refusal.ChainRefusal.{ChainRefusal}
 use Rattle.guest_model.specs.declared.refusal.ChainRefusal.TheVariants.{Abandoned, Broken, EmptyRange, FileFull, NoMerge, NoPiece, NoRoom, NoStripe, NotYet, OutOfRange, ReadFault, ReadOnly, Spent, Stale, TooLong}
 use Rattle.chain_core.specs.declared.chain.Chain.{Chain}
@@ -86,7 +86,7 @@ steps_gained who call h h' broke broke' (Err x) e b = go x b
 
 module _ {S T : Type 0} where
   -- the history as the lock tells it
-  abbrev told_of : Shared (Chain S KeepAll T) → List Step
+  abbrev told_of : Shared (Chain S Ledger T) → List Step
   told_of s = steps_of s.chain.recorder s.broke
 
   -- how much is done to the chain: its events
@@ -119,7 +119,7 @@ module _ {S T : Type 0} where
       go NoPiece h = absurd h
       go NoRoom h = whole NoRoom h
 
-  module _ (disk : S → Disk) (who : Caller) (call : Call) (r : Option Reply) (before after locked : Known Step (Basis S T)) (old new : Shared (Chain S KeepAll T)) (answer : Result ℕ ChainRefusal)
+  module _ (disk : S → Disk) (who : Caller) (call : Call) (r : Option Reply) (before after locked : Known Step (Basis S T)) (old new : Shared (Chain S Ledger T)) (answer : Result ℕ ChainRefusal)
       (turn : HasTurn Contains before after locked (told_of old) (basis_of disk old)) (k : IsCalled disk who call old new answer) where
     covers : Contains (basis_of disk new) (basis_of disk old)
     covers = record { first = ap Some k.first; notes = λ n h. (k.noted n).1 (inr h); events = omega (arith, k.answered.events, counted_high old.chain.events); stripes = ap (λ (m : Marks). m.stripes) k.copied; copied = λ t h. subst (λ (m : Marks). HasStripe t (marked_below (marks_of m) m.stripes)) (sym k.copied) h; finished = λ e. k.finished ∙ e }
@@ -256,10 +256,10 @@ module _ {S T : Type 0} where
 
   -- ---- as a guest's call has them
 
-  module _ (disk : S → Disk) (who : Caller) (call : Call) (before after : Known Step (Basis S T)) (held : Out (Shared (Chain S KeepAll T)) Step (Basis S T)) (old new : Shared (Chain S KeepAll T)) (answer : Result ℕ ChainRefusal)
+  module _ (disk : S → Disk) (who : Caller) (call : Call) (before after : Known Step (Basis S T)) (held : Out (Shared (Chain S Ledger T)) Step (Basis S T)) (old new : Shared (Chain S Ledger T)) (answer : Result ℕ ChainRefusal)
       (is : old ≡ held.value) (turn : HasTurn Contains before after held.seat (told_of held.value) (basis_of disk held.value)) (k : IsCalled disk who call old new answer) where
     has_turn : HasTurn Contains before after held.seat (told_of old) (basis_of disk old)
-    has_turn = subst (λ (v : Shared (Chain S KeepAll T)). HasTurn Contains before after held.seat (told_of v) (basis_of disk v)) (sym is) turn
+    has_turn = subst (λ (v : Shared (Chain S Ledger T)). HasTurn Contains before after held.seat (told_of v) (basis_of disk v)) (sym is) turn
 
     pub may_turn : MayUnlock Contains work after held.seat (told_of new) (basis_of disk new)
     may_turn = may_end disk who call None before after held.seat old new answer has_turn k
@@ -284,7 +284,7 @@ module _ {S T : Type 0} where
         (subst (λ (s : Known Step (Basis S T)). HaveReaders disk s.basis readers) (sym is) have)
 
 -- what was planned has been read, or a reader failed
-pub filled_reply : {S T : Type 0} (disk : S → Disk) (s : Shared (Chain S KeepAll T)) (call : Call) (readers : List Sealed) (plan : List Extent) (out new : List ℕ) (read : Result (Unit {0}) StoreFault) → IsPlanned disk s call readers plan out
+pub filled_reply : {S T : Type 0} (disk : S → Disk) (s : Shared (Chain S Ledger T)) (call : Call) (readers : List Sealed) (plan : List Extent) (out new : List ℕ) (read : Result (Unit {0}) StoreFault) → IsPlanned disk s call readers plan out
     → All (IsReaderFor disk s.first) readers → OnOk read (HasFilled 512 readers plan out new) → IfSome (found_in read new) (λ r. RepliesBehind disk s.first s.chain.recorder call r)
 filled_reply disk s call readers plan out new (Ok done) planned are filled = planned.replies are new filled
 filled_reply disk s call readers plan out new (Err fault) planned are filled = tt

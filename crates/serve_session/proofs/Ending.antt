@@ -12,7 +12,7 @@ use Rattle.vx_base.specs.declared.NoRoom.{NoRoom as Want}
 use Rattle.vx_base.specs.declared.parts.Geometry.{Geometry}
 use Rattle.guest_model.specs.declared.call.Call.{Call}
 use Rattle.guest_model.specs.declared.call.Entry.{Entry}
-use Rattle.guest_model.specs.declared.recorder.KeepAll.{KeepAll}
+use Rattle.ledger.specs.declared.ledger.Ledger.{Ledger}
 use Rattle.guest_model.specs.declared.refusal.ChainRefusal.{ChainRefusal}
 use Rattle.guest_model.specs.declared.refusal.ChainRefusal.TheVariants.{Abandoned, Broken, EmptyRange, FileFull, NoMerge, NoPiece, NoRoom, NoStripe, NotYet, OutOfRange, ReadFault, ReadOnly, Spent, Stale, TooLong}
 use Rattle.guest_model.specs.Calls.{reply}
@@ -251,7 +251,7 @@ some_told Q names lines g0 (os ∷ guests) (inr h) whole =
     let r = some_told Q names lines (g0 + 1) guests h whole.1 in
     (r.0, r.1, r.2, omega (arith, r.3), omega (arith, r.4), ap (λ n. length (get_or (told_guests names g0 lines (os ∷ guests)) n [])) {x = r.0 - g0} {y = suc (r.0 - (g0 + 1))} (omega (arith, r.3)) ∙ r.5)
 
-module _ {S T : Type 0} (disk : S → Disk) (first : Chain S KeepAll T) where
+module _ {S T : Type 0} (disk : S → Disk) (first : Chain S Ledger T) where
   -- the call that stands at a place
   record At (seen : List Step) (guest number : ℕ) (outcomes : List Outcome) (p : ℕ) : Type 0 where
     no : ℕ
@@ -275,7 +275,7 @@ module _ {S T : Type 0} (disk : S → Disk) (first : Chain S KeepAll T) where
       record { no = a.no; call = a.call; before = a.before; low = omega (arith, a.low); high = omega (arith, a.high); begins = a.begins; place_is = a.place_is }
 
   module _ (merges : Bool) (lock : TableId) (asking : Asking) (seat : Known Step (Basis S T)) (guests : List (List Outcome)) (j : AreJoined disk first merges lock asking seat guests)
-      (v : Shared (Chain S KeepAll T)) (broke : Option Breach) (seen_is : steps_of v.chain.recorder broke ≡ seat.seen) (basis : Contains (basis_of disk v) seat.basis) (places : (p : ℕ) → times p seat.mine ≡ once_between p 1 (length seat.seen + 1)) (refusals : seat.refusals ≡ 0) (few : v.chain.events < 2 ^ 63) where
+      (v : Shared (Chain S Ledger T)) (broke : Option Breach) (seen_is : steps_of v.chain.recorder broke ≡ seat.seen) (basis : Contains (basis_of disk v) seat.basis) (places : (p : ℕ) → times p seat.mine ≡ once_between p 1 (length seat.seen + 1)) (refusals : seat.refusals ≡ 0) (few : v.chain.events < 2 ^ 63) where
     abbrev h : History
     h = v.chain.recorder
 
@@ -542,7 +542,7 @@ module _ {S T : Type 0} (disk : S → Disk) (first : Chain S KeepAll T) where
   -- ---- the transcript
 
   module _ (merges : Bool) (lock : TableId) (names : List (List ℕ)) (lines : List Line) (seat : Known Step (Basis S T)) (told : List (List ToldCall)) (short : Bool) (guests : List (List Outcome)) (j : AreJoined disk first merges lock (asked_by lines) seat guests) (words : AreKept names lines told short guests)
-      (v : Shared (Chain S KeepAll T)) (broke : Option Breach) (seen_is : steps_of v.chain.recorder broke ≡ seat.seen) (basis : Contains (basis_of disk v) seat.basis) (places : (p : ℕ) → times p seat.mine ≡ once_between p 1 (length seat.seen + 1)) (refusals : seat.refusals ≡ 0) (few : v.chain.events < 2 ^ 63) where
+      (v : Shared (Chain S Ledger T)) (broke : Option Breach) (seen_is : steps_of v.chain.recorder broke ≡ seat.seen) (basis : Contains (basis_of disk v) seat.basis) (places : (p : ℕ) → times p seat.mine ≡ once_between p 1 (length seat.seen + 1)) (refusals : seat.refusals ≡ 0) (few : v.chain.events < 2 ^ 63) where
     abbrev HeardBy : ℕ → List Outcome → Type 0
     HeardBy guest outcomes = AreHeard disk first seat guest 1 ((asked_by lines).calls guest) outcomes
 

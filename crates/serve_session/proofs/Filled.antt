@@ -6,7 +6,7 @@ use Rattle.store_model.specs.Disk.{Disk}
 use Rattle.store_model.specs.Trace.{Trace}
 use Rattle.store_model.specs.declared.fault.StoreFault.{StoreFault}
 use Rattle.guest_model.specs.declared.call.Call.{Call}
-use Rattle.guest_model.specs.declared.recorder.KeepAll.{KeepAll}
+use Rattle.ledger.specs.declared.ledger.Ledger.{Ledger}
 use Rattle.guest_model.specs.declared.refusal.ChainRefusal.{ChainRefusal}
 use Rattle.guest_model.specs.declared.refusal.ChainRefusal.TheVariants.{Abandoned, Broken, EmptyRange, FileFull, NoMerge, NoPiece, NoRoom, NoStripe, NotYet, OutOfRange, ReadFault, ReadOnly, Spent, Stale, TooLong}
 use Rattle.chain_core.specs.declared.chain.Chain.{Chain}
@@ -61,7 +61,7 @@ module _ (next : ℕ) where
 
 -- ---- what guests are told
 
-module _ {S T : Type 0} (disk : S → Disk) (first : Chain S KeepAll T) (seat : Known Step (Basis S T)) (full : Option ℕ) (up : (next : ℕ) → HasNote seat.basis.notes (notes.Full next) → IsUpTo full next) where
+module _ {S T : Type 0} (disk : S → Disk) (first : Chain S Ledger T) (seat : Known Step (Basis S T)) (full : Option ℕ) (up : (next : ℕ) → HasNote seat.basis.notes (notes.Full next) → IsUpTo full next) where
   end_heard : (call : Call) (x : ChainRefusal) → IsHeardOf disk first seat call x → IsEndTold (IsUpTo full) (Err x)
   end_heard call EmptyRange k = tt
   end_heard call (OutOfRange a b c) k = tt

@@ -7,7 +7,7 @@ use Rattle.std.proofs.lemmas.List.{length-replicate}
 use Rattle.store_model.specs.Disk.{Disk}
 use Rattle.store_model.specs.declared.fault.StoreFault.{StoreFault}
 use Rattle.vx_base.specs.declared.NoRoom.{NoRoom}
-use Rattle.guest_model.specs.declared.recorder.KeepAll.{KeepAll}
+use Rattle.ledger.specs.declared.ledger.Ledger.{Ledger}
 use Rattle.chain_core.specs.declared.chain.Chain.{Chain}
 use Rattle.guest_model.specs.declared.refusal.ChainRefusal.{ChainRefusal}
 use Rattle.guest_model.specs.declared.refusal.ChainRefusal.TheVariants.{Abandoned, Broken, EmptyRange, FileFull, NoMerge, NoPiece, NoStripe, NotYet, OutOfRange, ReadFault, ReadOnly, Spent, Stale, TooLong}
@@ -105,7 +105,7 @@ none_written names lines run tally no_call none = record {
 
 module _ {S T : Type 0} (disk : S → Disk) where
   -- the first seat of a lock over a chain whose session has just begun
-  module _ (v : Shared (Chain S KeepAll T)) (fresh : v ≡ record { chain = v.first; first = v.first; full = None; broke = None; fault = None; copied = v.copied; finished = false }) (whole : v.first.broken ≡ None) (lock : TableId) (made : Known Step (Basis S T)) (is : made ≡ first_seat lock 0 (basis_of disk v)) where
+  module _ (v : Shared (Chain S Ledger T)) (fresh : v ≡ record { chain = v.first; first = v.first; full = None; broke = None; fault = None; copied = v.copied; finished = false }) (whole : v.first.broken ≡ None) (lock : TableId) (made : Known Step (Basis S T)) (is : made ≡ first_seat lock 0 (basis_of disk v)) where
     fresh_notes : notes_of disk v ≡ first_notes disk v.first
     fresh_notes = ap (notes_of disk) fresh ∙ ap (λ (b : Option StoreFault). notes_in (disk v.first.store) b None) whole
 
@@ -147,7 +147,7 @@ module _ {S T : Type 0} (disk : S → Disk) where
       (omega (arith, r, drawn, more, workers), omega (arith, w, drawn, more, workers))
 
   -- they failed so often, stripes with guests' reads
-  pub was_unread : (merges : Bool) (old new : Shared (Chain S KeepAll T)) (asking : Asking) (guests : List (List Outcome)) (unread : ℕ) → WasShared disk merges old asking new guests unread → (n stripes : ℕ) → n ≡ length (all_unread guests) + stripes → (merges ≡ false → stripes ≡ 0)
+  pub was_unread : (merges : Bool) (old new : Shared (Chain S Ledger T)) (asking : Asking) (guests : List (List Outcome)) (unread : ℕ) → WasShared disk merges old asking new guests unread → (n stripes : ℕ) → n ≡ length (all_unread guests) + stripes → (merges ≡ false → stripes ≡ 0)
       → WasShared disk merges old asking new guests n
   was_unread merges old new asking guests unread s n stripes is none = record {
     lock = s.lock;
@@ -165,13 +165,13 @@ module _ {S T : Type 0} (disk : S → Disk) where
   }
 
   -- a chain that was just made to be shared
-  pub begun_is : (chain : Chain S KeepAll T) (s : Shared (Chain S KeepAll T)) → s ≡ record { chain = chain; first = chain; full = None; broke = None; fault = None; copied = s.copied; finished = false } → IsSound (session_of disk chain) → chain.recorder ≡ [] → chain.broken ≡ None → chain.events ≡ 0 → HasBegun disk s
+  pub begun_is : (chain : Chain S Ledger T) (s : Shared (Chain S Ledger T)) → s ≡ record { chain = chain; first = chain; full = None; broke = None; fault = None; copied = s.copied; finished = false } → IsSound (session_of disk chain) → chain.recorder ≡ [] → chain.broken ≡ None → chain.events ≡ 0 → HasBegun disk s
   begun_is chain s is sound empty whole none = subst (HasBegun disk) (sym is) (record { sound = sound; fresh = refl; empty = empty; whole = whole; none = none })
 
   -- ---- the end of a merge
 
   -- what is known of a chain behind the end of its merge, if it has one
-  pub record EndedSo (merges : Bool) (mid v : Shared (Chain S KeepAll T)) (merged : Result (Unit {0}) ChainRefusal) : Type 0 where
+  pub record EndedSo (merges : Bool) (mid v : Shared (Chain S Ledger T)) (merged : Result (Unit {0}) ChainRefusal) : Type 0 where
     pub first : v.first ≡ mid.first
     pub history : v.chain.recorder ≡ mid.chain.recorder
     pub basis : Contains (basis_of disk v) (basis_of disk mid)
@@ -180,7 +180,7 @@ module _ {S T : Type 0} (disk : S → Disk) where
     pub stopped : IfErr merged (StopsEnd disk v)
     pub few : v.chain.events ≤ mid.chain.events + 2 ^ 34
 
-  merge_broke : (mid v : Shared (Chain S KeepAll T)) (merged : Result (Unit {0}) ChainRefusal) → v.broke ≡ broke_after mid.broke merge_breach (as_answer merged) → (v.broke ≡ mid.broke) ⊎ ((true ≡ true) × (mid.broke ≡ None) × (v.broke ≡ Some merge_breach))
+  merge_broke : (mid v : Shared (Chain S Ledger T)) (merged : Result (Unit {0}) ChainRefusal) → v.broke ≡ broke_after mid.broke merge_breach (as_answer merged) → (v.broke ≡ mid.broke) ⊎ ((true ≡ true) × (mid.broke ≡ None) × (v.broke ≡ Some merge_breach))
   merge_broke mid v merged = go merged
     where
       broken : (o : Option Breach) → mid.broke ≡ o → v.broke ≡ Some (first_breach o merge_breach) → (v.broke ≡ mid.broke) ⊎ ((true ≡ true) × (mid.broke ≡ None) × (v.broke ≡ Some merge_breach))
@@ -205,15 +205,15 @@ module _ {S T : Type 0} (disk : S → Disk) where
       go (Err NoPiece) e = inl e
       go (Err NoMemory) e = inl e
 
-  pub ended_so : (merges : Bool) (mid v : Shared (Chain S KeepAll T)) (merged : Result (Unit {0}) ChainRefusal) → EndsAs disk merges mid v merged → EndedSo merges mid v merged
+  pub ended_so : (merges : Bool) (mid v : Shared (Chain S Ledger T)) (merged : Result (Unit {0}) ChainRefusal) → EndsAs disk merges mid v merged → EndedSo merges mid v merged
   ended_so false mid v merged e = record {
-    first = ap (λ (s : Shared (Chain S KeepAll T)). s.first) e.0;
-    history = ap (λ (s : Shared (Chain S KeepAll T)). s.chain.recorder) e.0;
-    basis = subst (λ (s : Shared (Chain S KeepAll T)). Contains (basis_of disk s) (basis_of disk mid)) (sym e.0) (contains_itself (basis_of disk mid));
-    broke = inl (ap (λ (s : Shared (Chain S KeepAll T)). s.broke) e.0);
+    first = ap (λ (s : Shared (Chain S Ledger T)). s.first) e.0;
+    history = ap (λ (s : Shared (Chain S Ledger T)). s.chain.recorder) e.0;
+    basis = subst (λ (s : Shared (Chain S Ledger T)). Contains (basis_of disk s) (basis_of disk mid)) (sym e.0) (contains_itself (basis_of disk mid));
+    broke = inl (ap (λ (s : Shared (Chain S Ledger T)). s.broke) e.0);
     finished = λ never. absurd (false_true never);
     stopped = subst (λ r. IfErr r (StopsEnd disk v)) (sym e.1) tt;
-    few = let same : v.chain.events ≡ mid.chain.events = ap (λ (s : Shared (Chain S KeepAll T)). s.chain.events) e.0 in omega (arith, same);
+    few = let same : v.chain.events ≡ mid.chain.events = ap (λ (s : Shared (Chain S Ledger T)). s.chain.events) e.0 in omega (arith, same);
   }
   ended_so true mid v merged e = record {
     first = e.stepped.first;
@@ -225,7 +225,7 @@ module _ {S T : Type 0} (disk : S → Disk) where
     few = e.stepped.few;
   }
 
-  module _ (merges : Bool) (old mid v : Shared (Chain S KeepAll T)) (merged : Result (Unit {0}) ChainRefusal) (so : EndedSo merges mid v merged) (end : Ending) (after : Disk) (ended : IsEnded (session_of disk v.chain) after end.closed) (fault : end.fault ≡ v.fault)
+  module _ (merges : Bool) (old mid v : Shared (Chain S Ledger T)) (merged : Result (Unit {0}) ChainRefusal) (so : EndedSo merges mid v merged) (end : Ending) (after : Disk) (ended : IsEnded (session_of disk v.chain) after end.closed) (fault : end.fault ≡ v.fault)
       (counted : EndsCounted (disk v.first.store) after v.fault end.closed) (errs : IfSome v.broke (λ b. IsErr end.closed)) (leaves : LeavesHistory (session_of disk v.first) v.chain.recorder v.full v.broke (has_merge v.chain.layers) end.closed after) where
     -- what was told at the end stands in what was run
     stops_run : v.chain.events < 2 ^ 63 → (x : ChainRefusal) → StopsEnd disk v x → StopsMerge end x
@@ -291,7 +291,7 @@ module _ {S T : Type 0} (disk : S → Disk) where
         let basis : Contains (basis_of disk v) s.seat.basis = contains_through (basis_of disk v) (basis_of disk mid) s.seat.basis so.basis s.basis in
         let same : v.first ≡ old.first = first_is disk old.first merges s.lock asking s.seat guests s.joined v mid.broke history basis s.places s.refusals small in
         let w = which disk old.first merges s.lock asking s.seat guests s.joined v mid.broke history basis s.places s.refusals small end.closed errs so.broke in
-        let counted_first : EndsCounted (disk old.first.store) after v.fault end.closed = subst (λ (c : Chain S KeepAll T). EndsCounted (disk c.store) after v.fault end.closed) same counted in
+        let counted_first : EndsCounted (disk old.first.store) after v.fault end.closed = subst (λ (c : Chain S Ledger T). EndsCounted (disk c.store) after v.fault end.closed) same counted in
         record {
           broken = w.broken;
           breach = v.broke;
@@ -307,23 +307,23 @@ module _ {S T : Type 0} (disk : S → Disk) where
           full = v.full;
           ends = ends_told disk old.first s.seat v.full (λ next h. full_noted next (disk v.chain.store) v.chain.broken v.full (basis.notes (notes.Full next) h)) asking guests s.joined.heard;
           under_way = has_merge v.chain.layers;
-          leaves = subst (λ (c : Chain S KeepAll T). LeavesHistory (session_of disk c) v.chain.recorder v.full v.broke (has_merge v.chain.layers) end.closed after) same leaves;
+          leaves = subst (λ (c : Chain S Ledger T). LeavesHistory (session_of disk c) v.chain.recorder v.full v.broke (has_merge v.chain.layers) end.closed after) same leaves;
           finished = so.finished;
           kept = λ some. each_err (StopsEnd disk v) (λ x. OnOk end.closed (has_merge v.chain.layers ≡ true)) (kept_run small) merged so.stopped;
           stopped = each_err (StopsEnd disk v) (StopsMerge end) (stops_run small) merged so.stopped;
-          near = subst (λ (c : Chain S KeepAll T). IfErr merged (IsNearEnd disk c v.full)) same (each_err (StopsEnd disk v) (IsNearEnd disk v.first v.full) near_run merged so.stopped);
+          near = subst (λ (c : Chain S Ledger T). IfErr merged (IsNearEnd disk c v.full)) same (each_err (StopsEnd disk v) (IsNearEnd disk v.first v.full) near_run merged so.stopped);
         }
 
     -- memory ran out before a call was made
     pub none_served : (asking : Asking) → end.unread ≡ 0 → HasBegun disk old → mid ≡ old → HasServed disk merges old.first asking (replicate asking.count []) [] end merged after
     none_served asking no_read begun same_mid =
-        let same : v.first ≡ old.first = so.first ∙ ap (λ (s : Shared (Chain S KeepAll T)). s.first) same_mid in
-        let empty : v.chain.recorder ≡ [] = so.history ∙ ap (λ (s : Shared (Chain S KeepAll T)). s.chain.recorder) same_mid ∙ ap (λ (s : Shared (Chain S KeepAll T)). s.chain.recorder) begun.fresh ∙ begun.empty in
-        let whole : mid.broke ≡ None = ap (λ (s : Shared (Chain S KeepAll T)). s.broke) same_mid ∙ ap (λ (s : Shared (Chain S KeepAll T)). s.broke) begun.fresh in
-        let none_yet : mid.chain.events ≡ 0 = ap (λ (s : Shared (Chain S KeepAll T)). s.chain.events) same_mid ∙ ap (λ (s : Shared (Chain S KeepAll T)). s.chain.events) begun.fresh ∙ begun.none in
+        let same : v.first ≡ old.first = so.first ∙ ap (λ (s : Shared (Chain S Ledger T)). s.first) same_mid in
+        let empty : v.chain.recorder ≡ [] = so.history ∙ ap (λ (s : Shared (Chain S Ledger T)). s.chain.recorder) same_mid ∙ ap (λ (s : Shared (Chain S Ledger T)). s.chain.recorder) begun.fresh ∙ begun.empty in
+        let whole : mid.broke ≡ None = ap (λ (s : Shared (Chain S Ledger T)). s.broke) same_mid ∙ ap (λ (s : Shared (Chain S Ledger T)). s.broke) begun.fresh in
+        let none_yet : mid.chain.events ≡ 0 = ap (λ (s : Shared (Chain S Ledger T)). s.chain.events) same_mid ∙ ap (λ (s : Shared (Chain S Ledger T)). s.chain.events) begun.fresh ∙ begun.none in
         let small : v.chain.events < 2 ^ 63 = omega (arith, so.few, none_yet) in
         let w = broke_none so.broke whole in
-        let counted_first : EndsCounted (disk old.first.store) after v.fault end.closed = subst (λ (c : Chain S KeepAll T). EndsCounted (disk c.store) after v.fault end.closed) same counted in
+        let counted_first : EndsCounted (disk old.first.store) after v.fault end.closed = subst (λ (c : Chain S Ledger T). EndsCounted (disk c.store) after v.fault end.closed) same counted in
         record {
           broken = w.0;
           breach = v.broke;
@@ -350,11 +350,11 @@ module _ {S T : Type 0} (disk : S → Disk) where
           ends = all_empty _ (flat_map told_of) refl asking.count;
           under_way = has_merge v.chain.layers;
           leaves = subst (λ h. LeavesHistory (session_of disk old.first) h v.full v.broke (has_merge v.chain.layers) end.closed after) empty
-              (subst (λ (c : Chain S KeepAll T). LeavesHistory (session_of disk c) v.chain.recorder v.full v.broke (has_merge v.chain.layers) end.closed after) same leaves);
+              (subst (λ (c : Chain S Ledger T). LeavesHistory (session_of disk c) v.chain.recorder v.full v.broke (has_merge v.chain.layers) end.closed after) same leaves);
           finished = so.finished;
           kept = λ some. each_err (StopsEnd disk v) (λ x. OnOk end.closed (has_merge v.chain.layers ≡ true)) (kept_run small) merged so.stopped;
           stopped = each_err (StopsEnd disk v) (StopsMerge end) (stops_run small) merged so.stopped;
-          near = subst (λ (c : Chain S KeepAll T). IfErr merged (IsNearEnd disk c v.full)) same (each_err (StopsEnd disk v) (IsNearEnd disk v.first v.full) near_run merged so.stopped);
+          near = subst (λ (c : Chain S Ledger T). IfErr merged (IsNearEnd disk c v.full)) same (each_err (StopsEnd disk v) (IsNearEnd disk v.first v.full) near_run merged so.stopped);
         }
       where
         broke_none : (v.broke ≡ mid.broke) ⊎ ((merges ≡ true) × (mid.broke ≡ None) × (v.broke ≡ Some merge_breach)) → mid.broke ≡ None
@@ -375,23 +375,23 @@ module _ {S T : Type 0} (disk : S → Disk) where
 
   -- what is left, however far it came
 
-  pub shared_as : (merges : Bool) (n : ℕ) (old mid : Shared (Chain S KeepAll T)) (names : List (List ℕ)) (lines : List Line) (told : List (List ToldCall)) (short : Bool) (unread : ℕ) (tally : Tally) → (merges ≡ false → n ≡ 0) → (n ≡ 0 → IsShared disk false old names lines mid told short unread tally)
+  pub shared_as : (merges : Bool) (n : ℕ) (old mid : Shared (Chain S Ledger T)) (names : List (List ℕ)) (lines : List Line) (told : List (List ToldCall)) (short : Bool) (unread : ℕ) (tally : Tally) → (merges ≡ false → n ≡ 0) → (n ≡ 0 → IsShared disk false old names lines mid told short unread tally)
       → IsShared disk true old names lines mid told short unread tally → IsShared disk merges old names lines mid told short unread tally
   shared_as false n old mid names lines told short unread tally alone plain beside = plain (alone refl)
   shared_as true n old mid names lines told short unread tally alone plain beside = beside
 
-  pub few_told : (merges : Bool) (old mid : Shared (Chain S KeepAll T)) (names : List (List ℕ)) (lines : List Line) (told : List (List ToldCall)) (short : Bool) (unread : ℕ) (tally : Tally) → IsShared disk merges old names lines mid told short unread tally → length told ≤ 64
+  pub few_told : (merges : Bool) (old mid : Shared (Chain S Ledger T)) (names : List (List ℕ)) (lines : List Line) (told : List (List ToldCall)) (short : Bool) (unread : ℕ) (tally : Tally) → IsShared disk merges old names lines mid told short unread tally → length told ≤ 64
   few_told merges old mid names lines told short unread tally (IsShared.was_shared guests s words adds) = few_guests (length told) (greatest_from 0 lines) (words.count ∙ s.count)
   few_told merges old mid names lines told short unread tally (IsShared.no_memory same short_is none no_read no_call) = omega (arith, ap length none)
 
-  pub called : (merges : Bool) (old mid v : Shared (Chain S KeepAll T)) (merged : Result (Unit {0}) ChainRefusal) → EndsAs disk merges mid v merged → (names : List (List ℕ)) (lines : List Line) (told : List (List ToldCall)) (short : Bool) (unread : ℕ) (tally : Tally) → IsShared disk merges old names lines mid told short unread tally
+  pub called : (merges : Bool) (old mid v : Shared (Chain S Ledger T)) (merged : Result (Unit {0}) ChainRefusal) → EndsAs disk merges mid v merged → (names : List (List ℕ)) (lines : List Line) (told : List (List ToldCall)) (short : Bool) (unread : ℕ) (tally : Tally) → IsShared disk merges old names lines mid told short unread tally
       → short ≡ false → All (IsTold told) v.chain.recorder
   called merges old mid v merged e names lines told short unread tally (IsShared.was_shared guests s words adds) =
       let so = ended_so merges mid v merged e in
       all_called disk old.first merges s.lock names lines s.seat told short guests s.joined words v mid.broke (ap (λ k. steps_of k mid.broke) so.history ∙ s.history) (contains_through (basis_of disk v) (basis_of disk mid) s.seat.basis so.basis s.basis) s.places s.refusals (omega (arith, so.few, s.few))
   called merges old mid v merged e names lines told short unread tally (IsShared.no_memory same short_is none no_read no_call) = λ memory. absurd (false_true (sym memory ∙ short_is))
 
-  pub served_so : (merges : Bool) (old mid v : Shared (Chain S KeepAll T)) (merged : Result (Unit {0}) ChainRefusal) → EndsAs disk merges mid v merged → (run : ScriptRun) (after : Disk) → IsEnded (session_of disk v.chain) after run.closed → run.fault ≡ v.fault
+  pub served_so : (merges : Bool) (old mid v : Shared (Chain S Ledger T)) (merged : Result (Unit {0}) ChainRefusal) → EndsAs disk merges mid v merged → (run : ScriptRun) (after : Disk) → IsEnded (session_of disk v.chain) after run.closed → run.fault ≡ v.fault
       → EndsCounted (disk v.first.store) after v.fault run.closed → IfSome v.broke (λ b. IsErr run.closed) → LeavesHistory (session_of disk v.first) v.chain.recorder v.full v.broke (has_merge v.chain.layers) run.closed after
       → HasBegun disk old → (names : List (List ℕ)) (lines : List Line) (told : List (List ToldCall)) (short : Bool) (unread : ℕ) (tally : Tally) → IsShared disk merges old names lines mid told short unread tally
       → IfOk run.transcript (λ text. (short ≡ false) × (string_bytes text ≡ serve_text v.chain.recorder told)) → HasServedScript disk merges old.first names lines (record { run = run; unread = unread; tally = tally; merged = merged }) after
@@ -413,7 +413,7 @@ module _ {S T : Type 0} (disk : S → Disk) where
       no_text P (Err x) h = tt
 
   -- memory ran out before the chain could be shared, and its session was ended
-  pub unserved_is : (merges : Bool) (first : Chain S KeepAll T) (asking : Asking) (end : Ending) (merged : Result (Unit {0}) ChainRefusal) (after : Disk) → end.short ≡ true → end.unread ≡ 0 → merged ≡ Err NoMemory → (merges ≡ true → has_merge first.layers ≡ true)
+  pub unserved_is : (merges : Bool) (first : Chain S Ledger T) (asking : Asking) (end : Ending) (merged : Result (Unit {0}) ChainRefusal) (after : Disk) → end.short ≡ true → end.unread ≡ 0 → merged ≡ Err NoMemory → (merges ≡ true → has_merge first.layers ≡ true)
       → EndsCounted (disk first.store) after end.fault end.closed → LeavesHistory (session_of disk first) [] None None (has_merge first.layers) end.closed after → HasServed disk merges first asking (replicate asking.count []) [] end merged after
   unserved_is merges first asking end merged after short no_read no_merge has counted leaves = record {
     broken = None;

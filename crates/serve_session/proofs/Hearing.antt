@@ -11,7 +11,7 @@ use Rattle.guest_model.specs.declared.call.Call.TheVariants as asks
 use Rattle.guest_model.specs.declared.call.Caller.{Caller}
 use Rattle.guest_model.specs.declared.call.Reply.{Reply}
 use Rattle.guest_model.specs.declared.call.Reply.TheVariants as replies
-use Rattle.guest_model.specs.declared.recorder.KeepAll.{KeepAll}
+use Rattle.ledger.specs.declared.ledger.Ledger.{Ledger}
 use Rattle.guest_model.specs.declared.refusal.ChainRefusal.{ChainRefusal}
 use Rattle.guest_model.specs.declared.refusal.ChainRefusal.TheVariants.{Abandoned, Broken, EmptyRange, FileFull, NoMerge, NoPiece, NoRoom, NoStripe, NotYet, OutOfRange, ReadFault, ReadOnly, Spent, Stale, TooLong}
 use Rattle.guest_model.specs.Calls.{is_named}
@@ -78,7 +78,7 @@ pub owns_still : (seen more : List Step) (p guest : ℕ) (calls : List Call) (ou
 owns_still seen more p guest calls outcomes starts (inl h) = inl h
 owns_still seen more p guest calls outcomes starts (inr b) = inr (record { before = b.before; breach = b.breach; begins = starts-through more seen _ starts b.begins; place_is = b.place_is; breaker = b.breaker })
 
-module _ {S T : Type 0} (disk : S → Disk) (first : Chain S KeepAll T) where
+module _ {S T : Type 0} (disk : S → Disk) (first : Chain S Ledger T) where
   -- of the session that began with the chain is also what contains a basis of it
   pub from_through : (more basis : Basis S T) → Contains more basis → IsFrom disk first basis → IsFrom disk first more
   from_through more basis c h = record { began = c.first ∙ h.began; notes = λ n k. c.notes n (h.notes n k) }
@@ -264,9 +264,9 @@ module _ {S T : Type 0} (disk : S → Disk) (first : Chain S KeepAll T) where
               before = d.before;
               begins = starts;
               place_is = d.place_is;
-              placed = subst (λ o. IfSome o (λ (chain : Chain S KeepAll T). misplaced call chain.layers ≡ None)) knows_now.began d.placed;
+              placed = subst (λ o. IfSome o (λ (chain : Chain S Ledger T). misplaced call chain.layers ≡ None)) knows_now.began d.placed;
               replies = replies (RepliesBehind disk first d.before call) read
-                  (subst (λ o. IfSome (reply_if shown read) (λ r. IfSome o (λ (chain : Chain S KeepAll T). RepliesBehind disk chain d.before call r))) knows_now.began d.replies);
+                  (subst (λ o. IfSome (reply_if shown read) (λ r. IfSome o (λ (chain : Chain S Ledger T). RepliesBehind disk chain d.before call r))) knows_now.began d.replies);
               unread = unread_by read missed;
             }
 
@@ -310,8 +310,8 @@ module _ {S T : Type 0} (disk : S → Disk) (first : Chain S KeepAll T) where
         stays : (x : ChainRefusal) → IsHeardOf disk first new call x → new.mine ≡ old.mine → HasHeard disk first guest (calls ++ call ∷ []) new (outcomes ++ Err x ∷ [])
         stays x heard same = refused x heard (λ p own. inl (subst (λ ms. 0 < times p ms) same own))
 
-        at_place : (x : Option ChainRefusal) (made : Call) → IfSome new.basis.first (λ (chain : Chain S KeepAll T). misplaced made chain.layers ≡ x) → misplaced made first.layers ≡ x
-        at_place x made h = subst (λ o. IfSome o (λ (chain : Chain S KeepAll T). misplaced made chain.layers ≡ x)) knows_now.began h
+        at_place : (x : Option ChainRefusal) (made : Call) → IfSome new.basis.first (λ (chain : Chain S Ledger T). misplaced made chain.layers ≡ x) → misplaced made first.layers ≡ x
+        at_place x made h = subst (λ o. IfSome o (λ (chain : Chain S Ledger T). misplaced made chain.layers ≡ x)) knows_now.began h
 
         -- what is kept of it
         abbrev kept_outcomes : Reply → Result Placed ChainRefusal → List Outcome
@@ -339,7 +339,7 @@ module _ {S T : Type 0} (disk : S → Disk) (first : Chain S KeepAll T) where
         by_call shown (Err (Broken file count)) a missed = broken call own_opens file count a.1 a.0
         by_call shown (Err (Spent t)) a missed = stays (Spent t) a.1 a.0
         by_call shown (Err (FileFull next)) a missed =
-            stays (FileFull next) (at_place None call a.1.0, a.1.1, subst (λ o. IfSome o (λ (chain : Chain S KeepAll T). StopsOver disk chain call (FileFull next))) knows_now.began a.1.2) a.0
+            stays (FileFull next) (at_place None call a.1.0, a.1.1, subst (λ o. IfSome o (λ (chain : Chain S Ledger T). StopsOver disk chain call (FileFull next))) knows_now.began a.1.2) a.0
         by_call shown (Err (ReadFault file count)) a missed =
             stays (ReadFault file count) (at_place None call a.1.0, a.1.1, λ was. a.1.2 (hears.knows.notes (notes.ReadFailed file count) was)) a.0
         by_call shown (Err NoMerge) a missed = absurd a.1

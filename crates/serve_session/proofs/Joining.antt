@@ -5,7 +5,7 @@ use Rattle.std.proofs.lemmas.Bool.{cases_eq, or_parts}
 use Rattle.std.proofs.lemmas.List.Elements.{All-cons}
 use Rattle.store_model.specs.Disk.{Disk, Sealed}
 use Rattle.shared_chain.specs.Planned.{IsReaderFor}
-use Rattle.guest_model.specs.declared.recorder.KeepAll.{KeepAll}
+use Rattle.ledger.specs.declared.ledger.Ledger.{Ledger}
 use Rattle.chain_core.specs.declared.chain.Chain.{Chain}
 use Rattle.script.specs.declared.form.Line.{Line}
 use Rattle.script.specs.declared.told.ToldCall.{ToldCall}
@@ -106,14 +106,14 @@ module _ {S T : Type 0} where
   fresh_snoc Set seat n [] actor h last = (subst (λ k. IsFresh Set seat k actor) {x = n - 0} (omega arith) last, tt)
   fresh_snoc Set seat n (a ∷ actors) actor h last = (h.0, fresh_snoc Set seat (n - 1) actors actor h.1 (subst (λ k. IsFresh Set seat k actor) {x = n - length (a ∷ actors)} {y = n - 1 - length actors} (omega arith) last))
 
-  pub fresh_ready : (disk : S → Disk) (first : Chain S KeepAll T) (seat : Known Step (Basis S T)) (lock : TableId) (n : ℕ) (actors : List (Actor S T)) → seat.lock ≡ lock → seat.basis.first ≡ Some first → AreFresh (IsSetFor disk first) seat n actors
+  pub fresh_ready : (disk : S → Disk) (first : Chain S Ledger T) (seat : Known Step (Basis S T)) (lock : TableId) (n : ℕ) (actors : List (Actor S T)) → seat.lock ≡ lock → seat.basis.first ≡ Some first → AreFresh (IsSetFor disk first) seat n actors
       → All (IsReady disk lock) actors
   fresh_ready disk first seat lock n [] of_lock began h = λ i x within. absurd (omega (arith, within))
   fresh_ready disk first seat lock n (a ∷ actors) of_lock began h =
       All-cons (IsReady disk lock) a actors (
         (ap (λ (s : Known Step (Basis S T)). s.lock) h.0.seat ∙ of_lock, ap (λ (s : Known Step (Basis S T)). s.turn) h.0.seat),
         h.0.room,
-        subst (λ o. IfSome o (λ (chain : Chain S KeepAll T). All (IsReaderFor disk chain) a.guest.readers)) (sym (ap (λ (s : Known Step (Basis S T)). s.basis.first) h.0.seat ∙ began)) h.0.set.own,
+        subst (λ o. IfSome o (λ (chain : Chain S Ledger T). All (IsReaderFor disk chain) a.guest.readers)) (sym (ap (λ (s : Known Step (Basis S T)). s.basis.first) h.0.seat ∙ began)) h.0.set.own,
       ) (fresh_ready disk first seat lock (n - 1) actors of_lock began h.1)
 
   -- workers that have made no turn may take turns
@@ -147,7 +147,7 @@ module _ {S T : Type 0} where
       go p a none (inr q) = q
 
   -- a guest that has made no call was told nothing
-  pub none_heard : (disk : S → Disk) (first : Chain S KeepAll T) (guest : ℕ) (seat : Known Step (Basis S T)) → IsFrom disk first seat.basis → seat.mine ≡ [] → seat.drawn ≡ 0 → HasHeard disk first guest [] seat []
+  pub none_heard : (disk : S → Disk) (first : Chain S Ledger T) (guest : ℕ) (seat : Known Step (Basis S T)) → IsFrom disk first seat.basis → seat.mine ≡ [] → seat.drawn ≡ 0 → HasHeard disk first guest [] seat []
   none_heard disk first guest seat knows mine drawn = record {
     knows = knows;
     heard = tt;
@@ -157,7 +157,7 @@ module _ {S T : Type 0} where
     drawn = omega (arith, drawn);
   }
 
-  module _ (disk : S → Disk) (first : Chain S KeepAll T) (lock : TableId) (names : List (List ℕ)) (lines : List Line) where
+  module _ (disk : S → Disk) (first : Chain S Ledger T) (lock : TableId) (names : List (List ℕ)) (lines : List Line) where
     fresh_actor : (seat : Known Step (Basis S T)) (n : ℕ) (a : Actor S T) → seat.lock ≡ lock → IsFrom disk first seat.basis → first.layers.geometry.sector ≡ 512 → IsFresh (IsSetFor disk first) seat n a → IsActor disk first lock names [] a
     fresh_actor seat n a of_lock knows sector h = record {
       free = (ap (λ (s : Known Step (Basis S T)). s.lock) h.seat ∙ of_lock, ap (λ (s : Known Step (Basis S T)). s.turn) h.seat);
@@ -226,7 +226,7 @@ none_kept names lines told none = record { count = ap length none; kept = λ sho
 
 -- ---- joining
 
-module _ {S T : Type 0} (disk : S → Disk) (first : Chain S KeepAll T) (lock : TableId) (asking : Asking) where
+module _ {S T : Type 0} (disk : S → Disk) (first : Chain S Ledger T) (lock : TableId) (asking : Asking) where
   -- no seat was joined yet
   pub none_joined : (seat : Known Step (Basis S T)) → IsFree lock seat → seat.family.is_first ≡ true → IsFrom disk first seat.basis → seat.mine ≡ [] → AreJoined disk first false lock asking seat []
   none_joined seat free leads knows mine = record {

@@ -10,7 +10,7 @@ use Rattle.store_model.specs.declared.fault.StoreFault.{StoreFault}
 use Rattle.store_model.proofs.Told.{counts_join}
 use Rattle.vx_base.specs.declared.parts.Geometry.{Geometry}
 use Rattle.guest_model.specs.History.{History, is_dirty}
-use Rattle.guest_model.specs.declared.recorder.KeepAll.{KeepAll}
+use Rattle.ledger.specs.declared.ledger.Ledger.{Ledger}
 use Rattle.guest_model.specs.declared.refusal.ChainRefusal.{ChainRefusal}
 use Rattle.guest_model.specs.declared.refusal.ChainRefusal.TheVariants.{Abandoned, Broken, EmptyRange, FileFull, NoMerge, NoPiece, NoRoom, NoStripe, NotYet, OutOfRange, ReadFault, ReadOnly, Spent, Stale, TooLong}
 use Rattle.chain_model.specs.Moments.{EachOpensToPrefix}
@@ -60,15 +60,15 @@ stays_by P Q (Ok done) closed p f = tt
 stays_by P Q (Err x) (Ok done) p f = f p
 stays_by P Q (Err x) (Err fault) p f = tt
 
-module _ {S T : Type 0} (disk : S → Disk) (chain : Chain S KeepAll T) (asking : Asking) (guests : List (List Outcome)) (history : History) (end : Ending) (merged : Result (Unit {0}) ChainRefusal) (after : Disk) (sealed : ServesSealed disk true chain asking guests history end merged after) (sector : chain.layers.geometry.sector ≡ 512) where
-  abbrev first : Chain S KeepAll T
+module _ {S T : Type 0} (disk : S → Disk) (chain : Chain S Ledger T) (asking : Asking) (guests : List (List Outcome)) (history : History) (end : Ending) (merged : Result (Unit {0}) ChainRefusal) (after : Disk) (sealed : ServesSealed disk true chain asking guests history end merged after) (sector : chain.layers.geometry.sector ≡ 512) where
+  abbrev first : Chain S Ledger T
   first = sealed.first
 
   abbrev h : HasServed disk true first asking guests history end merged after
   h = sealed.served
 
   same_layers : first.layers ≡ chain.layers
-  same_layers = ap (λ (c : Chain S KeepAll T). c.layers) sealed.sealing.only
+  same_layers = ap (λ (c : Chain S Ledger T). c.layers) sealed.sealing.only
 
   module _ (scope : Scope) (geometry : first.layers.geometry ≡ scope.geometry) (session : is_some first.layers.leaf ≡ true) (v : State) (trace mid : Trace) (is : IsScope IsKept scope v trace mid) (mid_is : (disk first.store).told ≡ Some mid) (serving : IsServing first.layers v mid) where
     size : sector_of v ≡ sector_size
@@ -216,7 +216,7 @@ module _ {S T : Type 0} (disk : S → Disk) (chain : Chain S KeepAll T) (asking 
     }
 
 -- and of a script
-module _ {S T : Type 0} (disk : S → Disk) (chain : Chain S KeepAll T) (names : List (List ℕ)) (lines : List Line) (run : MergeRun) (after : Disk) (s : ServesScript disk true chain names lines run after) (sector : chain.layers.geometry.sector ≡ 512) where
+module _ {S T : Type 0} (disk : S → Disk) (chain : Chain S Ledger T) (names : List (List ℕ)) (lines : List Line) (run : MergeRun) (after : Disk) (s : ServesScript disk true chain names lines run after) (sector : chain.layers.geometry.sector ≡ 512) where
   pub merge_ran : (files : List LinkedFile) (name : List ℕ) (old : Disk) (drawn now_drawn : Option (List (List ℕ))) → CanStart files old → HasStartedMerge files name old (disk chain.store) drawn now_drawn chain.layers → HasRunServeMerge files name names lines run old after drawn now_drawn
   merge_ran files name old drawn now_drawn can begun = record {
     guests = s.guests;
@@ -234,7 +234,7 @@ module _ {S T : Type 0} (disk : S → Disk) (chain : Chain S KeepAll T) (names :
   }
 
 -- a session that has started with a merge serves its first state
-pub merge_first : {S T : Type 0} (disk : S → Disk) (chain : Chain S KeepAll T) (m : MergeFiles) (merge : Merge) (a : Option Trace) → StartsMerge m merge chain.layers a (disk chain.store).told → ServesFirst disk chain
+pub merge_first : {S T : Type 0} (disk : S → Disk) (chain : Chain S Ledger T) (m : MergeFiles) (merge : Merge) (a : Option Trace) → StartsMerge m merge chain.layers a (disk chain.store).told → ServesFirst disk chain
 merge_first disk chain m merge a st = go a (disk chain.store).told st
   where
     go : (a b : Option Trace) → StartsMerge m merge chain.layers a b → WhereTold b (λ trace. (from : State) × IsServing chain.layers from trace × (from.history ≡ []))
@@ -243,7 +243,7 @@ merge_first disk chain m merge a st = go a (disk chain.store).told st
     go (Some a) None st = absurd st
     go (Some a) (Some b) st = λ t e. subst (λ (w : Trace). (from : State) × IsServing chain.layers from w × (from.history ≡ [])) (some_same {x = b} {y = t} e) (started_merge a b m merge.ids merge.twice, st.serving, refl)
 
-pub leaf_merge_first : {S T : Type 0} (disk : S → Disk) (chain : Chain S KeepAll T) (m : LeafFiles) (merge : LeafMerge) (a : Option Trace) → StartsLeafMerge m merge chain.layers a (disk chain.store).told → ServesFirst disk chain
+pub leaf_merge_first : {S T : Type 0} (disk : S → Disk) (chain : Chain S Ledger T) (m : LeafFiles) (merge : LeafMerge) (a : Option Trace) → StartsLeafMerge m merge chain.layers a (disk chain.store).told → ServesFirst disk chain
 leaf_merge_first disk chain m merge a st = go a (disk chain.store).told st
   where
     go : (a b : Option Trace) → StartsLeafMerge m merge chain.layers a b → WhereTold b (λ trace. (from : State) × IsServing chain.layers from trace × (from.history ≡ []))

@@ -11,7 +11,7 @@ use Rattle.store_model.specs.Disk.{Disk, Sealed}
 use Rattle.store_model.specs.declared.fault.ReadFault.{ReadFault}
 use Rattle.store_model.specs.declared.fault.StoreFault.{StoreFault}
 use Rattle.guest_model.specs.declared.call.Reply.{Reply}
-use Rattle.guest_model.specs.declared.recorder.KeepAll.{KeepAll}
+use Rattle.ledger.specs.declared.ledger.Ledger.{Ledger}
 use Rattle.guest_model.specs.declared.refusal.ChainRefusal.{ChainRefusal}
 use Rattle.guest_model.specs.declared.refusal.ChainRefusal.TheVariants.{Abandoned, Broken, EmptyRange, FileFull, NoMerge, NoPiece, NoRoom, NoStripe, NotYet, OutOfRange, ReadFault as Unread, ReadOnly, Spent, Stale, TooLong}
 use Rattle.read_plan.specs.Reading.{ReaderFailed}
@@ -52,7 +52,7 @@ apart_at (n ∷ ns) (suc i) zero d e apart low high ne same = others ns i d apar
     others (m ∷ ns) (suc k) e h within same = others ns k e h.1 (omega (arith, within)) same
 apart_at (n ∷ ns) (suc i) (suc k) d e apart low high ne same = apart_at ns i k d e apart.1 (omega (arith, low)) (omega (arith, high)) (λ eq. ne (ap suc eq)) same
 
-module _ {S T : Type 0} (disk : S → Disk) (first : Chain S KeepAll T) where
+module _ {S T : Type 0} (disk : S → Disk) (first : Chain S Ledger T) where
   -- ---- a reader failed
 
   module _ (unread : List StoreFault) (readers new : List Sealed) (fault : ReadFault) (h : HasReaders disk first unread readers) (f : ReaderFailed readers new fault) where

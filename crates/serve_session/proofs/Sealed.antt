@@ -11,7 +11,7 @@ use Rattle.store_model.specs.declared.fault.SealFault.{SealFault}
 use Rattle.store_model.specs.declared.fault.SealFault.TheVariants.{NoRoom, Store}
 use Rattle.store_model.specs.declared.fault.StoreFault.{StoreFault}
 use Rattle.layer_session.proofs.Equal.{none_some, some_same}
-use Rattle.guest_model.specs.declared.recorder.KeepAll.{KeepAll}
+use Rattle.ledger.specs.declared.ledger.Ledger.{Ledger}
 use Rattle.read_plan.specs.Reading.{has_failed, is_among}
 use Rattle.chain_core.specs.declared.chain.Chain.{Chain}
 use Rattle.chain_core.specs.Sealed.{AreSynced, CanSeal, GoesOnSealed, StopsAt, StopsSealing, read_numbers, readers_of, sealed_in}
@@ -80,7 +80,7 @@ stopped numbers old new fault there s = go fault s.left (there_behind s.sealed (
 
 -- ---- what can be sealed
 
-pub synced_for : {S T : Type 0} (disk : S → Disk) (chain : Chain S KeepAll T) → is_some chain.layers.leaf ≡ true → ServesFirst disk chain → WhereTold (disk chain.store).told (AreSynced (read_numbers chain.layers.below.items))
+pub synced_for : {S T : Type 0} (disk : S → Disk) (chain : Chain S Ledger T) → is_some chain.layers.leaf ≡ true → ServesFirst disk chain → WhereTold (disk chain.store).told (AreSynced (read_numbers chain.layers.below.items))
 synced_for disk chain session serves trace told =
     let s = serves trace told in
     read_files_are_synced chain.layers s.0 trace s.1 (sessions_write_theirs chain.layers s.0 trace s.1 session)
@@ -90,7 +90,7 @@ there_of : (disk : Disk) (numbers : List ℕ) → AllByRecursion (CanSeal disk) 
 there_of disk [] h = tt
 there_of disk (n ∷ numbers) h = (h.0.there, there_of disk numbers h.1)
 
-pub read_there : {S T : Type 0} (disk : S → Disk) (chain : Chain S KeepAll T) → IsSound (session_of disk chain) → chain.broken ≡ None → WhereTold (disk chain.store).told (AreSynced (read_numbers chain.layers.below.items))
+pub read_there : {S T : Type 0} (disk : S → Disk) (chain : Chain S Ledger T) → IsSound (session_of disk chain) → chain.broken ≡ None → WhereTold (disk chain.store).told (AreSynced (read_numbers chain.layers.below.items))
     → AllByRecursion (λ n. n < (disk chain.store).files) (read_numbers chain.layers.below.items)
 read_there disk chain sound whole synced = there_of (disk chain.store) (read_numbers chain.layers.below.items) (can_seal chain.layers.geometry (disk chain.store) chain.layers.below.items (sound.ready whole).below synced)
 
@@ -105,12 +105,12 @@ read_apart [] apart = tt
 read_apart (Session l ∷ layers) apart = read_apart layers apart.1
 read_apart (Read l ∷ layers) apart = (others_apart l.tables.parts.file layers apart.0, read_apart layers apart.1)
 
-pub apart_in : {S T : Type 0} (disk : S → Disk) (chain : Chain S KeepAll T) → IsSound (session_of disk chain) → chain.broken ≡ None → AreApart (read_numbers chain.layers.below.items)
+pub apart_in : {S T : Type 0} (disk : S → Disk) (chain : Chain S Ledger T) → IsSound (session_of disk chain) → chain.broken ≡ None → AreApart (read_numbers chain.layers.below.items)
 apart_in disk chain sound whole = read_apart chain.layers.below.items (sound.ready whole).apart
 
 -- ---- what is left
 
-module _ {S T : Type 0} (disk : S → Disk) (old new : Chain S KeepAll T) (only : new ≡ record old { store = new.store }) (sound : IsSound (session_of disk new)) (goes : WhereBothTold (GoesOnSealed old.layers) (disk old.store).told (disk new.store).told) where
+module _ {S T : Type 0} (disk : S → Disk) (old new : Chain S Ledger T) (only : new ≡ record old { store = new.store }) (sound : IsSound (session_of disk new)) (goes : WhereBothTold (GoesOnSealed old.layers) (disk old.store).told (disk new.store).told) where
   sealing_with : (met : Option StoreFault) → LeavesStore (disk old.store) (disk new.store) met → IsSealing disk old new met
   sealing_with met s = record { only = only; sound = sound; goes = goes; files = s.files; changes = s.changes; quiet = s.quiet }
 
@@ -132,7 +132,7 @@ module _ {S T : Type 0} (disk : S → Disk) (old new : Chain S KeepAll T) (only 
 
   -- ---- readers
   layers_are : new.layers ≡ old.layers
-  layers_are = ap (λ (c : Chain S KeepAll T). c.layers) only
+  layers_are = ap (λ (c : Chain S Ledger T). c.layers) only
 
   serves_now : ServesFirst disk old → ServesFirst disk new
   serves_now serves = go (disk old.store).told refl (disk new.store).told goes

@@ -5,8 +5,8 @@ use denote.Param.Send.{IsSend, recorded_send, sendable, struct_send}
 use Rattle.std.proofs.Crossing.{crosses}
 use Rattle.store_model.specs.declared.store.Reader as reader
 use Rattle.store_model.specs.declared.store.Store as store
-use Rattle.guest_model.specs.contracts.recorder.KeepAll as keep_type
-use Rattle.guest_model.proofs.recorder.KeepAll.TheSendSync as keep
+use Rattle.ledger.specs.contracts.ledger.Ledger as ledger_type
+use Rattle.ledger.proofs.Sending.{ledger_send}
 use Rattle.chain_core.proofs.chain.Chain.TheSendSync as chain
 use Rattle.turn_lock.proofs.seat.Seat.TheSendSync.{the_send as seat_send}
 use Rattle.shared_chain.specs.contracts.shared.SharedChain as shared
@@ -23,8 +23,8 @@ use Rattle.serve_session.proofs.tally.Tally.TheSendSync as tally
 
 pub shared_send : (S R : RattleType) (d : store.Ghosts S.Denot R.Denot) (r : reader.Ghosts R.Denot) → IsSend S → IsSend (shared.the_row S R d r)
 shared_send S R d r s =
-    let c = chain.the_send S keep_type.the_row R s keep.the_send in
-    let f = chain.the_field_send S keep_type.the_row R s keep.the_send in
+    let c = chain.the_send S ledger_type.the_row R s ledger_send in
+    let f = chain.the_field_send S ledger_type.the_row R s ledger_send in
     search (sendable, crosses, breach_send) depth 30 fits 20000
 
 guest_send : (S R : RattleType) (d : store.Ghosts S.Denot R.Denot) (r : reader.Ghosts R.Denot) → IsSend S → IsSend R → IsSend (guest.the_field S R d r).row

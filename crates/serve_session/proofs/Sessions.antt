@@ -12,7 +12,7 @@ use Rattle.store_model.proofs.Told.{counts_join}
 use Rattle.vx_base.specs.declared.parts.Geometry.{Geometry}
 use Rattle.guest_model.specs.Calls.{Disk as GuestDisk}
 use Rattle.guest_model.specs.History.{History, is_dirty, replay}
-use Rattle.guest_model.specs.declared.recorder.KeepAll.{KeepAll}
+use Rattle.ledger.specs.declared.ledger.Ledger.{Ledger}
 use Rattle.guest_model.specs.declared.refusal.ChainRefusal.{ChainRefusal}
 use Rattle.chain_model.specs.Members.{Way}
 use Rattle.chain_model.specs.Moments.{EachOpens, EachOpensToPrefix}
@@ -72,9 +72,9 @@ counts_change after (Err f) c = record { within = c.0; some = c.1; counted = inr
 -- ---- once what the session only reads was sealed
 
 -- of the counts of a store, from its beginning on
-module _ {S T : Type 0} (disk : S → Disk) (chain first : Chain S KeepAll T) (met : Option StoreFault) (sealing : IsSealing disk chain first met) (old : Disk) (begun : disk chain.store ≡ record old { told = (disk chain.store).told }) where
+module _ {S T : Type 0} (disk : S → Disk) (chain first : Chain S Ledger T) (met : Option StoreFault) (sealing : IsSealing disk chain first met) (old : Disk) (begun : disk chain.store ≡ record old { told = (disk chain.store).told }) where
   pub layers_are : first.layers ≡ chain.layers
-  layers_are = ap (λ (c : Chain S KeepAll T). c.layers) sealing.only
+  layers_are = ap (λ (c : Chain S Ledger T). c.layers) sealing.only
 
   pub files_are : (disk first.store).files ≡ old.files
   files_are = sealing.files ∙ ap (λ (d : Disk). d.files) begun
@@ -85,9 +85,9 @@ module _ {S T : Type 0} (disk : S → Disk) (chain first : Chain S KeepAll T) (m
   pub quiet_since : met ≡ None → disk first.store ≡ record old { told = (disk first.store).told }
   quiet_since none = counts_join old (disk chain.store) (disk first.store) begun (sealing.quiet none)
 
-module _ {S T : Type 0} (disk : S → Disk) (chain : Chain S KeepAll T) (asking : Asking) (guests : List (List Outcome)) (history : History) (end : Ending) (merged : Result (Unit {0}) ChainRefusal) (after : Disk) (sealed : ServesSealed disk false chain asking guests history end merged after) (sector : chain.layers.geometry.sector ≡ 512)
+module _ {S T : Type 0} (disk : S → Disk) (chain : Chain S Ledger T) (asking : Asking) (guests : List (List Outcome)) (history : History) (end : Ending) (merged : Result (Unit {0}) ChainRefusal) (after : Disk) (sealed : ServesSealed disk false chain asking guests history end merged after) (sector : chain.layers.geometry.sector ≡ 512)
     (leaf : LinkedFile) (others : List LinkedFile) (old : Disk) (drawn now_drawn : Option (List (List ℕ))) (begun : HasStarted Guests (leaf ∷ others) chain.layers old (disk chain.store) drawn now_drawn) (geometry : chain.layers.geometry ≡ leaf.parts.geometry) where
-  abbrev first : Chain S KeepAll T
+  abbrev first : Chain S Ledger T
   first = sealed.first
 
   abbrev h : HasServed disk false first asking guests history end merged after
@@ -183,13 +183,13 @@ module _ {S T : Type 0} (disk : S → Disk) (chain : Chain S KeepAll T) (asking 
   }
 
 -- of a session without a merge
-pub guests_ran : {S T : Type 0} (disk : S → Disk) (chain : Chain S KeepAll T) (files : List LinkedFile) (asking : Asking) (guests : List (List Outcome)) (history : History) (end : Ending) (merged : Result (Unit {0}) ChainRefusal) (old after : Disk) (drawn now : Option (List (List ℕ)))
+pub guests_ran : {S T : Type 0} (disk : S → Disk) (chain : Chain S Ledger T) (files : List LinkedFile) (asking : Asking) (guests : List (List Outcome)) (history : History) (end : Ending) (merged : Result (Unit {0}) ChainRefusal) (old after : Disk) (drawn now : Option (List (List ℕ)))
     → ServesSealed disk false chain asking guests history end merged after → HasStarted Guests files chain.layers old (disk chain.store) drawn now → CanStart files old → chain.layers.geometry.sector ≡ 512 → IsOfDisk files chain.layers.geometry → HasRunGuests files asking guests history end old after drawn now
 guests_ran disk chain [] asking guests history end merged old after drawn now sealed begun can sector geometry = absurd can.line
 guests_ran disk chain (leaf ∷ others) asking guests history end merged old after drawn now sealed begun can sector geometry = has_run disk chain asking guests history end merged after sealed sector leaf others old drawn now begun geometry
 
 -- and of a script
-pub serve_ran : {S T : Type 0} (disk : S → Disk) (chain : Chain S KeepAll T) (files : List LinkedFile) (names : List (List ℕ)) (lines : List Line) (run : MergeRun) (old after : Disk) (drawn now : Option (List (List ℕ))) → ServesScript disk false chain names lines run after
+pub serve_ran : {S T : Type 0} (disk : S → Disk) (chain : Chain S Ledger T) (files : List LinkedFile) (names : List (List ℕ)) (lines : List Line) (run : MergeRun) (old after : Disk) (drawn now : Option (List (List ℕ))) → ServesScript disk false chain names lines run after
     → HasStarted Guests files chain.layers old (disk chain.store) drawn now → CanStart files old → chain.layers.geometry.sector ≡ 512 → IsOfDisk files chain.layers.geometry → HasRunServe files names lines (record { run = run.run; unread = run.unread; tally = run.tally }) old after drawn now
 serve_ran disk chain files names lines run old after drawn now s begun can sector geometry = record {
   guests = s.guests;
@@ -199,7 +199,7 @@ serve_ran disk chain files names lines run old after drawn now s begun can secto
 }
 
 -- the session that has started serves its first state
-pub serves_first : {S T : Type 0} (disk : S → Disk) (chain : Chain S KeepAll T) (files : List LinkedFile) (old : Disk) (drawn now : Option (List (List ℕ))) → CanStart files old → HasStarted Guests files chain.layers old (disk chain.store) drawn now → ServesFirst disk chain
+pub serves_first : {S T : Type 0} (disk : S → Disk) (chain : Chain S Ledger T) (files : List LinkedFile) (old : Disk) (drawn now : Option (List (List ℕ))) → CanStart files old → HasStarted Guests files chain.layers old (disk chain.store) drawn now → ServesFirst disk chain
 serves_first disk chain [] old drawn now can begun = absurd can.line
 serves_first disk chain (leaf ∷ others) old drawn now can begun = go old.told (disk chain.store).told begun.1.serving
   where

@@ -7,7 +7,7 @@ use Rattle.store_model.specs.Disk.{Disk, Sealed}
 use Rattle.store_model.specs.declared.fault.StoreFault.{StoreFault}
 use Rattle.guest_model.specs.declared.call.Caller.{Caller}
 use Rattle.guest_model.specs.declared.call.Reply.{Reply}
-use Rattle.guest_model.specs.declared.recorder.KeepAll.{KeepAll}
+use Rattle.ledger.specs.declared.ledger.Ledger.{Ledger}
 use Rattle.guest_model.specs.declared.refusal.ChainRefusal.{ChainRefusal}
 use Rattle.guest_model.specs.declared.refusal.ChainRefusal.TheVariants.{Abandoned, Broken, EmptyRange, FileFull, NoMerge, NoPiece, NoRoom, NoStripe, NotYet, OutOfRange, ReadFault, ReadOnly, Spent, Stale, TooLong}
 use Rattle.guest_model.specs.Counts.{one_more}
@@ -86,7 +86,7 @@ module _ {S T : Type 0} where
   pub asked_free : (disk : S → Disk) (who : Caller) (form : Form) (room : List ℕ) (lock : TableId) (old new : Known Step (Basis S T)) (answer : Result Placed ChainRefusal) → IsAsked disk who form room old new answer → IsFree lock old → IsFree lock new
   asked_free disk who form room lock old new answer asked free = let k = asked_seat disk who form room old new answer asked in (k.lock ∙ free.0, k.free)
 
-  module _ (disk : S → Disk) (first : Chain S KeepAll T) (lock : TableId) (names : List (List ℕ)) (forms : List Form) (form : Form) (old : Actor S T) (is : IsActor disk first lock names forms old) where
+  module _ (disk : S → Disk) (first : Chain S Ledger T) (lock : TableId) (names : List (List ℕ)) (forms : List Form) (form : Form) (old : Actor S T) (is : IsActor disk first lock names forms old) where
     more_heard : (fs : List Form) → HasHeard disk first old.number (map call_of (forms ++ fs)) old.guest.seat is.outcomes
     more_heard fs =
         subst (λ cs. HasHeard disk first old.number cs old.guest.seat is.outcomes) (sym (calls_append forms fs))

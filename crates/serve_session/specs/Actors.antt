@@ -4,7 +4,7 @@ use Rattle.std.specs.Prelude.{◌≡◌, ◌⊎◌, ◌+◌, ◌-◌, ◌^◌, �
 use Rattle.store_model.specs.Disk.{Disk, Sealed}
 use Rattle.store_model.specs.declared.fault.StoreFault.{StoreFault}
 use Rattle.guest_model.specs.declared.call.Call.{Call}
-use Rattle.guest_model.specs.declared.recorder.KeepAll.{KeepAll}
+use Rattle.ledger.specs.declared.ledger.Ledger.{Ledger}
 use Rattle.guest_model.specs.declared.call.Reply.{Reply}
 use Rattle.guest_model.specs.declared.refusal.ChainRefusal.{ChainRefusal}
 use Rattle.guest_model.specs.declared.refusal.ChainRefusal.TheVariants as refusals
@@ -50,7 +50,7 @@ HasBreacher b guest number (call ∷ calls) (o ∷ outcomes) = HasBreach guest n
 
 -- ---- what a seat has heard
 
-module _ {S T : Type 0} (disk : S → Disk) (first : Chain S KeepAll T) where
+module _ {S T : Type 0} (disk : S → Disk) (first : Chain S Ledger T) where
   -- what is noted of a chain whose session has just begun
   abbrev pub first_notes : List Note
   first_notes = notes_in (disk first.store) None None
@@ -120,7 +120,7 @@ IsOwned true seen p asking guests = SomeGuest (λ guest outcomes. OwnsAt seen p 
 abbrev pub called_form : Form → List Form
 called_form form = if is_call form then form ∷ [] else []
 
-module _ {S T : Type 0} (disk : S → Disk) (first : Chain S KeepAll T) where
+module _ {S T : Type 0} (disk : S → Disk) (first : Chain S Ledger T) where
   -- What a guest with this seat was told of its calls, and nothing else is its own. It drew a ticket for each of them at most.
   pub record HasHeard (guest : ℕ) (calls : List Call) (seat : Known Step (Basis S T)) (outcomes : List Outcome) : Type 0 where
     pub knows : IsFrom disk first seat.basis

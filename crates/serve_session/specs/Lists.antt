@@ -2,7 +2,7 @@
 use Rattle.std.specs.Prelude.{◌≡◌, ◌⊎◌, ◌+◌, ◌-◌, ◌*◌, ◌^◌, ◌<◌, ◌≤◌, ⊤, ℕ, Bool, false, List, [], ◌∷◌, length, slice_index_or}
 use Rattle.store_model.specs.Disk.{Disk, Sealed}
 use Rattle.guest_io.specs.Guests.{HaveReaders}
-use Rattle.guest_model.specs.declared.recorder.KeepAll.{KeepAll}
+use Rattle.ledger.specs.declared.ledger.Ledger.{Ledger}
 use Rattle.chain_core.specs.declared.chain.Chain.{Chain}
 use Rattle.script.specs.declared.form.Line.{Line}
 use Rattle.script.specs.declared.told.ToldCall.{ToldCall}
@@ -57,7 +57,7 @@ module _ {S T : Type 0} where
 
   -- it has made its calls of the lines, if it had made none
   abbrev pub RunsTo : (S → Disk) → TableId → List (List ℕ) → List Line → Actor S T → Actor S T → Type 0
-  RunsTo disk lock names lines old new = (new.number ≡ old.number) × ((first : Chain S KeepAll T) → IsActor disk first lock names [] old → HasRun disk first lock names lines new)
+  RunsTo disk lock names lines old new = (new.number ≡ old.number) × ((first : Chain S Ledger T) → IsActor disk first lock names [] old → HasRun disk first lock names lines new)
 
   pub record RunsEach (disk : S → Disk) (lock : TableId) (names : List (List ℕ)) (lines : List Line) (old new : List (Actor S T)) : Type 0 where
     pub count : length new ≡ length old
@@ -104,7 +104,7 @@ module _ {S T : Type 0} where
 
   -- the seats of so many guests of a script were joined, each of which drew a ticket for each of its calls at most; so many of their reads failed
   -- by a reader, and this is what their calls came to
-  pub record HasJoined (disk : S → Disk) (merges : Bool) (first : Chain S KeepAll T) (lock : TableId) (names : List (List ℕ)) (lines : List Line) (count : ℕ) (old new : Known Step (Basis S T)) (told : List (List ToldCall)) (short : Bool) (unread : ℕ) (tally : Tally) : Type 0 where
+  pub record HasJoined (disk : S → Disk) (merges : Bool) (first : Chain S Ledger T) (lock : TableId) (names : List (List ℕ)) (lines : List Line) (count : ℕ) (old new : Known Step (Basis S T)) (told : List (List ToldCall)) (short : Bool) (unread : ℕ) (tally : Tally) : Type 0 where
     pub guests : List (List Outcome)
     pub joined : AreJoined disk first merges lock (asked_by lines) new guests
     pub words : AreKept names lines told short guests

@@ -3,7 +3,7 @@ use Rattle.std.specs.Prelude.{◌≡◌, ℕ, Bool, List, [], Option, None, Resu
 use Rattle.store_model.specs.Disk.{Disk, Sealed, WhereBothTold, WhereTold}
 use Rattle.store_model.specs.declared.fault.StoreFault.{StoreFault}
 use Rattle.guest_model.specs.History.{History}
-use Rattle.guest_model.specs.declared.recorder.KeepAll.{KeepAll}
+use Rattle.ledger.specs.declared.ledger.Ledger.{Ledger}
 use Rattle.guest_model.specs.declared.refusal.ChainRefusal.{ChainRefusal}
 use Rattle.chain_core.specs.declared.chain.Chain.{Chain}
 use Rattle.chain_core.specs.Sealed.{GoesOnSealed}
@@ -22,12 +22,12 @@ use Rattle.serve_session.specs.declared.merging.MergeRun.{MergeRun}
 
 module _ {S T : Type 0} (disk : S → Disk) where
   -- where the store tells its content, the session serves a state with no call
-  abbrev pub ServesFirst : Chain S KeepAll T → Type 0
+  abbrev pub ServesFirst : Chain S Ledger T → Type 0
   ServesFirst chain = WhereTold (disk chain.store).told (λ trace. (from : State) × IsServing chain.layers from trace × (from.history ≡ []))
 
   -- A chain whose session has just begun, once what it only reads was sealed, or as far as it was when a read failed or memory ran out: the session
   -- goes on as it was.
-  pub record IsSealing (old new : Chain S KeepAll T) (met : Option StoreFault) : Type 0 where
+  pub record IsSealing (old new : Chain S Ledger T) (met : Option StoreFault) : Type 0 where
     pub only : new ≡ record old { store = new.store }
     pub sound : IsSound (session_of disk new)
     pub goes : WhereBothTold (GoesOnSealed old.layers) (disk old.store).told (disk new.store).told
@@ -36,27 +36,27 @@ module _ {S T : Type 0} (disk : S → Disk) where
     pub quiet : met ≡ None → disk new.store ≡ record (disk old.store) { told = (disk new.store).told }
 
   -- readers for a guest of the session, of which none has failed
-  abbrev pub IsSetFor : Chain S KeepAll T → List Sealed → Type 0
+  abbrev pub IsSetFor : Chain S Ledger T → List Sealed → Type 0
   IsSetFor first set = HasReaders disk first [] set
 
   -- The session ended before a guest was served.
-  pub record EndsUnserved (old : Chain S KeepAll T) (store : S) (met : Option StoreFault) (closed : Result (Unit {0}) StoreFault) : Type 0 where
-    pub first : Chain S KeepAll T
+  pub record EndsUnserved (old : Chain S Ledger T) (store : S) (met : Option StoreFault) (closed : Result (Unit {0}) StoreFault) : Type 0 where
+    pub first : Chain S Ledger T
     pub sealing : IsSealing old first met
     pub counted : EndsCounted (disk first.store) (disk store) met closed
     pub leaves : LeavesHistory (session_of disk first) [] None None (has_merge first.layers) closed (disk store)
 
   -- Guests were served once what their session only reads was sealed; or the session ended before, as a read failed, which is told, or memory ran
   -- out.
-  pub record ServesSealed (merges : Bool) (chain : Chain S KeepAll T) (asking : Asking) (guests : List (List Outcome)) (history : History) (end : Ending) (merged : Result (Unit {0}) ChainRefusal) (after : Disk) : Type 0 where
-    pub first : Chain S KeepAll T
+  pub record ServesSealed (merges : Bool) (chain : Chain S Ledger T) (asking : Asking) (guests : List (List Outcome)) (history : History) (end : Ending) (merged : Result (Unit {0}) ChainRefusal) (after : Disk) : Type 0 where
+    pub first : Chain S Ledger T
     pub met : Option StoreFault
     pub sealing : IsSealing chain first met
     pub told : end.fault ≡ None → met ≡ None
     pub served : HasServed disk merges first asking guests history end merged after
 
   -- the guests of a script were served so
-  pub record ServesScript (merges : Bool) (chain : Chain S KeepAll T) (names : List (List ℕ)) (lines : List Line) (run : MergeRun) (after : Disk) : Type 0 where
+  pub record ServesScript (merges : Bool) (chain : Chain S Ledger T) (names : List (List ℕ)) (lines : List Line) (run : MergeRun) (after : Disk) : Type 0 where
     pub guests : List (List Outcome)
     pub history : History
     pub sealed : ServesSealed merges chain (asked_by lines) guests history (ending_of run.run run.unread) run.merged after

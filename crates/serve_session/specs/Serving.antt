@@ -2,7 +2,7 @@
 use Rattle.std.specs.Prelude.{◌≡◌, ◌+◌, ◌^◌, ◌<◌, ◌≤◌, ⊤, ℕ, Bool, true, false, List, [], length, is_some, Option, None, Some, Result, Ok, IfErr, OnOk}
 use Rattle.std.specs.List.{AllByRecursion}
 use Rattle.store_model.specs.Disk.{Disk, WhereTold}
-use Rattle.guest_model.specs.declared.recorder.KeepAll.{KeepAll}
+use Rattle.ledger.specs.declared.ledger.Ledger.{Ledger}
 use Rattle.guest_model.specs.declared.refusal.ChainRefusal.{ChainRefusal}
 use Rattle.guest_model.specs.declared.refusal.ChainRefusal.TheVariants as refusals
 use Rattle.guest_model.specs.History.{History}
@@ -36,7 +36,7 @@ use Rattle.serve_session.specs.declared.merging.MergeRun.{MergeRun}
 use Rattle.serve_session.specs.declared.tally.Tally.{Tally}
 
 -- what a script runs over, in a session that began with this chain, over the disk of this state
-abbrev pub drive_from : {S T : Type 0} → Chain S KeepAll T → State → Drive
+abbrev pub drive_from : {S T : Type 0} → Chain S Ledger T → State → Drive
 drive_from first from = record { geometry = first.layers.geometry; can_change = is_some first.layers.leaf; opening = from.opening }
 
 -- so much at most, if there is a greatest number
@@ -45,7 +45,7 @@ IsUpTo None n = ⊥
 IsUpTo (Some most) n = n ≤ most
 
 -- a shared chain whose session has just begun, with no call
-pub record HasBegun {S T : Type 0} (disk : S → Disk) (s : Shared (Chain S KeepAll T)) : Type 0 where
+pub record HasBegun {S T : Type 0} (disk : S → Disk) (s : Shared (Chain S Ledger T)) : Type 0 where
   pub sound : IsSound (session_of disk s.first)
   pub fresh : s ≡ record { chain = s.first; first = s.first; full = None; broke = None; fault = None; copied = s.copied; finished = false }
   pub empty : s.first.recorder ≡ []
@@ -54,7 +54,7 @@ pub record HasBegun {S T : Type 0} (disk : S → Disk) (s : Shared (Chain S Keep
 
 -- Threads shared it, and all seats were joined: what guests were told is what stands in its history, or what broke the session. No turn was
 -- refused, and few events there were; so many reads failed by a reader.
-pub record WasShared {S T : Type 0} (disk : S → Disk) (merges : Bool) (old : Shared (Chain S KeepAll T)) (asking : Asking) (new : Shared (Chain S KeepAll T)) (guests : List (List Outcome)) (unread : ℕ) : Type 0 where
+pub record WasShared {S T : Type 0} (disk : S → Disk) (merges : Bool) (old : Shared (Chain S Ledger T)) (asking : Asking) (new : Shared (Chain S Ledger T)) (guests : List (List Outcome)) (unread : ℕ) : Type 0 where
   pub lock : TableId
   pub seat : Known Step (Basis S T)
   pub joined : AreJoined disk old.first merges lock asking seat guests
@@ -70,17 +70,17 @@ pub record WasShared {S T : Type 0} (disk : S → Disk) (merges : Bool) (old : S
   pub few : new.chain.events ≤ 2 ^ 60
 
 -- A script's guests shared it so, and what they were told is kept, with what it comes to; or memory ran out before a call was made.
-pub data IsShared {S T : Type 0} (disk : S → Disk) (merges : Bool) (old : Shared (Chain S KeepAll T)) (names : List (List ℕ)) (lines : List Line) (new : Shared (Chain S KeepAll T)) (told : List (List ToldCall)) (short : Bool) (unread : ℕ) (tally : Tally) : Type 0 where
+pub data IsShared {S T : Type 0} (disk : S → Disk) (merges : Bool) (old : Shared (Chain S Ledger T)) (names : List (List ℕ)) (lines : List Line) (new : Shared (Chain S Ledger T)) (told : List (List ToldCall)) (short : Bool) (unread : ℕ) (tally : Tally) : Type 0 where
   was_shared : (guests : List (List Outcome)) → WasShared disk merges old (asked_by lines) new guests unread → AreKept names lines told short guests → AddsUp tally (all_outcomes guests) → IsShared disk merges old names lines new told short unread tally
   no_memory : new ≡ old → short ≡ true → told ≡ [] → unread ≡ 0 → tally ≡ no_tally → IsShared disk merges old names lines new told short unread tally
 
 -- a merge was finished, or that was stopped; where there is none nothing was done
-abbrev pub EndsAs : {S T : Type 0} → (S → Disk) → Bool → Shared (Chain S KeepAll T) → Shared (Chain S KeepAll T) → Result (Unit {0}) ChainRefusal → Type 0
+abbrev pub EndsAs : {S T : Type 0} → (S → Disk) → Bool → Shared (Chain S Ledger T) → Shared (Chain S Ledger T) → Result (Unit {0}) ChainRefusal → Type 0
 EndsAs disk true old new merged = IsMerged disk old new merged
 EndsAs disk false old new merged = (new ≡ old) × (merged ≡ Ok tt)
 
 -- what stops the end of a merge for want of room is near the greatest place that a block may have, and noted
-abbrev pub IsNearEnd : {S T : Type 0} → (S → Disk) → Chain S KeepAll T → Option ℕ → ChainRefusal → Type 0
+abbrev pub IsNearEnd : {S T : Type 0} → (S → Disk) → Chain S Ledger T → Option ℕ → ChainRefusal → Type 0
 IsNearEnd disk first full (refusals.FileFull next) = IsUpTo full next × WhereTold (disk first.store).told (λ trace. (from : State) → IsServing first.layers from trace → from.history ≡ [] → 2 ^ 43 < next + 1024)
 IsNearEnd disk first full other = ⊤
 
@@ -89,7 +89,7 @@ IsNearEnd disk first full other = ⊤
 -- told of a full file is noted; each moment since the session began leaves what the history says; the sectors that are open for the call that broke
 -- the session are among those that it names. At the end a merge is under way, or none is: none if it was finished, and where the end of the session
 -- didn't fail it is under way if that was stopped.
-pub record HasServed {S T : Type 0} (disk : S → Disk) (merges : Bool) (first : Chain S KeepAll T) (asking : Asking) (guests : List (List Outcome)) (history : History) (end : Ending) (merged : Result (Unit {0}) ChainRefusal) (after : Disk) : Type 0 where
+pub record HasServed {S T : Type 0} (disk : S → Disk) (merges : Bool) (first : Chain S Ledger T) (asking : Asking) (guests : List (List Outcome)) (history : History) (end : Ending) (merged : Result (Unit {0}) ChainRefusal) (after : Disk) : Type 0 where
   pub broken : Option Break
   pub breach : Option Breach
   pub opens : (s : ℕ) → open_by broken s ≡ false → opens_by breach s ≡ false
@@ -111,7 +111,7 @@ pub record HasServed {S T : Type 0} (disk : S → Disk) (merges : Bool) (first :
   pub near : IfErr merged (IsNearEnd disk first full)
 
 -- the guests of a script were served so
-pub record HasServedScript {S T : Type 0} (disk : S → Disk) (merges : Bool) (first : Chain S KeepAll T) (names : List (List ℕ)) (lines : List Line) (run : MergeRun) (after : Disk) : Type 0 where
+pub record HasServedScript {S T : Type 0} (disk : S → Disk) (merges : Bool) (first : Chain S Ledger T) (names : List (List ℕ)) (lines : List Line) (run : MergeRun) (after : Disk) : Type 0 where
   pub guests : List (List Outcome)
   pub history : History
   pub served : HasServed disk merges first (asked_by lines) guests history (ending_of run.run run.unread) run.merged after

@@ -4,7 +4,7 @@ ghost use Rattle.std.specs.Prelude.{◌≡◌, ◌+◌, ◌*◌, ◌<◌, ◌≤
 ghost use Rattle.chain_core.specs.declared.chain.Chain.{Chain};
 ghost use Rattle.guest_io.specs.Guests.{HaveReaders};
 ghost use Rattle.shared_chain.specs.Seats.{IsFree};
-ghost use Rattle.guest_model.specs.declared.recorder.KeepAll.{KeepAll};
+ghost use Rattle.ledger.specs.declared.ledger.Ledger.{Ledger};
 ghost use Rattle.script.specs.Transcript.{outcome_of as line_outcome};
 ghost use Rattle.script.specs.declared.form.Form.{Form as FormValue};
 ghost use Rattle.serve_session.specs.Actors.{HasRun, IsActor, called_form};
@@ -215,7 +215,7 @@ impl<S: Store> Actor<S> {
         ensures free { IsFree lock.now self.new.guest.seat }
         ensures room { length self.new.room.items ≡ 1048576 }
         ensures number { self.new.number ≡ self.old.number }
-        ensures actor { (first : Chain S KeepAll S.R) (forms : List FormValue) → length forms < 2 ^ 32 → IsActor S.disk first lock.now (map N.text names.now) forms self.old
+        ensures actor { (first : Chain S Ledger S.R) (forms : List FormValue) → length forms < 2 ^ 32 → IsActor S.disk first lock.now (map N.text names.now) forms self.old
             → IsActor S.disk first lock.now (map N.text names.now) (forms ++ called_form form) self.new }
     {
         if self.is_short || !form.is_call() {
@@ -250,7 +250,7 @@ impl<S: Store> Actor<S> {
         requires readers { HaveReaders S.disk self.old.guest.seat.basis self.old.guest.readers }
         requires few { length lines.now ≤ 2 ^ 20 }
         ensures number { self.new.number ≡ self.old.number }
-        ensures ran { (first : Chain S KeepAll S.R) → IsActor S.disk first lock.now (map N.text names.now) [] self.old
+        ensures ran { (first : Chain S Ledger S.R) → IsActor S.disk first lock.now (map N.text names.now) [] self.old
             → HasRun S.disk first lock.now (map N.text names.now) lines.now self.new }
     {
         for line in lines {

@@ -12,7 +12,7 @@ use crate::sealing::{Unserved, seal};
 use crate::serving::{serve, unserved};
 use crate::tools::tools_for;
 use chain_core::Chain;
-use guest_model::KeepAll;
+use ledger::Ledger;
 use merge_core::Piece;
 use read_plan::ReaderSet;
 use script::Line;
@@ -33,7 +33,7 @@ pub(crate) fn serve_fresh<
 >(
     rt: &R,
     alloc: Global,
-    chain: Chain<S, KeepAll>,
+    chain: Chain<S, Ledger>,
     names: &[N],
     lines: &[Line],
     rooms: Vec<Vec<u8>>,

@@ -12,7 +12,8 @@ ghost use Rattle.serve_session.specs.Served.{guest_count};
 use crate::fresh::serve_fresh;
 use crate::tally::Tally;
 use chain_core::{Chain, MergeStartRefusal};
-use guest_model::{ChainRefusal, KeepAll};
+use guest_model::ChainRefusal;
+use ledger::Ledger;
 use link_rules::LinkedFile;
 use merge_core::Piece;
 use read_plan::ReaderSet;
@@ -102,7 +103,7 @@ where
     ensures kept { OnErr result.1 (EachOpensAlike files.now (S.disk store).told (S.disk result.0).told) }
 {
     let stripes = stripes_of(files);
-    match Chain::start_merge(alloc, store, files, source, KeepAll::new(alloc), ids) {
+    match Chain::start_merge(alloc, store, files, source, Ledger::keeping(alloc), ids) {
         Ok(chain) => {
             let (store, run, back) = serve_fresh(
                 rt,
@@ -160,7 +161,7 @@ where
     ensures kept { OnErr result.1 (EachOpensAlike files.now (S.disk store).told (S.disk result.0).told) }
 {
     let stripes = stripes_of(files);
-    match Chain::start_leaf_merge(alloc, store, files, KeepAll::new(alloc), ids) {
+    match Chain::start_leaf_merge(alloc, store, files, Ledger::keeping(alloc), ids) {
         Ok(chain) => {
             let (store, run, back) = serve_fresh(
                 rt,

@@ -7,7 +7,7 @@ ghost use Rattle.serve_session.specs.Sealing.{EndsUnserved, IsSealing, IsSetFor,
 ghost use Rattle.store_model.specs.Disk.{fault_in};
 
 use chain_core::Chain;
-use guest_model::KeepAll;
+use ledger::Ledger;
 use read_plan::Readers;
 use shared_chain::end_fresh;
 use std::alloc::Global;
@@ -35,9 +35,9 @@ fn fault_in(fault: SealFault) -> Option<StoreFault>
 /// memory runs out, the session ends.
 pub fn seal<S: Store>(
     alloc: Global,
-    chain: Chain<S, KeepAll>,
+    chain: Chain<S, Ledger>,
     guests: u32,
-) -> Result<(Chain<S, KeepAll>, Readers<S::R>), Unserved<S>>
+) -> Result<(Chain<S, Ledger>, Readers<S::R>), Unserved<S>>
 where
     S::R: Drop,
     requires sound { IsSound (session_of S.disk chain) }

@@ -5,7 +5,7 @@ ghost use denote.Param.Send.{IsSend, IsSync};
 ghost use Rattle.std.specs.Fork.{AcceptsEach};
 ghost use Rattle.serve_session.specs.Beside.{WasCalledAt};
 ghost use Rattle.chain_core.specs.declared.chain.Chain.{Chain};
-ghost use Rattle.guest_model.specs.declared.recorder.KeepAll.{KeepAll};
+ghost use Rattle.ledger.specs.declared.ledger.Ledger.{Ledger};
 ghost use Rattle.shared_chain.specs.Seats.{IsFree};
 ghost use Rattle.seats.specs.Families.{newborn};
 ghost use Rattle.serve_session.specs.Actors.{AreJoined, HasRun};
@@ -26,7 +26,8 @@ use crate::tools::Tools;
 use claims::{ClaimSeat, Claims};
 use copy_workers::Worker;
 use guest_io::Guest;
-use guest_model::{ChainRefusal, KeepAll};
+use guest_model::ChainRefusal;
+use ledger::Ledger;
 use merge_core::Piece;
 use read_plan::{Plan, ReaderSet, Readers};
 use script::{Line, ToldCalls, serve_text};
@@ -219,17 +220,16 @@ fn end_actors<S: Store, N: AsStr>(
 fn transcript_of(
     alloc: Global,
     is_short: bool,
-    history: &KeepAll,
+    history: &Ledger,
     told: &[ToldCalls],
 ) -> Result<String, NoRoom>
     requires told { (is_short ≡ false) → All (IsTold told.now) history.now }
     requires few { length told.now ≤ 64 }
     ensures { IfOk result (λ text. (is_short ≡ false) × (string_bytes text ≡ serve_text history.now told.now)) }
 {
-    if is_short {
-        Err(NoRoom)
-    } else {
-        serve_text(alloc, history.entries(), told)
+    match history.entries() {
+        Some(entries) if !is_short => serve_text(alloc, entries, told),
+        _ => Err(NoRoom),
     }
 }
 

@@ -11,7 +11,7 @@ ghost use Rattle.serve_session.specs.Served.{guest_count};
 use crate::fresh::serve_fresh;
 use crate::tally::Tally;
 use chain_core::{Chain, Mode, StartRefusal};
-use guest_model::KeepAll;
+use ledger::Ledger;
 use link_rules::LinkedFile;
 use read_plan::ReaderSet;
 use script::Line;
@@ -67,7 +67,7 @@ where
     ensures kept { OnErr result.1 (EachOpensAlike files.now (S.disk store).told (S.disk result.0).told) }
     ensures still { OnErr result.1 (LeavesOthersFrom (S.disk store).told (S.disk result.0).told) }
 {
-    let chain = match Chain::start(alloc, store, files, Mode::Guests, KeepAll::new(alloc), ids) {
+    let chain = match Chain::start(alloc, store, files, Mode::Guests, Ledger::keeping(alloc), ids) {
         Ok(chain) => chain,
         Err((store, refusal)) => return (store, Err(refusal), Vec::new(alloc)),
     };

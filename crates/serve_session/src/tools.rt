@@ -6,7 +6,7 @@ ghost use Rattle.serve_session.specs.Tools.{AreToolsFor};
 ghost use Rattle.shared_chain.specs.Homes.{session_of};
 
 use chain_core::{Chain, SealedSource};
-use guest_model::KeepAll;
+use ledger::Ledger;
 use merge_core::Piece;
 use std::alloc::Global;
 use store_model::Store;
@@ -25,7 +25,7 @@ pub struct Tools {
 /// Tools of a worker for each piece.
 pub fn tools_for<S: Store>(
     alloc: Global,
-    chain: &Chain<S, KeepAll>,
+    chain: &Chain<S, Ledger>,
     pieces: Vec<Piece>,
 ) -> Result<Vec<Tools>, NoRoom>
     requires sound { IsSound (session_of S.disk chain.now) }

@@ -5,7 +5,7 @@ use Rattle.store_model.specs.Disk.{Disk}
 use Rattle.guest_model.specs.declared.call.Call.{Call}
 use Rattle.guest_model.specs.declared.call.Caller.{Caller}
 use Rattle.guest_model.specs.declared.call.Entry.{Entry}
-use Rattle.guest_model.specs.declared.recorder.KeepAll.{KeepAll}
+use Rattle.ledger.specs.declared.ledger.Ledger.{Ledger}
 use Rattle.guest_model.specs.declared.refusal.ChainRefusal.{ChainRefusal}
 use Rattle.guest_model.specs.History.{History}
 use Rattle.chain_core.specs.declared.chain.Chain.{Chain}
@@ -36,7 +36,7 @@ use Rattle.shared_chain.proofs.Noting.{IsChange, noted}
 use Rattle.shared_chain.proofs.Reaching.{reached, reached_change_is}
 use Rattle.shared_chain.proofs.Refusals.{early, early_change, not_early}
 
-module _ {S T : Type 0} (disk : S → Disk) (old new : Chain S KeepAll T) where
+module _ {S T : Type 0} (disk : S → Disk) (old new : Chain S Ledger T) where
   abbrev before : Session
   before = session_of disk old
 
@@ -91,7 +91,7 @@ module _ {S T : Type 0} (disk : S → Disk) (old new : Chain S KeepAll T) where
             let e = subst (λ o. IfSome o (λ x. (answer ≡ Err x) × (after ≡ record before { events = counted before.events }))) is a.early in
             no_entry (entry who call) answer x e.0 (kept_list old.recorder new.recorder (ap (λ (s : Session). s.told) e.1))
 
-    module _ (first : Chain S KeepAll T) (old_full : Option ℕ) (broke : Option Breach) (fault : Option StoreFault) (home : IsHome (session_of disk first) before old.recorder old_full broke fault) where
+    module _ (first : Chain S Ledger T) (old_full : Option ℕ) (broke : Option Breach) (fault : Option StoreFault) (home : IsHome (session_of disk first) before old.recorder old_full broke fault) where
       pub home_after : IsHome (session_of disk first) after new.recorder (full_after old_full answer) (broke_after broke (breach_of who call) answer) (fault_after fault answer)
       home_after = still_home (session_of disk first) before after old.recorder new.recorder old_full broke fault who call answer home a refl entered
 
@@ -153,17 +153,17 @@ module _ {S T : Type 0} (disk : S → Disk) (old new : Chain S KeepAll T) where
                 (early_caused disk call first before after old_full full stripes copied_list finished place x (omega (arith, a.events, counted_high before.events)) (early call before x is)
                 (subst (λ r. NotesBy r (notes_in before.disk before.broken old_full) (notes_in after.disk after.broken full)) e.0 notes_by))
 
-        abbrev was : Shared (Chain S KeepAll T)
+        abbrev was : Shared (Chain S Ledger T)
         was = record { chain = old; first = first; full = old_full; broke = broke; fault = fault; copied = copied; finished = finished }
 
         module _ (broke' : Option Breach) (fault' : Option StoreFault) (broke_is : broke' ≡ broke_after broke (breach_of who call) answer) (fault_is : fault' ≡ fault_after fault answer) where
-          abbrev now : Shared (Chain S KeepAll T)
+          abbrev now : Shared (Chain S Ledger T)
           now = record { chain = new; first = first; full = full; broke = broke'; fault = fault'; copied = copied; finished = finished }
 
           pub called : IsCalled disk who call was now answer
           called = record { first = refl; entered = entered; broke = subst (λ b. IsBroke (breach_of who call) broke b answer) (sym broke_is) is_broke; fault = fault_is; copied = refl; finished = refl; noted = notes_by; cause = caused; answered = a }
 
-          pub called_as : (seen : Shared (Chain S KeepAll T)) → was ≡ seen → IsCalled disk who call seen now answer
+          pub called_as : (seen : Shared (Chain S Ledger T)) → was ≡ seen → IsCalled disk who call seen now answer
           called_as seen is = subst (λ s. IsCalled disk who call s now answer) is called
 
       -- a call that was done found the session whole

@@ -6,7 +6,7 @@ use Rattle.store_model.specs.Cause.{Rose}
 use Rattle.store_model.specs.Disk.{Disk}
 use Rattle.store_model.specs.declared.fault.StoreFault.{StoreFault}
 use Rattle.guest_model.specs.declared.call.Call.{Call}
-use Rattle.guest_model.specs.declared.recorder.KeepAll.{KeepAll}
+use Rattle.ledger.specs.declared.ledger.Ledger.{Ledger}
 use Rattle.guest_model.specs.declared.refusal.ChainRefusal.{ChainRefusal}
 use Rattle.guest_model.specs.declared.refusal.ChainRefusal.TheVariants.{Abandoned, Broken, EmptyRange, FileFull, NoMerge, NoPiece, NoRoom, NoStripe, NotYet, OutOfRange, ReadFault, ReadOnly, Spent, Stale, TooLong}
 use Rattle.chain_core.specs.declared.chain.Chain.{Chain}
@@ -67,7 +67,7 @@ at_end before now count rose told h = omega (arith, rose.later, rose.risen, told
 
 -- ---- causes
 
-module _ {S T : Type 0} (disk : S → Disk) (call : Call) (first : Chain S KeepAll T) (old new : Session) (old_full full : Option ℕ) (stripes : ℕ) (copied : List ℕ) (finished : Bool) where
+module _ {S T : Type 0} (disk : S → Disk) (call : Call) (first : Chain S Ledger T) (old new : Session) (old_full full : Option ℕ) (stripes : ℕ) (copied : List ℕ) (finished : Bool) where
   abbrev before : Basis S T
   before = record { first = Some first; notes = notes_in old.disk old.broken old_full; events = old.events; stripes = stripes; copied = copied; finished = finished }
 

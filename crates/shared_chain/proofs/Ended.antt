@@ -6,7 +6,7 @@ use Rattle.store_model.specs.Disk.{Disk, WhereBothTold}
 use Rattle.store_model.specs.Trace.{Trace}
 use Rattle.store_model.specs.declared.fault.StoreFault.{StoreFault}
 use Rattle.store_model.proofs.Told.{both_join}
-use Rattle.guest_model.specs.declared.recorder.KeepAll.{KeepAll}
+use Rattle.ledger.specs.declared.ledger.Ledger.{Ledger}
 use Rattle.guest_model.specs.History.{History}
 use Rattle.chain_core.specs.declared.chain.Chain.{Chain}
 use Rattle.chain_core.specs.Answering.{ClosesTold, HasClosed}
@@ -73,7 +73,7 @@ module _ (first s : Session) (h : History) (after : Disk) (closed : Result (Unit
           subst (λ session. WhereBothTold (λ trace now. (from : State) → IsServing first.layers from trace → from.history ≡ [] → HasLeft session (has_merge s.layers) from h full broke closed now) first.disk.told after.told) home.session
           (both_join _ _ _ first.disk.told s.disk.told after.told (λ t u w f has from serving empty. ends (is_some s.layers.leaf) from u w is (f from serving empty) has) home.follows (told is))
 
-module _ {S T : Type 0} (disk : S → Disk) (chain : Chain S KeepAll T) (store : S) (closed : Result (Unit {0}) StoreFault) where
+module _ {S T : Type 0} (disk : S → Disk) (chain : Chain S Ledger T) (store : S) (closed : Result (Unit {0}) StoreFault) where
   pub ended : IfSome chain.broken (λ fault. (closed ≡ Err fault) × (store ≡ chain.store)) → (chain.broken ≡ None → chain.layers.leaf ≡ None → (closed ≡ Ok tt) × (store ≡ chain.store))
       → (chain.broken ≡ None → OnOk closed (disk store ≡ record (disk chain.store) { told = (disk store).told }))
       → (chain.broken ≡ None → IfErr closed (SomeChangeFailed (IsOfSession chain.layers) (disk chain.store) (disk store)))

@@ -8,7 +8,7 @@ use Rattle.store_model.specs.Disk.{Disk, WhereTold}
 use Rattle.store_model.specs.Trace.{Trace}
 use Rattle.store_model.specs.declared.fault.StoreFault.{StoreFault}
 use Rattle.guest_model.specs.declared.call.Entry.{Entry}
-use Rattle.guest_model.specs.declared.recorder.KeepAll.{KeepAll}
+use Rattle.ledger.specs.declared.ledger.Ledger.{Ledger}
 use Rattle.guest_model.specs.declared.refusal.ChainRefusal.{ChainRefusal}
 use Rattle.guest_model.specs.History.{History}
 use Rattle.chain_model.specs.Merges.{IsTrue, Piece}
@@ -85,7 +85,7 @@ under_way layers v trace serving has = go layers.merge layers.retiring v.rest se
 rest_of : (h before : History) → StartsWith h before → h ≡ before ++ drop (length before) h
 rest_of h before starts = sym (take-append-drop (length before) h) ∙ ap (λ xs. xs ++ drop (length before) h) starts
 
-pub fetched_apt : {S T : Type 0} (disk : S → Disk) (first : Chain S KeepAll T) (before : History) (piece : KeptPiece) → IsFetched disk first before piece → (h : History) → StartsWith h before → IsAptFrom (λ v. IsTruePiece v (piece_of piece)) (session_of disk first) h
+pub fetched_apt : {S T : Type 0} (disk : S → Disk) (first : Chain S Ledger T) (before : History) (piece : KeptPiece) → IsFetched disk first before piece → (h : History) → StartsWith h before → IsAptFrom (λ v. IsTruePiece v (piece_of piece)) (session_of disk first) h
 fetched_apt disk first before piece is h starts t told from to serving empty comes =
     let begun : IsTrueOf (sector_of from) before from.rest (piece_of piece) = is.is_true t told from serving empty in
     let now : IsTrueOf (sector_of from) h from.rest (piece_of piece) =
@@ -116,7 +116,7 @@ module _ (first old new : Session) (h : History) (full : Option ℕ) (broke : Op
       true_by (sector_of from) h f.to.rest from.rest (piece_of piece) (λ e. sym same)
       (subst (λ z. IsTrueOf z h f.to.rest (piece_of piece)) f.comes.sector (subst (λ k. IsTrueOf (sector_of f.to) k f.to.rest (piece_of piece)) f.comes.later.history taken))
 
-pub fetched_now : {S T : Type 0} (disk : S → Disk) (first old : Chain S KeepAll T) (new : Session) (h : History) (full : Option ℕ) (broke : Option Breach) (fault : Option StoreFault) → IsHome (session_of disk first) (session_of disk old) h full broke fault
+pub fetched_now : {S T : Type 0} (disk : S → Disk) (first old : Chain S Ledger T) (new : Session) (h : History) (full : Option ℕ) (broke : Option Breach) (fault : Option StoreFault) → IsHome (session_of disk first) (session_of disk old) h full broke fault
     → (stripe : ℕ) (answer : Result ℕ ChainRefusal) (piece : KeptPiece) → AnswersFetch stripe answer (session_of disk old) new piece → OnOk answer (IsFetched disk first h piece)
 fetched_now disk first old new h full broke fault home stripe (Err x) piece a = tt
 fetched_now disk first old new h full broke fault home stripe (Ok stamp) piece a =
@@ -209,7 +209,7 @@ changed_by began h (e ∷ more) stripe other = go (last == next) refl (changed_b
         record { before = changed.before; call = changed.call; begins = changed.begins; place_is = changed.place_is; touched = changed.touched; later = let there = changed.later in omega (arith, there, size) }
 
 -- So it is of a piece that isn't of its stripe's stamp any more, where the leaf is merged; of another source none is stale.
-pub changed_since : {S T : Type 0} (disk : S → Disk) (first : Chain S KeepAll T) (before h : History) (piece : KeptPiece) (now : ℕ) → IsFetched disk first before piece → StartsWith h before → now ≡ stamp_behind first.layers.retiring h piece.stripe → piece.stamp ≢ now
+pub changed_since : {S T : Type 0} (disk : S → Disk) (first : Chain S Ledger T) (before h : History) (piece : KeptPiece) (now : ℕ) → IsFetched disk first before piece → StartsWith h before → now ≡ stamp_behind first.layers.retiring h piece.stripe → piece.stamp ≢ now
     → (is_some first.layers.retiring ≡ true) × IsChangedSince h piece.stripe now (length before)
 changed_since disk first before h piece now is starts now_is other = go first.layers.retiring is.stamp now_is
   where

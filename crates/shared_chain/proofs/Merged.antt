@@ -10,7 +10,7 @@ use Rattle.script_session.specs.MergeSteps.{AnswersSkip, passed_over}
 use Rattle.shared_chain.proofs.Stepping.{skip_step}
 use Rattle.store_model.specs.Disk.{Disk, WhereTold}
 use Rattle.store_model.specs.declared.fault.StoreFault.{StoreFault}
-use Rattle.guest_model.specs.declared.recorder.KeepAll.{KeepAll}
+use Rattle.ledger.specs.declared.ledger.Ledger.{Ledger}
 use Rattle.guest_model.specs.declared.refusal.ChainRefusal.{ChainRefusal}
 use Rattle.guest_model.specs.declared.refusal.ChainRefusal.TheVariants.{Abandoned, Broken, EmptyRange, FileFull, NoMerge, NoPiece, NoRoom, NoStripe, NotYet, OutOfRange, ReadFault, ReadOnly, Spent, Stale, TooLong}
 use Rattle.guest_model.specs.History.{History}
@@ -157,12 +157,12 @@ end_carries h first old slot new _ (finish_stopped mid left x other s a f) sound
 
 -- ---- what a step leaves of the shared chain
 
-module _ {S T : Type 0} (disk : S → Disk) (old new first : Chain S KeepAll T) (answer : Result (Unit {0}) ChainRefusal) (full full' : Option ℕ) (broke broke' : Option Breach) (fault fault' : Option StoreFault) (copied copied' : Marks) (finished finished' : Bool) (full_is : full' ≡ full_after full (as_answer answer))
+module _ {S T : Type 0} (disk : S → Disk) (old new first : Chain S Ledger T) (answer : Result (Unit {0}) ChainRefusal) (full full' : Option ℕ) (broke broke' : Option Breach) (fault fault' : Option StoreFault) (copied copied' : Marks) (finished finished' : Bool) (full_is : full' ≡ full_after full (as_answer answer))
     (broke_is : broke' ≡ broke_after broke merge_breach (as_answer answer)) (fault_is : fault' ≡ fault_after fault (as_answer answer)) (c : Carries old.recorder (session_of disk first) (session_of disk old) (session_of disk new) answer) where
-  abbrev was : Shared (Chain S KeepAll T)
+  abbrev was : Shared (Chain S Ledger T)
   was = record { chain = old; first = first; full = full; broke = broke; fault = fault; copied = copied; finished = finished }
 
-  abbrev now : Shared (Chain S KeepAll T)
+  abbrev now : Shared (Chain S Ledger T)
   now = record { chain = new; first = first; full = full'; broke = broke'; fault = fault'; copied = copied'; finished = finished' }
 
   history : new.recorder ≡ old.recorder
@@ -187,7 +187,7 @@ module _ {S T : Type 0} (disk : S → Disk) (old new first : Chain S KeepAll T) 
   }
 
   pub stepped_as : (step : MergeStep) → new.events ≤ old.events + most_events step → copied'.stripes ≡ copied.stripes → ((t : ℕ) → marks_of copied' t ≡ copied_behind step answer copied t) → finished' ≡ finished_behind step answer finished
-      → (seen : Shared (Chain S KeepAll T)) → was ≡ seen → IsStepped disk step seen now answer
+      → (seen : Shared (Chain S Ledger T)) → was ≡ seen → IsStepped disk step seen now answer
   stepped_as step few stripes_are copied_are finished_is seen is = subst (λ s. IsStepped disk step s now answer) is (stepped step few stripes_are copied_are finished_is)
 
   pub home_as : IsHome (session_of disk first) (session_of disk old) old.recorder full broke fault → IsHome (session_of disk first) (session_of disk new) new.recorder full' broke' fault'
@@ -707,13 +707,13 @@ module _ (first : Session) (h : History) (full : Option ℕ) (broke : Option Bre
 
 -- ---- all of it
 
-module _ {S T : Type 0} (disk : S → Disk) (old new first : Chain S KeepAll T) (slot : Piece) (answer : Result (Unit {0}) ChainRefusal) (full full' : Option ℕ) (broke broke' : Option Breach) (fault fault' : Option StoreFault) (copied copied' : Marks) (finished finished' : Bool) (full_is : full' ≡ full_after full (as_answer answer))
+module _ {S T : Type 0} (disk : S → Disk) (old new first : Chain S Ledger T) (slot : Piece) (answer : Result (Unit {0}) ChainRefusal) (full full' : Option ℕ) (broke broke' : Option Breach) (fault fault' : Option StoreFault) (copied copied' : Marks) (finished finished' : Bool) (full_is : full' ≡ full_after full (as_answer answer))
     (broke_is : broke' ≡ broke_after broke merge_breach (as_answer answer)) (fault_is : fault' ≡ fault_after fault (as_answer answer)) (e : EndsMerge (session_of disk old) slot (session_of disk new) answer)
     (c : Carries old.recorder (session_of disk first) (session_of disk old) (session_of disk new) answer) (home : IsHome (session_of disk first) (session_of disk old) old.recorder full broke fault) (copied_is : copied' ≡ copied) (finished_is : finished' ≡ true) where
-  abbrev before : Shared (Chain S KeepAll T)
+  abbrev before : Shared (Chain S Ledger T)
   before = record { chain = old; first = first; full = full; broke = broke; fault = fault; copied = copied; finished = finished }
 
-  abbrev after : Shared (Chain S KeepAll T)
+  abbrev after : Shared (Chain S Ledger T)
   after = record { chain = new; first = first; full = full'; broke = broke'; fault = fault'; copied = copied'; finished = finished' }
 
   is_stepped : IsStepped disk ends before after answer
@@ -736,5 +736,5 @@ module _ {S T : Type 0} (disk : S → Disk) (old new first : Chain S KeepAll T) 
       go (Ok done) is k = tt
       go (Err x) is k = stops x is k
 
-  pub merged_as : (seen : Shared (Chain S KeepAll T)) → before ≡ seen → IsMerged disk seen after answer
+  pub merged_as : (seen : Shared (Chain S Ledger T)) → before ≡ seen → IsMerged disk seen after answer
   merged_as seen is = subst (λ s. IsMerged disk s after answer) is (record { stepped = is_stepped; done = end_none (session_of disk old) slot (session_of disk new) answer e; stopped = is_stopped })

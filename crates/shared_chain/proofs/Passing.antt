@@ -2,7 +2,7 @@
 use Rattle.std.proofs.Common.{◌≡◌, ◌+◌, ◌≤◌, ◌^◌, ℕ, Option, Some, None, Result, Ok, Err, sym, ap, subst}
 use Rattle.std.specs.Prelude.{⊤, IfErr, IfOk, OnErr, is_some, length}
 use Rattle.store_model.specs.Disk.{Disk}
-use Rattle.guest_model.specs.declared.recorder.KeepAll.{KeepAll}
+use Rattle.ledger.specs.declared.ledger.Ledger.{Ledger}
 use Rattle.guest_model.specs.declared.refusal.ChainRefusal.{ChainRefusal}
 use Rattle.chain_core.specs.Copying.{IfStopped, fetch_refused}
 use Rattle.chain_core.specs.Sessions.{IsSound, KeepsMerge, Session}
@@ -23,7 +23,7 @@ pub record LooksAt (stripe : ℕ) (answer : Result ℕ ChainRefusal) (old new : 
   pub stopped : IfErr answer (LookEnds stripe old new)
   pub step : StepOf (λ v. ⊤) old new (unstamped answer)
 
-module _ {S T : Type 0} (disk : S → Disk) (old new : Chain S KeepAll T) (stripe : ℕ) where
+module _ {S T : Type 0} (disk : S → Disk) (old new : Chain S Ledger T) (stripe : ℕ) where
   abbrev was : Session
   was = session_of disk old
 
@@ -55,7 +55,7 @@ module _ {S T : Type 0} (disk : S → Disk) (old new : Chain S KeepAll T) (strip
   passes_over (Err x) h = tt
 
 -- so it is of a chain that was lent
-pub looks_lent : {S T : Type 0} (disk : S → Disk) (old lent new : Chain S KeepAll T) (stripe : ℕ) (answer : Result ℕ ChainRefusal) → lent ≡ old → IsSound (session_of disk old) → IfStopped (fetch_refused stripe (session_of disk lent)) answer (new ≡ lent)
+pub looks_lent : {S T : Type 0} (disk : S → Disk) (old lent new : Chain S Ledger T) (stripe : ℕ) (answer : Result ℕ ChainRefusal) → lent ≡ old → IsSound (session_of disk old) → IfStopped (fetch_refused stripe (session_of disk lent)) answer (new ≡ lent)
     → (fetch_refused stripe (session_of disk lent) ≡ None → SkipCause stripe (session_of disk lent) (session_of disk new) answer) → IfOk answer (λ n. stripe + n ≤ 2 ^ 26) → OnErr answer (KeepsMerge lent.layers new.layers)
     → SkipTold stripe (session_of disk lent) (session_of disk new) answer → new.events ≡ lent.events → new.layers.geometry ≡ lent.layers.geometry → is_some new.layers.leaf ≡ is_some lent.layers.leaf → new.recorder ≡ lent.recorder → LooksAt stripe answer (session_of disk old) (session_of disk new)
 looks_lent disk old lent new stripe answer is sound early cause few marks tells events geometry session history =

@@ -9,7 +9,7 @@ use Rattle.store_model.specs.Trace.{Trace, file_of}
 use Rattle.store_model.specs.declared.fault.StoreFault.{StoreFault}
 use Rattle.guest_model.specs.declared.call.Call.TheVariants as calls
 use Rattle.guest_model.specs.declared.call.Reply.TheVariants as replies
-use Rattle.guest_model.specs.declared.recorder.KeepAll.{KeepAll}
+use Rattle.ledger.specs.declared.ledger.Ledger.{Ledger}
 use Rattle.guest_model.specs.Calls.{reply}
 use Rattle.guest_model.specs.History.{History, replay}
 use Rattle.read_plan.specs.Plans.{FitsIn}
@@ -56,7 +56,7 @@ readers_later v h later readers is are k d below = go is.goes
     go (inl g) = (ap (λ (w : ℕ → Bool). w s.file) g.writes ∙ was.0, was.1 ∙ ap (λ (t : Trace). Some (files_in t s.file)) (sym g.since))
     go (inr r) = (later_writes v later is.goes s.file was.0, was.1 ∙ ap (λ f. Some (seen f)) (sym (r.since s.file was.0)))
 
-module _ {S T : Type 0} (disk : S → Disk) (first : Chain S KeepAll T) (readers : List Sealed) (are : All (IsReaderFor disk first) readers) where
+module _ {S T : Type 0} (disk : S → Disk) (first : Chain S Ledger T) (readers : List Sealed) (are : All (IsReaderFor disk first) readers) where
   abbrev began : Session
   began = session_of disk first
 
@@ -96,7 +96,7 @@ module _ {S T : Type 0} (disk : S → Disk) (first : Chain S KeepAll T) (readers
         plans_answer old.layers to old.disk a n plan out new readers u is_u serving (readers_later from h to readers later (of_state t from is_t begun)) finds (subst (λ z. HasFilled z readers plan out new) (sym sector) filled))
 
 -- what is planned of a read in a whole session
-pub planned : {S T : Type 0} (disk : S → Disk) (s : Shared (Chain S KeepAll T)) (a n : ℕ) (readers : List Sealed) (plan : List Extent) (out : List ℕ)
+pub planned : {S T : Type 0} (disk : S → Disk) (s : Shared (Chain S Ledger T)) (a n : ℕ) (readers : List Sealed) (plan : List Extent) (out : List ℕ)
     → IsHome (session_of disk s.first) (session_of disk s.chain) s.chain.recorder s.full s.broke s.fault → s.chain.broken ≡ None → s.chain.layers.geometry.sector ≡ 512
     → AllByRecursion (EndsBy (length out / 512)) plan → AreThere readers plan → LieInStore s.chain.layers.geometry.sector (disk s.chain.store) plan → FindsPlanned a n plan out s.chain.layers (disk s.chain.store)
     → IsPlanned disk s (calls.Read a n) readers plan out

@@ -4,7 +4,7 @@ use Rattle.std.specs.Prelude.{IfErr, IfSome, if◌then◌else◌, nat_lt}
 use Rattle.std.proofs.lemmas.Bool.{eqb-false}
 use Rattle.store_model.specs.Disk.{Disk}
 use Rattle.store_model.specs.declared.fault.StoreFault.{StoreFault}
-use Rattle.guest_model.specs.declared.recorder.KeepAll.{KeepAll}
+use Rattle.ledger.specs.declared.ledger.Ledger.{Ledger}
 use Rattle.guest_model.specs.declared.refusal.ChainRefusal.{ChainRefusal}
 use Rattle.guest_model.specs.declared.refusal.ChainRefusal.TheVariants.{Abandoned, Broken, EmptyRange, FileFull, NoMerge, NoPiece, NoRoom, NoStripe, NotYet, OutOfRange, ReadFault, ReadOnly, Spent, Stale, TooLong}
 use Rattle.guest_model.specs.History.{History}
@@ -194,12 +194,12 @@ stamp_at_home first now h full broke fault home stripe whole there = stamp_now f
         let leaving : IsRetiringOf now.layers.geometry now.layers.leaf now.layers.below.items r = subst (λ o. IfSome o (IsRetiringOf now.layers.geometry now.layers.leaf now.layers.below.items)) is (home.sound.ready whole).retiring in
         subst (λ n. stripe < n) (sym leaving.stripes) low
 
-module _ {S T : Type 0} (disk : S → Disk) (old new first : Chain S KeepAll T) (answer : Result (Unit {0}) ChainRefusal) (full full' : Option ℕ) (broke broke' : Option Breach) (fault fault' : Option StoreFault) (copied copied' : Marks) (finished finished' : Bool)
+module _ {S T : Type 0} (disk : S → Disk) (old new first : Chain S Ledger T) (answer : Result (Unit {0}) ChainRefusal) (full full' : Option ℕ) (broke broke' : Option Breach) (fault fault' : Option StoreFault) (copied copied' : Marks) (finished finished' : Bool)
     (full_is : full' ≡ full_after full (as_answer answer)) (broke_is : broke' ≡ broke_after broke merge_breach (as_answer answer)) (fault_is : fault' ≡ fault_after fault (as_answer answer)) (c : Carries old.recorder (session_of disk first) (session_of disk old) (session_of disk new) answer) where
-  abbrev earlier : Shared (Chain S KeepAll T)
+  abbrev earlier : Shared (Chain S Ledger T)
   earlier = record { chain = old; first = first; full = full; broke = broke; fault = fault; copied = copied; finished = finished }
 
-  abbrev later : Shared (Chain S KeepAll T)
+  abbrev later : Shared (Chain S Ledger T)
   later = record { chain = new; first = first; full = full'; broke = broke'; fault = fault'; copied = copied'; finished = finished' }
 
   notes_now : NotesBy (as_answer answer) (notes_of disk earlier) (notes_of disk later)
@@ -238,14 +238,14 @@ module _ {S T : Type 0} (disk : S → Disk) (old new first : Chain S KeepAll T) 
       other,
     )
 
-    pub put_stopped_as : (piece : Piece) → ((x : ChainRefusal) → answer ≡ Err x → PutEnds piece (session_of disk old) (session_of disk new) x) → (seen : Shared (Chain S KeepAll T)) → earlier ≡ seen → IfErr answer (StopsPut disk piece seen later)
+    pub put_stopped_as : (piece : Piece) → ((x : ChainRefusal) → answer ≡ Err x → PutEnds piece (session_of disk old) (session_of disk new) x) → (seen : Shared (Chain S Ledger T)) → earlier ≡ seen → IfErr answer (StopsPut disk piece seen later)
     put_stopped_as piece stops seen seen_is = subst (λ s. IfErr answer (StopsPut disk piece s later)) seen_is (go answer refl)
       where
         go : (r : Result (Unit {0}) ChainRefusal) → answer ≡ r → IfErr r (StopsPut disk piece earlier later)
         go (Ok done) is = tt
         go (Err x) is = stops_put piece x is (stops x is)
 
-  pub fetch_stopped_as : (stripe : ℕ) → ((x : ChainRefusal) → answer ≡ Err x → FetchEnds stripe (session_of disk old) (session_of disk new) x) → (seen : Shared (Chain S KeepAll T)) → earlier ≡ seen → IfErr answer (StopsFetch disk stripe seen later)
+  pub fetch_stopped_as : (stripe : ℕ) → ((x : ChainRefusal) → answer ≡ Err x → FetchEnds stripe (session_of disk old) (session_of disk new) x) → (seen : Shared (Chain S Ledger T)) → earlier ≡ seen → IfErr answer (StopsFetch disk stripe seen later)
   fetch_stopped_as stripe stops seen seen_is = subst (λ s. IfErr answer (StopsFetch disk stripe s later)) seen_is (go answer refl)
     where
       go : (r : Result (Unit {0}) ChainRefusal) → answer ≡ r → IfErr r (StopsFetch disk stripe earlier later)

@@ -5,7 +5,7 @@ use Rattle.guest_model.specs.declared.call.Call.{Call}
 use Rattle.guest_model.specs.declared.call.Caller.{Caller}
 use Rattle.guest_model.specs.declared.call.Entry.{Entry}
 use Rattle.guest_model.specs.declared.call.Reply.{Reply}
-use Rattle.guest_model.specs.declared.recorder.KeepAll.{KeepAll}
+use Rattle.ledger.specs.declared.ledger.Ledger.{Ledger}
 use Rattle.guest_model.specs.declared.refusal.ChainRefusal.{ChainRefusal}
 use Rattle.guest_model.specs.declared.refusal.ChainRefusal.TheVariants as refusals
 use Rattle.guest_model.specs.Calls.{reply}
@@ -58,7 +58,7 @@ module _ {S T : Type 0} where
   misplaced_in basis call cause = IfSome basis.first (λ chain. misplaced call chain.layers ≡ cause)
 
   -- Where content is told this stops a call, over the disk on which a session began.
-  abbrev pub StopsOver : (S → Disk) → Chain S KeepAll T → Call → ChainRefusal → Type 0
+  abbrev pub StopsOver : (S → Disk) → Chain S Ledger T → Call → ChainRefusal → Type 0
   StopsOver disk first call x = WhereTold (disk first.store).told (λ trace. (from : State) → IsServing first.layers from trace → from.history ≡ [] → Stops call x)
 
   -- The cause of an answer, read off the basis before the call and the one behind it.
@@ -79,15 +79,15 @@ module _ {S T : Type 0} where
   IsCausedIn disk call old new (Err other) = ⊥
 
   -- The reply is that of the disk on which a session began, with the calls of a history made on it, for each state that it served then.
-  abbrev pub RepliesBehind : (S → Disk) → Chain S KeepAll T → History → Call → Reply → Type 0
+  abbrev pub RepliesBehind : (S → Disk) → Chain S Ledger T → History → Call → Reply → Type 0
   RepliesBehind disk first h call r = WhereTold (disk first.store).told (λ trace. (from : State) → IsServing first.layers from trace → from.history ≡ [] → reply (replay (sector_of from) from.opening h) call ≡ r)
 
-  abbrev pub RepliesFrom : (S → Disk) → Shared (Chain S KeepAll T) → Call → Reply → Type 0
+  abbrev pub RepliesFrom : (S → Disk) → Shared (Chain S Ledger T) → Call → Reply → Type 0
   RepliesFrom disk s call r = RepliesBehind disk s.first s.chain.recorder call r
 
   -- What a call leaves of a shared chain: its beginning stays; its history has the call if it was done; it is what broke the session if it is
   -- the first that is told so; what the answer notes is noted; and the answer has its cause.
-  pub record IsCalled (disk : S → Disk) (who : Caller) (call : Call) (old new : Shared (Chain S KeepAll T)) (answer : Result ℕ ChainRefusal) : Type 0 where
+  pub record IsCalled (disk : S → Disk) (who : Caller) (call : Call) (old new : Shared (Chain S Ledger T)) (answer : Result ℕ ChainRefusal) : Type 0 where
     pub first : new.first ≡ old.first
     pub entered : IsEntered (entry who call) old.chain.recorder new.chain.recorder answer
     pub broke : IsBroke (breach_of who call) old.broke new.broke answer

@@ -3,7 +3,7 @@ use Rattle.std.specs.Prelude.{◌≡◌, ℕ, length, is_some, [], Option, Some,
 use Rattle.store_model.specs.Disk.{Disk, WhereBothTold}
 use Rattle.store_model.specs.Trace.{Trace}
 use Rattle.store_model.specs.declared.fault.StoreFault.{StoreFault}
-use Rattle.guest_model.specs.declared.recorder.KeepAll.{KeepAll}
+use Rattle.ledger.specs.declared.ledger.Ledger.{Ledger}
 use Rattle.guest_model.specs.History.{History, either}
 use Rattle.chain_model.specs.Moments.{EachOpens, EachOpensToPrefix}
 use Rattle.chain_core.specs.declared.chain.Chain.{Chain}
@@ -16,7 +16,7 @@ use Rattle.shared_chain.specs.Stamped.{KeepsStamps}
 use Rattle.shared_chain.specs.Steps.{open_by}
 
 -- the session of a chain whose history is kept whole
-abbrev pub session_of : {S T : Type 0} → (S → Disk) → Chain S KeepAll T → Session
+abbrev pub session_of : {S T : Type 0} → (S → Disk) → Chain S Ledger T → Session
 session_of disk chain = seen disk (λ h. length h) (λ h. Some h) chain
 
 -- A state that a session may have come to, by these calls, from one in which it had none, whatever steps of a merge were done between them: of the

@@ -1,7 +1,7 @@
 -- What a step of a merge answers and leaves of a shared chain.
 use Rattle.std.specs.Prelude.{◌≡◌, ◌≢◌, ◌+◌, ◌-◌, ◌^◌, ◌<◌, ◌≤◌, if◌then◌else◌, nat_lt, ℕ, Bool, true, [], Some, Result, Ok, Err, IfErr, MatchOption, OnOk}
 use Rattle.store_model.specs.Disk.{Disk, WhereTold}
-use Rattle.guest_model.specs.declared.recorder.KeepAll.{KeepAll}
+use Rattle.ledger.specs.declared.ledger.Ledger.{Ledger}
 use Rattle.guest_model.specs.declared.refusal.ChainRefusal.{ChainRefusal}
 use Rattle.guest_model.specs.declared.refusal.ChainRefusal.TheVariants as refusals
 use Rattle.chain_model.specs.Merges.{with_mark, with_marks}
@@ -72,7 +72,7 @@ HasMark stripe layers = MatchOption (kept_marks layers) ⊥ (λ marks. marks_of 
 module _ {S T : Type 0} where
   -- What a step leaves: the beginning and the history stay; it is what broke the session if it is the first that is told so; what it answers is
   -- noted, and what it copied or finished.
-  pub record IsStepped (disk : S → Disk) (step : MergeStep) (old new : Shared (Chain S KeepAll T)) (answer : Result (Unit {0}) ChainRefusal) : Type 0 where
+  pub record IsStepped (disk : S → Disk) (step : MergeStep) (old new : Shared (Chain S Ledger T)) (answer : Result (Unit {0}) ChainRefusal) : Type 0 where
     pub first : new.first ≡ old.first
     pub history : new.chain.recorder ≡ old.chain.recorder
     pub broke : new.broke ≡ broke_after old.broke merge_breach (as_answer answer)
@@ -87,7 +87,7 @@ module _ {S T : Type 0} where
 
   -- So many stripes from one on are passed over: those of which one look at the source's entries tells that it has nothing, no more than the disk
   -- has. The merge has their marks too, and no other; no file is changed.
-  pub record PassesOver (disk : S → Disk) (stripe n : ℕ) (old new : Chain S KeepAll T) : Type 0 where
+  pub record PassesOver (disk : S → Disk) (stripe n : ℕ) (old new : Chain S Ledger T) : Type 0 where
     pub absent : PassesSource stripe n old.layers (disk old.store)
     pub there : stripe + n ≤ stripe_count old.layers.geometry.sector old.layers.geometry.sectors
     pub marked : HasPassed stripe n old.layers new.layers
@@ -95,7 +95,7 @@ module _ {S T : Type 0} where
 
   -- Why a stripe isn't fetched: no merge is under way; the disk has fewer stripes; the count of events is used up; a read failed, which is noted
   -- anew, or whose count is at its end; or a fault has broken the session.
-  abbrev pub StopsFetch : (S → Disk) → ℕ → Shared (Chain S KeepAll T) → Shared (Chain S KeepAll T) → ChainRefusal → Type 0
+  abbrev pub StopsFetch : (S → Disk) → ℕ → Shared (Chain S Ledger T) → Shared (Chain S Ledger T) → ChainRefusal → Type 0
   StopsFetch disk stripe old new refusals.NoMerge = HasNoMerge new.chain.layers
   StopsFetch disk stripe old new (refusals.NoStripe s stripes) = (s ≡ stripe) × (stripes ≤ stripe) × (stripes ≡ stripe_count new.chain.layers.geometry.sector new.chain.layers.geometry.sectors)
   StopsFetch disk stripe old new (refusals.Spent t) = (2 ^ 63 ≤ t) × (t ≤ new.chain.events)
@@ -105,14 +105,14 @@ module _ {S T : Type 0} where
 
   -- Why what was fetched of a stripe isn't put: what stops a fetch of it stops that too; or the target is full; or the stripe has another stamp
   -- now, that of the history, than the piece.
-  abbrev pub StopsPut : (S → Disk) → Piece → Shared (Chain S KeepAll T) → Shared (Chain S KeepAll T) → ChainRefusal → Type 0
+  abbrev pub StopsPut : (S → Disk) → Piece → Shared (Chain S Ledger T) → Shared (Chain S Ledger T) → ChainRefusal → Type 0
   StopsPut disk piece old new (refusals.FileFull next) = HasNote (notes_of disk new) (notes.Full next)
   StopsPut disk piece old new (refusals.Stale taken now) = (taken ≡ piece.stamp) × (now ≡ stamp_behind new.first.layers.retiring new.chain.recorder piece.stripe) × (taken ≢ now)
   StopsPut disk piece old new x = StopsFetch disk piece.stripe old new x
 
   -- Why a merge isn't finished at the end: the count of events is used up; a file is full, near the greatest place that a block may have, or a
   -- read failed, the merge being under way still; or a fault has broken the session.
-  abbrev pub StopsEnd : (S → Disk) → Shared (Chain S KeepAll T) → ChainRefusal → Type 0
+  abbrev pub StopsEnd : (S → Disk) → Shared (Chain S Ledger T) → ChainRefusal → Type 0
   StopsEnd disk new (refusals.Spent t) = (2 ^ 63 ≤ t) × (t ≤ new.chain.events)
   StopsEnd disk new (refusals.FileFull next) =
       (has_merge new.chain.layers ≡ true) × HasNote (notes_of disk new) (notes.Full next)
@@ -122,7 +122,7 @@ module _ {S T : Type 0} where
   StopsEnd disk new other = ⊥
 
   -- All that was missing of the merge is copied, and it is finished; or that was stopped.
-  pub record IsMerged (disk : S → Disk) (old new : Shared (Chain S KeepAll T)) (answer : Result (Unit {0}) ChainRefusal) : Type 0 where
+  pub record IsMerged (disk : S → Disk) (old new : Shared (Chain S Ledger T)) (answer : Result (Unit {0}) ChainRefusal) : Type 0 where
     pub stepped : IsStepped disk ends old new answer
     pub done : OnOk answer (HasNoMerge new.chain.layers)
     pub stopped : IfErr answer (StopsEnd disk new)

@@ -1,7 +1,8 @@
 //! What a seat knows for good of a chain, and what the history that threads share is made of.
 
 use chain_core::Chain;
-use guest_model::{Entry, KeepAll};
+use guest_model::Entry;
+use ledger::Ledger;
 use std::collections::LinkedList;
 use store_model::Store;
 
@@ -18,7 +19,7 @@ pub enum Note {
 /// What holds of a chain for good: how it was when its session had begun, and what its events have noted. No value of it is made.
 pub struct Basis<S: Store> {
     /// None in the basis of nobody.
-    pub first: Option<Chain<S, KeepAll>>,
+    pub first: Option<Chain<S, Ledger>>,
     pub notes: LinkedList<Note>,
     /// How many events it had at least.
     pub events: u64,

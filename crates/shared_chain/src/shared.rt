@@ -21,7 +21,8 @@ ghost use Rattle.shared_chain.specs.Ends.{EndsMerge, is_no_merge};
 
 use crate::basis::Breach;
 use chain_core::Chain;
-use guest_model::{Caller, ChainRefusal, KeepAll};
+use guest_model::{Caller, ChainRefusal};
+use ledger::Ledger;
 use merge_core::{Marks, Piece};
 use read_plan::{Plan, ReaderSet};
 use script_session::{copy, fetch, finish, put};
@@ -37,9 +38,9 @@ const SECTOR: u64 = 512;
 /// that history.
 pub struct SharedChain<S: Store> {
     // on the heap, so that a turn hands on a pointer
-    chain: Box<Chain<S, KeepAll>>,
+    chain: Box<Chain<S, Ledger>>,
     // how it was when its session had begun
-    first: Snapshot<Chain<S, KeepAll>>,
+    first: Snapshot<Chain<S, Ledger>>,
     // the greatest unit that a call was refused at for want of room
     full: Option<u64>,
     // the call that broke the session
@@ -53,11 +54,11 @@ pub struct SharedChain<S: Store> {
 }
 
 impl<S: Store> Model for SharedChain<S> {
-    ghost use Rattle.guest_model.specs.declared.recorder.KeepAll.{KeepAll};
+    ghost use Rattle.ledger.specs.declared.ledger.Ledger.{Ledger};
     ghost use Rattle.chain_core.specs.declared.chain.Chain.{Chain};
     ghost use Rattle.shared_chain.specs.Shared.{Shared};
 
-    ghost Value = { Shared (Chain S KeepAll S.R) };
+    ghost Value = { Shared (Chain S Ledger S.R) };
 
     ghost use Rattle.shared_chain.specs.Homes.{IsHome, session_of};
 
@@ -132,9 +133,9 @@ fn broke_by_merge(broke: Option<Breach>, answer: Result<u64, ChainRefusal>) -> O
 // A chain on the heap, and room for so many stripes; or the chain as it was, where there is no memory.
 fn room_for<S: Store>(
     alloc: Global,
-    chain: Chain<S, KeepAll>,
+    chain: Chain<S, Ledger>,
     stripes: u32,
-) -> Result<(Box<Chain<S, KeepAll>>, Marks), Chain<S, KeepAll>>
+) -> Result<(Box<Chain<S, Ledger>>, Marks), Chain<S, Ledger>>
     ensures chain { IfOk result (λ made. made.0.value ≡ chain) }
     ensures stripes { IfOk result (λ made. made.1.stripes ≡ stripes) }
     ensures none { IfOk result (λ made. (t : ℕ) → marks_of made.1 t ≡ false) }
@@ -218,7 +219,7 @@ fn is_no_merge(answer: Result<(), ChainRefusal>) -> bool
 
 // Copies what is missing of a merge, and finishes it; where none is under way nothing is left to be done.
 fn merge_rest<S: Store>(
-    chain: &mut Chain<S, KeepAll>,
+    chain: &mut Chain<S, Ledger>,
     piece: &mut Piece,
 ) -> Result<(), ChainRefusal>
     requires sound { IsSound (session_of S.disk chain.old) }
@@ -235,7 +236,7 @@ fn merge_rest<S: Store>(
 
 /// Ends a session that has just begun, and had no call. The store comes back, and how the session ended. A fault that was met before, if a read
 /// failed, is counted still.
-pub fn end_fresh<S: Store>(chain: Chain<S, KeepAll>) -> (S, Result<(), StoreFault>)
+pub fn end_fresh<S: Store>(chain: Chain<S, Ledger>) -> (S, Result<(), StoreFault>)
     requires sound { IsSound (session_of S.disk chain) }
     requires whole { chain.broken ≡ None }
     ensures ended { IsEnded (session_of S.disk chain) (S.disk result.0) result.1 }
@@ -251,7 +252,7 @@ impl<S: Store> SharedChain<S> {
     /// for it the session is ended, as by `close`: the store comes back, and how the session ended.
     pub fn new(
         alloc: Global,
-        chain: Chain<S, KeepAll>,
+        chain: Chain<S, Ledger>,
         stripes: u32,
     ) -> Result<SharedChain<S>, (S, Result<(), StoreFault>)>
         requires sound { IsSound (session_of S.disk chain) }
@@ -439,7 +440,7 @@ impl<S: Store> SharedChain<S> {
 
     /// Ends the session of every file that has one. Gives back the store and the history, and tells the last fault that a call was refused
     /// by, and how the session ended: one that a fault broke answers it, and its files are written no more.
-    pub fn close(self) -> (S, KeepAll, Option<StoreFault>, Result<(), StoreFault>)
+    pub fn close(self) -> (S, Ledger, Option<StoreFault>, Result<(), StoreFault>)
         ensures history { result.1 ≡ self.chain.recorder }
         ensures fault { result.2 ≡ self.fault }
         ensures ended { IsEnded (session_of S.disk self.chain) (S.disk result.0) result.3 }

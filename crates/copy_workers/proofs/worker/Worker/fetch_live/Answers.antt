@@ -1,5 +1,5 @@
 use Rattle.std.proofs.Common.{ap, arith, inl, subst, sym}
-use Rattle.guest_model.specs.declared.recorder.KeepAll.{KeepAll}
+use Rattle.ledger.specs.declared.ledger.Ledger.{Ledger}
 use Rattle.chain_core.specs.declared.chain.Chain.{Chain}
 use Rattle.shared_chain.specs.Bases.{Contains, basis_of}
 use Rattle.shared_chain.specs.Merging.{fetches}
@@ -19,7 +19,7 @@ returns-clause-worked g c =
 pub returns-clause-stopped : goal.returns-clause-stopped
 returns-clause-stopped g c =
     let disk = g.S.Store.disk in
-    let knows = subst (λ (v : Shared (Chain g.row.S.Denot KeepAll g.row.S-R.Denot)). Contains (basis_of disk v) c.args.self.now.seat.basis) (sym c.value.ensures.value) c.in-Ok.ensures.ok.covers in
+    let knows = subst (λ (v : Shared (Chain g.row.S.Denot Ledger g.row.S-R.Denot)). Contains (basis_of disk v) c.args.self.now.seat.basis) (sym c.value.ensures.value) c.in-Ok.ensures.ok.covers in
     fetch_stops disk c.args.stripe c.fetch_stripe-answer.result c.args.self.now.seat c.unlock.new.seat c.value.result.now c.fetch_stripe-answer.new.self c.fetch_stripe-answer.ensures.stepped c.fetch_stripe-answer.ensures.stopped knows (ap (λ s. s.basis) c.unlock.ensures)
 
 pub returns-clause-filled : goal.returns-clause-filled

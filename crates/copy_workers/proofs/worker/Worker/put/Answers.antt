@@ -1,6 +1,6 @@
 use Rattle.std.proofs.Common.{ap, inl, inr, subst, sym}
 use Rattle.guest_model.specs.declared.refusal.ChainRefusal.TheVariants.{Spent}
-use Rattle.guest_model.specs.declared.recorder.KeepAll.{KeepAll}
+use Rattle.ledger.specs.declared.ledger.Ledger.{Ledger}
 use Rattle.chain_core.specs.declared.chain.Chain.{Chain}
 use Rattle.shared_chain.specs.Bases.{Contains, basis_of}
 use Rattle.shared_chain.specs.Shared.{Shared}
@@ -13,8 +13,8 @@ use Rattle.copy_workers.proofs.worker.Worker.put.Goals as goal
 pub put_or_pass-answer-requires : goal.put_or_pass-answer-requires
 put_or_pass-answer-requires g c =
     let disk = g.S.Store.disk in
-    let knows = subst (λ (v : Shared (Chain g.row.S.Denot KeepAll g.row.S-R.Denot)). Contains (basis_of disk v) c.args.self.now.seat.basis) (sym c.value.ensures.value) c.in-Ok.ensures.ok.covers in
-    let seen = subst (λ (v : Shared (Chain g.row.S.Denot KeepAll g.row.S-R.Denot)). StartsWith (steps_of v.chain.recorder v.broke) c.args.self.now.seat.seen) (sym c.value.ensures.value) c.in-Ok.ensures.ok.history in
+    let knows = subst (λ (v : Shared (Chain g.row.S.Denot Ledger g.row.S-R.Denot)). Contains (basis_of disk v) c.args.self.now.seat.basis) (sym c.value.ensures.value) c.in-Ok.ensures.ok.covers in
+    let seen = subst (λ (v : Shared (Chain g.row.S.Denot Ledger g.row.S-R.Denot)). StartsWith (steps_of v.chain.recorder v.broke) c.args.self.now.seat.seen) (sym c.value.ensures.value) c.in-Ok.ensures.ok.history in
     (was_fetched disk c.args.self.now.seat c.value.result.now c.args.self.now.piece knows seen (c.requires.fetched c.requires.filled).1).1
 
 pub unlock-requires-clause-turn : goal.unlock-requires-clause-turn
@@ -29,8 +29,8 @@ returns-clause-worked g c =
 pub returns-clause-swept : goal.returns-clause-swept
 returns-clause-swept g c =
     let disk = g.S.Store.disk in
-    let knows = subst (λ (v : Shared (Chain g.row.S.Denot KeepAll g.row.S-R.Denot)). Contains (basis_of disk v) c.args.self.now.seat.basis) (sym c.value.ensures.value) c.in-Ok.ensures.ok.covers in
-    let seen = subst (λ (v : Shared (Chain g.row.S.Denot KeepAll g.row.S-R.Denot)). StartsWith (steps_of v.chain.recorder v.broke) c.args.self.now.seat.seen) (sym c.value.ensures.value) c.in-Ok.ensures.ok.history in
+    let knows = subst (λ (v : Shared (Chain g.row.S.Denot Ledger g.row.S-R.Denot)). Contains (basis_of disk v) c.args.self.now.seat.basis) (sym c.value.ensures.value) c.in-Ok.ensures.ok.covers in
+    let seen = subst (λ (v : Shared (Chain g.row.S.Denot Ledger g.row.S-R.Denot)). StartsWith (steps_of v.chain.recorder v.broke) c.args.self.now.seat.seen) (sym c.value.ensures.value) c.in-Ok.ensures.ok.history in
     settled_swept disk c.args.self.now.piece c.put_or_pass-answer.result c.args.self.now.seat c.unlock.new.seat c.value.result.now c.put_or_pass-answer.new.chain c.put_or_pass-answer.ensures knows
     (was_fetched disk c.args.self.now.seat c.value.result.now c.args.self.now.piece knows seen (c.requires.fetched c.requires.filled).1).0 seen (ap (λ s. s.seen) c.unlock.ensures) (ap (λ s. s.basis) c.unlock.ensures)
 

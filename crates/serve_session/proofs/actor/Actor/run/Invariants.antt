@@ -1,5 +1,5 @@
 use Rattle.std.proofs.Common.{◌≡◌, [], length, map, take}
-use Rattle.guest_model.specs.declared.recorder.KeepAll.{KeepAll}
+use Rattle.ledger.specs.declared.ledger.Ledger.{Ledger}
 use Rattle.chain_core.specs.declared.chain.Chain.{Chain}
 use Rattle.guest_io.specs.Guests.{HaveReaders}
 use Rattle.shared_chain.specs.Seats.{IsFree}
@@ -14,6 +14,6 @@ invariant-loop-line g l = record {
   readers : HaveReaders g.S.Store.disk l.self.guest.seat.basis l.self.guest.readers;
   room : length l.self.room.items ≡ 1048576;
   number : l.self.number ≡ l.fn.self.number;
-  ran : (first : Chain g.row.S.Denot KeepAll g.row.S-R.Denot) → IsActor g.S.Store.disk first l.lock (map g.N.AsStr.text l.names) [] l.fn.self
+  ran : (first : Chain g.row.S.Denot Ledger g.row.S-R.Denot) → IsActor g.S.Store.disk first l.lock (map g.N.AsStr.text l.names) [] l.fn.self
       → IsActor g.S.Store.disk first l.lock (map g.N.AsStr.text l.names) (forms_of l.fn.self.number (take l.line-index l.lines)) l.self;
 }

@@ -1,6 +1,6 @@
 use Rattle.std.proofs.Common.{ap, arith, subst, sym, ◌∙◌}
 use Rattle.merge_core.specs.Pieces.{piece_of}
-use Rattle.guest_model.specs.declared.recorder.KeepAll.{KeepAll}
+use Rattle.ledger.specs.declared.ledger.Ledger.{Ledger}
 use Rattle.chain_core.specs.declared.chain.Chain.{Chain}
 use Rattle.chain_core.specs.Merging.{IsTruePiece}
 use Rattle.script_session.specs.MergeSteps.{AnswersPut}
@@ -22,7 +22,7 @@ use Rattle.shared_chain.proofs.shared.SharedChain.put_stripe.Goals as goal
 pub returns-clause-stepped : goal.returns-clause-stepped
 returns-clause-stepped g c =
     let disk = g.S.Store.disk in
-    let was = subst (λ (s : Shared (Chain g.row.S.Denot KeepAll g.row.S-R.Denot)). WasFetched disk (steps_of s.chain.recorder s.broke) s.first c.args.piece.now) (sym c.self.view_is) c.requires in
+    let was = subst (λ (s : Shared (Chain g.row.S.Denot Ledger g.row.S-R.Denot)). WasFetched disk (steps_of s.chain.recorder s.broke) s.first c.args.piece.now) (sym c.self.view_is) c.requires in
     let old = c.self.inside.chain.value in
     let new = c.put-done.new.chain in
     let turn = subst (λ o. AnswersPut c.args.piece.now c.put-done.result (session_of disk o) (session_of disk new)) c.deref_mut.ensures.value c.put-done.ensures.answers in
@@ -37,7 +37,7 @@ returns-clause-stepped g c =
 pub returns-clause-stopped : goal.returns-clause-stopped
 returns-clause-stopped g c =
     let disk = g.S.Store.disk in
-    let was = subst (λ (s : Shared (Chain g.row.S.Denot KeepAll g.row.S-R.Denot)). WasFetched disk (steps_of s.chain.recorder s.broke) s.first c.args.piece.now) (sym c.self.view_is) c.requires in
+    let was = subst (λ (s : Shared (Chain g.row.S.Denot Ledger g.row.S-R.Denot)). WasFetched disk (steps_of s.chain.recorder s.broke) s.first c.args.piece.now) (sym c.self.view_is) c.requires in
     let old = c.self.inside.chain.value in
     let new = c.put-done.new.chain in
     let turn = subst (λ o. AnswersPut c.args.piece.now c.put-done.result (session_of disk o) (session_of disk new)) c.deref_mut.ensures.value c.put-done.ensures.answers in
@@ -55,7 +55,7 @@ returns-clause-copied g c =
 pub invariant_of-self : goal.invariant_of-self
 invariant_of-self g c =
     let disk = g.S.Store.disk in
-    let was = subst (λ (s : Shared (Chain g.row.S.Denot KeepAll g.row.S-R.Denot)). WasFetched disk (steps_of s.chain.recorder s.broke) s.first c.args.piece.now) (sym c.self.view_is) c.requires in
+    let was = subst (λ (s : Shared (Chain g.row.S.Denot Ledger g.row.S-R.Denot)). WasFetched disk (steps_of s.chain.recorder s.broke) s.first c.args.piece.now) (sym c.self.view_is) c.requires in
     let old = c.self.inside.chain.value in
     let new = c.put-done.new.chain in
     let turn = subst (λ o. AnswersPut c.args.piece.now c.put-done.result (session_of disk o) (session_of disk new)) c.deref_mut.ensures.value c.put-done.ensures.answers in
@@ -68,5 +68,5 @@ invariant_of-self g c =
 pub put-done-requires-clause-slot : goal.put-done-requires-clause-slot
 put-done-requires-clause-slot g c filled =
     let disk = g.S.Store.disk in
-    let was = subst (λ (s : Shared (Chain g.row.S.Denot KeepAll g.row.S-R.Denot)). WasFetched disk (steps_of s.chain.recorder s.broke) s.first c.args.piece.now) (sym c.self.view_is) c.requires in
+    let was = subst (λ (s : Shared (Chain g.row.S.Denot Ledger g.row.S-R.Denot)). WasFetched disk (steps_of s.chain.recorder s.broke) s.first c.args.piece.now) (sym c.self.view_is) c.requires in
     subst (λ k. FitsDisk k.layers.geometry c.args.piece.now) (sym c.deref_mut.ensures.value) (subst (λ k. FitsDisk k c.args.piece.now) (sym c.self.invariant.geometry) was.fetched.fits)
