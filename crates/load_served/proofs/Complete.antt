@@ -154,7 +154,7 @@ module _ (drive : Drive) (h : History) (ended : Option StoreFault) (guest : ℕ)
   own_tolds number (form ∷ forms) (Err refusal ∷ outcomes) = own_tolds (number + 1) forms outcomes
 
   -- where they stand
-  told_at : (number : ℕ) (forms : List Form) (outcomes : List Outcome) → length outcomes ≡ length forms → Answered guest outcomes → AreOutcomes drive h ended guest number (map call_of forms) outcomes
+  told_at : (number : ℕ) (forms : List Form) (outcomes : List Outcome) → length outcomes ≡ length forms → Answered guest outcomes → AreOutcomes drive h ended false guest number (map call_of forms) outcomes
       → EachAt (IsToldAt 512 drive.opening h) (places_in outcomes) (tolds number forms outcomes)
   unfolding tolds
   told_at number [] [] same answered told = tt
@@ -168,7 +168,7 @@ module _ (drive : Drive) (h : History) (ended : Option StoreFault) (guest : ℕ)
   told_at number (form ∷ forms) (Ok (place, Err fault) ∷ outcomes) same answered told = absurd (omega (arith, answered.1))
   told_at number (form ∷ forms) (Err refusal ∷ outcomes) same answered told = let never : Some refusal ≡ None = answered.0 in cc
 
-  stand_at : (number : ℕ) (forms : List Form) (outcomes : List Outcome) → length outcomes ≡ length forms → Answered guest outcomes → AreOutcomes drive h ended guest number (map call_of forms) outcomes
+  stand_at : (number : ℕ) (forms : List Form) (outcomes : List Outcome) → length outcomes ≡ length forms → Answered guest outcomes → AreOutcomes drive h ended false guest number (map call_of forms) outcomes
       → EachAt (StandsAt h) (places_in outcomes) (entries_from guest number forms)
   stand_at number [] [] same answered told = tt
   stand_at number [] (o ∷ outcomes) same answered told = absurd (omega (arith, same))
@@ -238,7 +238,7 @@ module _ (merges : Bool) (drive : Drive) (lines : List Line) (guests : List (Lis
     | inl is ↦
         subst (λ fs. EachAt (StandsAt h) (places_in (told_by g 1 guests)) (entries_from g 1 fs)) (same_forms g lines)
         (stand_at drive h ended g 1 (forms_of g lines) (told_by g 1 guests) (all_made g is.0 is.1) (each_told Answered 1 g guests answered is.0 is.1)
-        (each_told (λ g os. AreOutcomes drive h ended g 1 (map call_of (forms_of g lines)) os) 1 g guests s.told is.0 is.1))
+        (each_told (λ g os. AreOutcomes drive h ended false g 1 (map call_of (forms_of g lines)) os) 1 g guests s.told is.0 is.1))
     | inr off ↦
         subst (λ os. EachAt (StandsAt h) (places_in os) (entries_from g 1 (loads.forms_of g lines))) (sym (none_told 1 g guests off))
         (subst (λ fs. EachAt (StandsAt h) [] (entries_from g 1 fs)) (sym (no_forms (length guests) g lines own off)) tt)
@@ -260,7 +260,7 @@ module _ (merges : Bool) (drive : Drive) (lines : List Line) (guests : List (Lis
   are_told g = elim (in_or_off 1 (length guests) g) [
     | inl is ↦
         told_at drive h ended g 1 (forms_of g lines) (told_by g 1 guests) (all_made g is.0 is.1) (each_told Answered 1 g guests answered is.0 is.1)
-        (each_told (λ g os. AreOutcomes drive h ended g 1 (map call_of (forms_of g lines)) os) 1 g guests s.told is.0 is.1)
+        (each_told (λ g os. AreOutcomes drive h ended false g 1 (map call_of (forms_of g lines)) os) 1 g guests s.told is.0 is.1)
     | inr off ↦
         subst (λ os. EachAt (IsToldAt 512 drive.opening h) (places_in os) (tolds drive h ended g 1 (forms_of g lines) os)) (sym (none_told 1 g guests off))
         (subst (λ ts. EachAt (IsToldAt 512 drive.opening h) [] ts) (sym (none_tolds g (forms_of g lines))) tt)

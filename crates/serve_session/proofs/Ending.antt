@@ -49,7 +49,7 @@ use Rattle.shared_chain.specs.Shared.{Shared}
 use Rattle.shared_chain.specs.Steps.{broke_step, done_steps, merge_breach, open_by as opens_by, steps_of}
 use Rattle.shared_chain.specs.Seats.{MergeBreaksAt}
 use Rattle.serve_session.specs.Actors.{AreHeard, AreJoined, HasBreach, HasBreacher, IsHeard, IsHeardOf, IsOwned, OwnsAt, first_notes}
-use Rattle.serve_session.specs.Served.{AreOutcomes, AreServed, Asking, EachGuest, Has, HasBreaker, HasBroken, IsBreakOf, IsOutcome, IsRefused, IsTranscript, Outcome, SomeGuest, all_told, all_unread, asked_by, entry_of, forms_of, is_broken, is_full, is_misplaced, is_unread, places_in, told_guests, told_of, unread_in}
+use Rattle.serve_session.specs.Served.{AreOutcomes, AreServed, Asking, EachGuest, Has, HasBreaker, HasBroken, IsBreakOf, IsOutcome, IsRefused, IsTranscript, Outcome, SomeGuest, all_told, all_unread, asked_by, entry_of, forms_of, has_no_room, is_broken, is_full, is_misplaced, is_unread, places_in, told_guests, told_of, unread_in}
 use Rattle.serve_session.specs.Serving.{drive_from}
 use Rattle.serve_session.proofs.Hearing.{nothing}
 use Rattle.serve_session.specs.Written.{AreKept}
@@ -262,16 +262,16 @@ module _ {S T : Type 0} (disk : S → Disk) (first : Chain S Ledger T) where
     begins : StartsWith seen (done_steps before ++ Done (entry_of guest no call) ∷ [])
     place_is : p ≡ length before + 1
 
-  heard_at : (seat : Known Step (Basis S T)) (guest number p : ℕ) (calls : List Call) (outcomes : List Outcome) → AreHeard disk first seat guest number calls outcomes → Has p (places_in outcomes) → At seat.seen guest number outcomes p
-  heard_at seat guest number p calls [] h has = absurd has
-  heard_at seat guest number p [] (o ∷ outcomes) h has = absurd h
-  heard_at seat guest number p (c ∷ calls) (Err x ∷ outcomes) h has =
-      let a = heard_at seat guest (number + 1) p calls outcomes h.1 has in
+  heard_at : (tells : Bool) (seat : Known Step (Basis S T)) (guest number p : ℕ) (calls : List Call) (outcomes : List Outcome) → AreHeard disk first tells seat guest number calls outcomes → Has p (places_in outcomes) → At seat.seen guest number outcomes p
+  heard_at tells seat guest number p calls [] h has = absurd has
+  heard_at tells seat guest number p [] (o ∷ outcomes) h has = absurd h
+  heard_at tells seat guest number p (c ∷ calls) (Err x ∷ outcomes) h has =
+      let a = heard_at tells seat guest (number + 1) p calls outcomes h.1 has in
       record { no = a.no; call = a.call; before = a.before; low = omega (arith, a.low); high = omega (arith, a.high); begins = a.begins; place_is = a.place_is }
-  heard_at seat guest number p (c ∷ calls) (Ok done ∷ outcomes) h (inl e) =
+  heard_at tells seat guest number p (c ∷ calls) (Ok done ∷ outcomes) h (inl e) =
       record { no = number; call = c; before = h.0.before; low = omega arith; high = omega arith; begins = h.0.begins; place_is = e ∙ h.0.place_is }
-  heard_at seat guest number p (c ∷ calls) (Ok done ∷ outcomes) h (inr has) =
-      let a = heard_at seat guest (number + 1) p calls outcomes h.1 has in
+  heard_at tells seat guest number p (c ∷ calls) (Ok done ∷ outcomes) h (inr has) =
+      let a = heard_at tells seat guest (number + 1) p calls outcomes h.1 has in
       record { no = a.no; call = a.call; before = a.before; low = omega (arith, a.low); high = omega (arith, a.high); begins = a.begins; place_is = a.place_is }
 
   module _ (merges : Bool) (lock : TableId) (asking : Asking) (seat : Known Step (Basis S T)) (guests : List (List Outcome)) (j : AreJoined disk first merges lock asking seat guests)
@@ -296,7 +296,7 @@ module _ {S T : Type 0} (disk : S → Disk) (first : Chain S Ledger T) where
     Owned p guest outcomes = OwnsAt seat.seen p guest (asking.calls guest) outcomes
 
     abbrev Heard : ℕ → List Outcome → Type 0
-    Heard guest outcomes = AreHeard disk first seat guest 1 (asking.calls guest) outcomes
+    Heard guest outcomes = AreHeard disk first asking.tells_want seat guest 1 (asking.calls guest) outcomes
 
     owner : (p : ℕ) → 1 ≤ p → p ≤ length seat.seen → IsOwned merges seat.seen p asking guests
     owner p low high = j.owns p (own p low high)
@@ -339,7 +339,7 @@ module _ {S T : Type 0} (disk : S → Disk) (first : Chain S Ledger T) where
 
       by_owner : (g : ℕ) (os : List Outcome) → Heard g os → Owned (length h + 1) g os → HasBreacher b g 1 (asking.calls g) os
       by_owner g os heard (inl has) =
-          let a = heard_at seat g 1 (length h + 1) (asking.calls g) os heard has in
+          let a = heard_at asking.tells_want seat g 1 (length h + 1) (asking.calls g) os heard has in
           let starts = starts-length h (a.before ++ entry_of g a.no a.call ∷ []) (starts_more h a.before broke (entry_of g a.no a.call) (as_history a.begins)) in
           absurd (omega (arith, a.place_is, starts, length-append a.before (entry_of g a.no a.call ∷ [])))
       by_owner g os heard (inr x) =
@@ -407,7 +407,7 @@ module _ {S T : Type 0} (disk : S → Disk) (first : Chain S Ledger T) where
     abbrev IsOfStore : StoreFault → Type 0
     IsOfStore fault = fault.file < (disk first.store).files
 
-    unread_heard : (guest number : ℕ) (calls : List Call) (outcomes : List Outcome) → AreHeard disk first seat guest number calls outcomes → AllByRecursion IsOfStore (unread_in outcomes)
+    unread_heard : (guest number : ℕ) (calls : List Call) (outcomes : List Outcome) → AreHeard disk first asking.tells_want seat guest number calls outcomes → AllByRecursion IsOfStore (unread_in outcomes)
     unread_heard guest number calls [] k = tt
     unread_heard guest number [] (o ∷ outcomes) k = absurd k
     unread_heard guest number (c ∷ calls) (Ok (place, Ok reply) ∷ outcomes) k = unread_heard guest (number + 1) calls outcomes k.1
@@ -433,7 +433,7 @@ module _ {S T : Type 0} (disk : S → Disk) (first : Chain S Ledger T) where
           by_count (inr many) = absurd (omega (arith, many, k.0, basis.events, few))
 
       module _ (from : State) (size : sector_of from ≡ 512) (trace : Trace) (store_told : (disk first.store).told ≡ Some trace) (serving : IsServing first.layers from trace) (empty : from.history ≡ []) where
-        refused_by : (noted_call : Call) (x : ChainRefusal) → IsHeardOf disk first seat noted_call x → IsRefused (drive_from first from) (failed_by closed) noted_call x
+        refused_by : (noted_call : Call) (x : ChainRefusal) → IsHeardOf disk first asking.tells_want seat noted_call x → IsRefused (drive_from first from) (failed_by closed) asking.tells_want noted_call x
         refused_by call EmptyRange k = is_misplaced EmptyRange k
         refused_by call (OutOfRange a b c) k = is_misplaced (OutOfRange a b c) k
         refused_by call (TooLong a b) k = is_misplaced (TooLong a b) k
@@ -448,9 +448,9 @@ module _ {S T : Type 0} (disk : S → Disk) (first : Chain S Ledger T) where
         refused_by call (Abandoned file count) k = absurd k
         refused_by call (NoStripe stripe stripes) k = absurd k
         refused_by call NoPiece k = absurd k
-        refused_by call NoRoom k = absurd k
+        refused_by call NoRoom k = has_no_room k
 
-        outcome_is : (guest number : ℕ) (call : Call) (o : Outcome) → IsHeard disk first seat guest number call o → IsOutcome (drive_from first from) h (failed_by closed) guest number call o
+        outcome_is : (guest number : ℕ) (call : Call) (o : Outcome) → IsHeard disk first asking.tells_want seat guest number call o → IsOutcome (drive_from first from) h (failed_by closed) asking.tells_want guest number call o
         outcome_is guest number call (Ok done) k = record {
           before = k.before;
           begins = starts_more h k.before broke (entry_of guest number call) (as_history k.begins);
@@ -461,14 +461,14 @@ module _ {S T : Type 0} (disk : S → Disk) (first : Chain S Ledger T) where
         }
         outcome_is guest number call (Err x) k = refused_by call x k
 
-        outcomes_are : (guest number : ℕ) (calls : List Call) (outcomes : List Outcome) → AreHeard disk first seat guest number calls outcomes → AreOutcomes (drive_from first from) h (failed_by closed) guest number calls outcomes
+        outcomes_are : (guest number : ℕ) (calls : List Call) (outcomes : List Outcome) → AreHeard disk first asking.tells_want seat guest number calls outcomes → AreOutcomes (drive_from first from) h (failed_by closed) asking.tells_want guest number calls outcomes
         outcomes_are guest number calls [] k = tt
         outcomes_are guest number [] (o ∷ outcomes) k = absurd k
         outcomes_are guest number (c ∷ calls) (o ∷ outcomes) k = (outcome_is guest number c o k.0, outcomes_are guest (number + 1) calls outcomes k.1)
 
         pub served : AreServed merges (drive_from first from) asking guests h (failed_by closed) w.broken
         served = record {
-          told = each_map Heard (λ guest outcomes. AreOutcomes (drive_from first from) h (failed_by closed) guest 1 (asking.calls guest) outcomes) 1 guests (λ g os. outcomes_are g 1 (asking.calls g) os) j.heard;
+          told = each_map Heard (λ guest outcomes. AreOutcomes (drive_from first from) h (failed_by closed) asking.tells_want guest 1 (asking.calls guest) outcomes) 1 guests (λ g os. outcomes_are g 1 (asking.calls g) os) j.heard;
           order = j.order;
           unread = j.unread;
           all = all_places;
@@ -487,7 +487,7 @@ module _ {S T : Type 0} (disk : S → Disk) (first : Chain S Ledger T) where
         abbrev IsFault : Told → Type 0
         IsFault t = IfErr t (IsFaultOf (disk first.store).files after.failed_reads (failed_by closed))
 
-        read_told : (call : Call) (file count : ℕ) → (disk v.chain.store).files ≡ (disk first.store).files → IsHeardOf disk first seat call (ReadFault file count) → IsFault (Err (ReadFault file count))
+        read_told : (call : Call) (file count : ℕ) → (disk v.chain.store).files ≡ (disk first.store).files → IsHeardOf disk first asking.tells_want seat call (ReadFault file count) → IsFault (Err (ReadFault file count))
         read_told call file count files k =
             let n = read_noted file count (disk v.chain.store) v.chain.broken v.full (basis.notes (notes.ReadFailed file count) k.1) in
             let there : file < (disk first.store).files = subst (λ m. file < m) files n.0 in
@@ -500,7 +500,7 @@ module _ {S T : Type 0} (disk : S → Disk) (first : Chain S Ledger T) where
         files : (disk v.chain.store).files ≡ (disk first.store).files
         files = sym (files_stay (session_of disk v.chain) after closed ended) ∙ counted.files
 
-        fault_told : (call : Call) (x : ChainRefusal) → IsHeardOf disk first seat call x → IsFault (Err x)
+        fault_told : (call : Call) (x : ChainRefusal) → IsHeardOf disk first asking.tells_want seat call x → IsFault (Err x)
         fault_told call EmptyRange k = tt
         fault_told call (OutOfRange a b c) k = tt
         fault_told call (TooLong a b) k = tt
@@ -517,7 +517,7 @@ module _ {S T : Type 0} (disk : S → Disk) (first : Chain S Ledger T) where
         fault_told call NoPiece k = tt
         fault_told call NoRoom k = tt
 
-        faults_heard : (guest number : ℕ) (calls : List Call) (outcomes : List Outcome) → AreHeard disk first seat guest number calls outcomes → AllByRecursion IsFault (flat_map told_of outcomes)
+        faults_heard : (guest number : ℕ) (calls : List Call) (outcomes : List Outcome) → AreHeard disk first asking.tells_want seat guest number calls outcomes → AllByRecursion IsFault (flat_map told_of outcomes)
         faults_heard guest number calls [] k = tt
         faults_heard guest number [] (o ∷ outcomes) k = absurd k
         faults_heard guest number (c ∷ calls) (Ok (place, Ok reply) ∷ outcomes) k = (tt, faults_heard guest (number + 1) calls outcomes k.1)
@@ -544,14 +544,14 @@ module _ {S T : Type 0} (disk : S → Disk) (first : Chain S Ledger T) where
   module _ (merges : Bool) (lock : TableId) (names : List (List ℕ)) (lines : List Line) (seat : Known Step (Basis S T)) (told : List (List ToldCall)) (short : Bool) (guests : List (List Outcome)) (j : AreJoined disk first merges lock (asked_by lines) seat guests) (words : AreKept names lines told short guests)
       (v : Shared (Chain S Ledger T)) (broke : Option Breach) (seen_is : steps_of v.chain.recorder broke ≡ seat.seen) (basis : Contains (basis_of disk v) seat.basis) (places : (p : ℕ) → times p seat.mine ≡ once_between p 1 (length seat.seen + 1)) (refusals : seat.refusals ≡ 0) (few : v.chain.events < 2 ^ 63) where
     abbrev HeardBy : ℕ → List Outcome → Type 0
-    HeardBy guest outcomes = AreHeard disk first seat guest 1 ((asked_by lines).calls guest) outcomes
+    HeardBy guest outcomes = AreHeard disk first false seat guest 1 ((asked_by lines).calls guest) outcomes
 
     pub all_called : short ≡ false → All (IsTold told) v.chain.recorder
     all_called memory i d within =
         let k = words.kept memory in
         let placed = all_places merges lock (asked_by lines) seat guests j v broke seen_is basis places refusals few (i + 1) (omega arith) (omega (arith, within)) in
         let o = some_told (λ g os. Has (i + 1) (places_in os) × HeardBy g os) names lines 1 guests (some_and HeardBy (λ g os. Has (i + 1) (places_in os)) (λ g os. Has (i + 1) (places_in os) × HeardBy g os) 1 guests (λ g os a b. (b, a)) j.heard placed) k.0 in
-        let a = heard_at seat o.0 1 (i + 1) ((asked_by lines).calls o.0) o.1 o.2.1 o.2.0 in
+        let a = heard_at false seat o.0 1 (i + 1) ((asked_by lines).calls o.0) o.1 o.2.1 o.2.0 in
         let starts = starts_more v.chain.recorder a.before broke (entry_of o.0 a.no a.call) (as_history merges lock (asked_by lines) seat guests j v broke seen_is basis places refusals few a.begins) in
         let is : get_or v.chain.recorder i d ≡ entry_of o.0 a.no a.call = ap (λ n. get_or v.chain.recorder n d) {x = i} {y = length a.before} (omega (arith, a.place_is)) ∙ entry_at v.chain.recorder a.before (entry_of o.0 a.no a.call) d starts in
         subst (IsTold told) (sym is) (subst (λ ts. IsTold ts (entry_of o.0 a.no a.call)) (sym k.1) (record {

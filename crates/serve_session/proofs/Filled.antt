@@ -62,34 +62,34 @@ module _ (next : ℕ) where
 -- ---- what guests are told
 
 module _ {S T : Type 0} (disk : S → Disk) (first : Chain S Ledger T) (seat : Known Step (Basis S T)) (full : Option ℕ) (up : (next : ℕ) → HasNote seat.basis.notes (notes.Full next) → IsUpTo full next) where
-  end_heard : (call : Call) (x : ChainRefusal) → IsHeardOf disk first seat call x → IsEndTold (IsUpTo full) (Err x)
-  end_heard call EmptyRange k = tt
-  end_heard call (OutOfRange a b c) k = tt
-  end_heard call (TooLong a b) k = tt
-  end_heard call ReadOnly k = tt
-  end_heard call (Broken file count) k = tt
-  end_heard call (Spent t) k = tt
-  end_heard call (FileFull next) k = up next k.1
-  end_heard call (ReadFault file count) k = tt
-  end_heard call NoMerge k = tt
-  end_heard call (Stale taken now) k = tt
-  end_heard call (NotYet stripe) k = tt
-  end_heard call (Abandoned file count) k = tt
-  end_heard call (NoStripe stripe stripes) k = tt
-  end_heard call NoPiece k = tt
-  end_heard call NoRoom k = tt
+  end_heard : (tells : Bool) (call : Call) (x : ChainRefusal) → IsHeardOf disk first tells seat call x → IsEndTold (IsUpTo full) (Err x)
+  end_heard tells call EmptyRange k = tt
+  end_heard tells call (OutOfRange a b c) k = tt
+  end_heard tells call (TooLong a b) k = tt
+  end_heard tells call ReadOnly k = tt
+  end_heard tells call (Broken file count) k = tt
+  end_heard tells call (Spent t) k = tt
+  end_heard tells call (FileFull next) k = up next k.1
+  end_heard tells call (ReadFault file count) k = tt
+  end_heard tells call NoMerge k = tt
+  end_heard tells call (Stale taken now) k = tt
+  end_heard tells call (NotYet stripe) k = tt
+  end_heard tells call (Abandoned file count) k = tt
+  end_heard tells call (NoStripe stripe stripes) k = tt
+  end_heard tells call NoPiece k = tt
+  end_heard tells call NoRoom k = tt
 
-  ends_heard : (guest number : ℕ) (calls : List Call) (outcomes : List Outcome) → AreHeard disk first seat guest number calls outcomes → AllByRecursion (IsEndTold (IsUpTo full)) (flat_map told_of outcomes)
-  ends_heard guest number calls [] k = tt
-  ends_heard guest number [] (o ∷ outcomes) k = absurd k
-  ends_heard guest number (c ∷ calls) (Ok (place, Ok reply) ∷ outcomes) k = (tt, ends_heard guest (number + 1) calls outcomes k.1)
-  ends_heard guest number (c ∷ calls) (Ok (place, Err fault) ∷ outcomes) k = ends_heard guest (number + 1) calls outcomes k.1
-  ends_heard guest number (c ∷ calls) (Err x ∷ outcomes) k = (end_heard c x k.0, ends_heard guest (number + 1) calls outcomes k.1)
+  ends_heard : (tells : Bool) (guest number : ℕ) (calls : List Call) (outcomes : List Outcome) → AreHeard disk first tells seat guest number calls outcomes → AllByRecursion (IsEndTold (IsUpTo full)) (flat_map told_of outcomes)
+  ends_heard tells guest number calls [] k = tt
+  ends_heard tells guest number [] (o ∷ outcomes) k = absurd k
+  ends_heard tells guest number (c ∷ calls) (Ok (place, Ok reply) ∷ outcomes) k = (tt, ends_heard tells guest (number + 1) calls outcomes k.1)
+  ends_heard tells guest number (c ∷ calls) (Ok (place, Err fault) ∷ outcomes) k = ends_heard tells guest (number + 1) calls outcomes k.1
+  ends_heard tells guest number (c ∷ calls) (Err x ∷ outcomes) k = (end_heard tells c x k.0, ends_heard tells guest (number + 1) calls outcomes k.1)
 
-  pub ends_told : (asking : Asking) (guests : List (List Outcome)) → EachGuest (λ guest outcomes. AreHeard disk first seat guest 1 (asking.calls guest) outcomes) 1 guests → AllByRecursion (IsEndTold (IsUpTo full)) (all_told guests)
+  pub ends_told : (asking : Asking) (guests : List (List Outcome)) → EachGuest (λ guest outcomes. AreHeard disk first asking.tells_want seat guest 1 (asking.calls guest) outcomes) 1 guests → AllByRecursion (IsEndTold (IsUpTo full)) (all_told guests)
   ends_told asking guests heard =
       all_told_are (IsEndTold (IsUpTo full)) (flat_map told_of) 1 guests
-      (each_map (λ g os. AreHeard disk first seat g 1 (asking.calls g) os) (λ g os. AllByRecursion (IsEndTold (IsUpTo full)) (flat_map told_of os)) 1 guests (λ g os. ends_heard g 1 (asking.calls g) os) heard)
+      (each_map (λ g os. AreHeard disk first asking.tells_want seat g 1 (asking.calls g) os) (λ g os. AllByRecursion (IsEndTold (IsUpTo full)) (flat_map told_of os)) 1 guests (λ g os. ends_heard asking.tells_want g 1 (asking.calls g) os) heard)
 
 -- a file that is so long reaches each lower unit
 pub long_up : (full : Option ℕ) (may : ℕ → Bool) (now : Trace) → IfSome full (IsSoLong may now) → (next : ℕ) → IsUpTo full next → IsSoLong may now next

@@ -9,6 +9,7 @@ use Rattle.store_model.specs.declared.fault.StoreFault.{StoreFault}
 use Rattle.vx_base.specs.declared.NoRoom.{NoRoom}
 use Rattle.ledger.specs.declared.ledger.Ledger.{Ledger}
 use Rattle.chain_core.specs.declared.chain.Chain.{Chain}
+use Rattle.guest_model.specs.History.{History}
 use Rattle.guest_model.specs.declared.refusal.ChainRefusal.{ChainRefusal}
 use Rattle.guest_model.specs.declared.refusal.ChainRefusal.TheVariants.{Abandoned, Broken, EmptyRange, FileFull, NoMerge, NoPiece, NoStripe, NotYet, OutOfRange, ReadFault, ReadOnly, Spent, Stale, TooLong}
 use Rattle.guest_model.specs.declared.refusal.ChainRefusal.TheVariants.{NoRoom as NoMemory}
@@ -384,33 +385,41 @@ module _ {S T : Type 0} (disk : S → Disk) where
   few_told merges old mid names lines told short unread tally (IsShared.was_shared guests s words adds) = few_guests (length told) (greatest_from 0 lines) (words.count ∙ s.count)
   few_told merges old mid names lines told short unread tally (IsShared.no_memory same short_is none no_read no_call) = omega (arith, ap length none)
 
-  pub called : (merges : Bool) (old mid v : Shared (Chain S Ledger T)) (merged : Result (Unit {0}) ChainRefusal) → EndsAs disk merges mid v merged → (names : List (List ℕ)) (lines : List Line) (told : List (List ToldCall)) (short : Bool) (unread : ℕ) (tally : Tally) → IsShared disk merges old names lines mid told short unread tally
-      → short ≡ false → All (IsTold told) v.chain.recorder
-  called merges old mid v merged e names lines told short unread tally (IsShared.was_shared guests s words adds) =
-      let so = ended_so merges mid v merged e in
-      all_called disk old.first merges s.lock names lines s.seat told short guests s.joined words v mid.broke (ap (λ k. steps_of k mid.broke) so.history ∙ s.history) (contains_through (basis_of disk v) (basis_of disk mid) s.seat.basis so.basis s.basis) s.places s.refusals (omega (arith, so.few, s.few))
-  called merges old mid v merged e names lines told short unread tally (IsShared.no_memory same short_is none no_read no_call) = λ memory. absurd (false_true (sym memory ∙ short_is))
+  pub called : (merges : Bool) (old mid : Shared (Chain S Ledger T)) (names : List (List ℕ)) (lines : List Line) (told : List (List ToldCall)) (short : Bool) (unread : ℕ) (tally : Tally) → IsShared disk merges old names lines mid told short unread tally → short ≡ false
+      → All (IsTold told) mid.chain.recorder
+  called merges old mid names lines told short unread tally (IsShared.was_shared guests s words adds) =
+      all_called disk old.first merges s.lock names lines s.seat told short guests s.joined words mid mid.broke s.history s.basis s.places s.refusals (omega (arith, s.few))
+  called merges old mid names lines told short unread tally (IsShared.no_memory same short_is none no_read no_call) = λ memory. absurd (false_true (sym memory ∙ short_is))
 
-  pub served_so : (merges : Bool) (old mid v : Shared (Chain S Ledger T)) (merged : Result (Unit {0}) ChainRefusal) → EndsAs disk merges mid v merged → (run : ScriptRun) (after : Disk) → IsEnded (session_of disk v.chain) after run.closed → run.fault ≡ v.fault
-      → EndsCounted (disk v.first.store) after v.fault run.closed → IfSome v.broke (λ b. IsErr run.closed) → LeavesHistory (session_of disk v.first) v.chain.recorder v.full v.broke (has_merge v.chain.layers) run.closed after
-      → HasBegun disk old → (names : List (List ℕ)) (lines : List Line) (told : List (List ToldCall)) (short : Bool) (unread : ℕ) (tally : Tally) → IsShared disk merges old names lines mid told short unread tally
-      → IfOk run.transcript (λ text. (short ≡ false) × (string_bytes text ≡ serve_text v.chain.recorder told)) → HasServedScript disk merges old.first names lines (record { run = run; unread = unread; tally = tally; merged = merged }) after
-  served_so merges old mid v merged e run after ended fault counted errs leaves begun names lines told short unread tally (IsShared.was_shared guests s words adds) text = record {
+  -- what the end of a session leaves of it
+  abbrev Left : Bool → Shared (Chain S Ledger T) → ScriptRun → Result (Unit {0}) ChainRefusal → Disk → Asking → List (List Outcome) → History → ℕ → Bool → Type 0
+  Left merges old run merged after asking guests history unread short = HasServed disk merges old.first asking guests history (record { fault = run.fault; closed = run.closed; unread = unread; short = short }) merged after
+
+  pub served_so : (merges : Bool) (old mid : Shared (Chain S Ledger T)) (run : ScriptRun) (merged : Result (Unit {0}) ChainRefusal) (history : History) (after : Disk)
+      → ((asking : Asking) (guests : List (List Outcome)) (unread : ℕ) (short : Bool) → WasShared disk merges old asking mid guests unread → Left merges old run merged after asking guests history unread short)
+      → ((asking : Asking) → mid ≡ old → Left merges old run merged after asking (replicate asking.count []) [] 0 true)
+      → (names : List (List ℕ)) (lines : List Line) (told : List (List ToldCall)) (short : Bool) (unread : ℕ) (tally : Tally) → IsShared disk merges old names lines mid told short unread tally
+      → IfOk run.transcript (λ text. (short ≡ false) × (string_bytes text ≡ serve_text history told)) → HasServedScript disk merges old.first names lines (record { run = run; unread = unread; tally = tally; merged = merged }) after
+  served_so merges old mid run merged history after served unserved names lines told short unread tally (IsShared.was_shared guests s words adds) text = record {
     guests = guests;
-    history = v.chain.recorder;
-    served = all_served merges old mid v merged (ended_so merges mid v merged e) (ending_of run unread) after ended fault counted errs leaves (asked_by lines) guests s begun.sound.sector;
-    written = record { transcript = transcript_is names lines told short guests v.chain.recorder words run.transcript text; tally_is = adds };
+    history = history;
+    served = served (asked_by lines) guests unread (is_err run.transcript) s;
+    written = record { transcript = transcript_is names lines told short guests history words run.transcript text; tally_is = adds };
   }
-  served_so merges old mid v merged e run after ended fault counted errs leaves begun names lines told short unread tally (IsShared.no_memory same short_is none no_read no_call) text = record {
+  served_so merges old mid run merged history after served unserved names lines told short unread tally (IsShared.no_memory same short_is none no_read no_call) text = record {
     guests = replicate (guest_count lines) [];
     history = [];
-    served = none_served merges old mid v merged (ended_so merges mid v merged e) (ending_of run unread) after ended fault counted errs leaves (asked_by lines) no_read begun same;
-    written = none_written names lines run tally no_call (no_text _ run.transcript text);
+    served = subst (λ n. Left merges old run merged after (asked_by lines) (replicate (guest_count lines) []) [] n (is_err run.transcript)) (sym no_read)
+        (subst (Left merges old run merged after (asked_by lines) (replicate (guest_count lines) []) [] 0) (sym (none_short run.transcript untold)) (unserved (asked_by lines) same));
+    written = none_written names lines run tally no_call untold;
   }
     where
       no_text : {Z : Type 0} (P : String Z → Type 0) (r : Result (String Z) NoRoom) → IfOk r (λ t. (short ≡ false) × P t) → IfOk r (λ t. ⊥)
       no_text P (Ok t) h = absurd (false_true (sym h.0 ∙ short_is))
       no_text P (Err x) h = tt
+
+      untold : IfOk run.transcript (λ t. ⊥)
+      untold = no_text _ run.transcript text
 
   -- memory ran out before the chain could be shared, and its session was ended
   pub unserved_is : (merges : Bool) (first : Chain S Ledger T) (asking : Asking) (end : Ending) (merged : Result (Unit {0}) ChainRefusal) (after : Disk) → end.short ≡ true → end.unread ≡ 0 → merged ≡ Err NoMemory → (merges ≡ true → has_merge first.layers ≡ true)

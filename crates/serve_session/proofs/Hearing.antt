@@ -92,7 +92,8 @@ module _ {S T : Type 0} (disk : S → Disk) (first : Chain S Ledger T) where
   pub knows_more : (more seat : Known Step (Basis S T)) → Contains more.basis seat.basis → seat.refusals ≤ more.refusals → Knows more seat
   knows_more more seat basis refusals = record { notes = basis.notes; events = basis.events; refusals = refusals }
 
-  heard_of_later : (seat more : Known Step (Basis S T)) (call : Call) (x : ChainRefusal) → Knows more seat → IsHeardOf disk first seat call x → IsHeardOf disk first more call x
+module _ {S T : Type 0} (disk : S → Disk) (first : Chain S Ledger T) (tells : Bool) where
+  heard_of_later : (seat more : Known Step (Basis S T)) (call : Call) (x : ChainRefusal) → Knows disk first more seat → IsHeardOf disk first tells seat call x → IsHeardOf disk first tells more call x
   heard_of_later seat more call EmptyRange k h = h
   heard_of_later seat more call (OutOfRange a b c) k h = h
   heard_of_later seat more call (TooLong a b) k h = h
@@ -111,42 +112,42 @@ module _ {S T : Type 0} (disk : S → Disk) (first : Chain S Ledger T) where
   heard_of_later seat more call (Abandoned file count) k h = absurd h
   heard_of_later seat more call (NoStripe stripe stripes) k h = absurd h
   heard_of_later seat more call NoPiece k h = absurd h
-  heard_of_later seat more call NoRoom k h = absurd h
+  heard_of_later seat more call NoRoom k h = h
 
-  heard_later : (seat more : Known Step (Basis S T)) (guest number : ℕ) (call : Call) (o : Outcome) → StartsWith more.seen seat.seen → Knows more seat → IsHeard disk first seat guest number call o → IsHeard disk first more guest number call o
+  heard_later : (seat more : Known Step (Basis S T)) (guest number : ℕ) (call : Call) (o : Outcome) → StartsWith more.seen seat.seen → Knows disk first more seat → IsHeard disk first tells seat guest number call o → IsHeard disk first tells more guest number call o
   heard_later seat more guest number call (Ok done) starts k h = record { before = h.before; begins = starts-through more.seen seat.seen _ starts h.begins; place_is = h.place_is; placed = h.placed; replies = h.replies; unread = h.unread }
   heard_later seat more guest number call (Err x) starts k h = heard_of_later seat more call x k h
 
-  pub all_heard_later : (seat more : Known Step (Basis S T)) (guest number : ℕ) (calls : List Call) (outcomes : List Outcome) → StartsWith more.seen seat.seen → Knows more seat → AreHeard disk first seat guest number calls outcomes
-      → AreHeard disk first more guest number calls outcomes
+  pub all_heard_later : (seat more : Known Step (Basis S T)) (guest number : ℕ) (calls : List Call) (outcomes : List Outcome) → StartsWith more.seen seat.seen → Knows disk first more seat → AreHeard disk first tells seat guest number calls outcomes
+      → AreHeard disk first tells more guest number calls outcomes
   all_heard_later seat more guest number calls [] starts k h = tt
   all_heard_later seat more guest number [] (o ∷ outcomes) starts k h = absurd h
   all_heard_later seat more guest number (c ∷ calls) (o ∷ outcomes) starts k h =
       (heard_later seat more guest number c o starts k h.0, all_heard_later seat more guest (number + 1) calls outcomes starts k h.1)
 
-  heard_more : (seat : Known Step (Basis S T)) (guest number : ℕ) (calls cs : List Call) (outcomes : List Outcome) → AreHeard disk first seat guest number calls outcomes → AreHeard disk first seat guest number (calls ++ cs) outcomes
+  heard_more : (seat : Known Step (Basis S T)) (guest number : ℕ) (calls cs : List Call) (outcomes : List Outcome) → AreHeard disk first tells seat guest number calls outcomes → AreHeard disk first tells seat guest number (calls ++ cs) outcomes
   heard_more seat guest number calls cs [] h = tt
   heard_more seat guest number [] cs (o ∷ outcomes) h = absurd h
   heard_more seat guest number (c ∷ calls) cs (o ∷ outcomes) h = (h.0, heard_more seat guest (number + 1) calls cs outcomes h.1)
 
-  heard_snoc : (seat : Known Step (Basis S T)) (guest number : ℕ) (calls : List Call) (outcomes : List Outcome) (call : Call) (o : Outcome) → length outcomes ≡ length calls → AreHeard disk first seat guest number calls outcomes
-      → IsHeard disk first seat guest (number + length outcomes) call o → AreHeard disk first seat guest number (calls ++ call ∷ []) (outcomes ++ o ∷ [])
-  heard_snoc seat guest number [] [] call o same h last = (subst (λ n. IsHeard disk first seat guest n call o) {x = number + 0} (omega arith) last, tt)
+  heard_snoc : (seat : Known Step (Basis S T)) (guest number : ℕ) (calls : List Call) (outcomes : List Outcome) (call : Call) (o : Outcome) → length outcomes ≡ length calls → AreHeard disk first tells seat guest number calls outcomes
+      → IsHeard disk first tells seat guest (number + length outcomes) call o → AreHeard disk first tells seat guest number (calls ++ call ∷ []) (outcomes ++ o ∷ [])
+  heard_snoc seat guest number [] [] call o same h last = (subst (λ n. IsHeard disk first tells seat guest n call o) {x = number + 0} (omega arith) last, tt)
   heard_snoc seat guest number [] (x ∷ outcomes) call o same h last = absurd h
   heard_snoc seat guest number (c ∷ calls) [] call o same h last = absurd (omega (arith, same))
   heard_snoc seat guest number (c ∷ calls) (x ∷ outcomes) call o same h last = (
     h.0,
     heard_snoc seat guest (number + 1) calls outcomes call o (omega (arith, same)) h.1
-        (subst (λ n. IsHeard disk first seat guest n call o) {x = number + length (x ∷ outcomes)} {y = number + 1 + length outcomes} (omega arith) last),
+        (subst (λ n. IsHeard disk first tells seat guest n call o) {x = number + length (x ∷ outcomes)} {y = number + 1 + length outcomes} (omega arith) last),
   )
 
-  pub heard_few : (seat : Known Step (Basis S T)) (guest number : ℕ) (calls : List Call) (outcomes : List Outcome) → AreHeard disk first seat guest number calls outcomes → length outcomes ≤ length calls
+  pub heard_few : (seat : Known Step (Basis S T)) (guest number : ℕ) (calls : List Call) (outcomes : List Outcome) → AreHeard disk first tells seat guest number calls outcomes → length outcomes ≤ length calls
   heard_few seat guest number calls [] h = omega arith
   heard_few seat guest number [] (o ∷ outcomes) h = absurd h
   heard_few seat guest number (c ∷ calls) (o ∷ outcomes) h = omega (arith, heard_few seat guest (number + 1) calls outcomes h.1)
 
   -- a place is within what was seen
-  pub place_within : (seat : Known Step (Basis S T)) (guest number p : ℕ) (calls : List Call) (outcomes : List Outcome) → AreHeard disk first seat guest number calls outcomes → Has p (places_in outcomes) → (1 ≤ p) × (p ≤ length seat.seen)
+  pub place_within : (seat : Known Step (Basis S T)) (guest number p : ℕ) (calls : List Call) (outcomes : List Outcome) → AreHeard disk first tells seat guest number calls outcomes → Has p (places_in outcomes) → (1 ≤ p) × (p ≤ length seat.seen)
   place_within seat guest number p calls [] h has = absurd has
   place_within seat guest number p [] (o ∷ outcomes) h has = absurd h
   place_within seat guest number p (c ∷ calls) (Err x ∷ outcomes) h has = place_within seat guest (number + 1) p calls outcomes h.1 has
@@ -164,7 +165,7 @@ module _ {S T : Type 0} (disk : S → Disk) (first : Chain S Ledger T) where
   abbrev pub IsMissed : Call → List Outcome → StoreFault → Type 0
   IsMissed call outcomes fault = IsUnread disk first call fault × Rose (counts_behind none_failed (unread_in outcomes) fault.file) fault.count
 
-  module _ (guest : ℕ) (calls : List Call) (outcomes : List Outcome) (call : Call) (old new : Known Step (Basis S T)) (hears : HasHeard disk first guest calls old outcomes) where
+  module _ (guest : ℕ) (calls : List Call) (outcomes : List Outcome) (call : Call) (old new : Known Step (Basis S T)) (hears : HasHeard disk first tells guest calls old outcomes) where
     abbrev number : ℕ
     number = length outcomes + 1
 
@@ -173,13 +174,13 @@ module _ {S T : Type 0} (disk : S → Disk) (first : Chain S Ledger T) where
 
     module _ (seen : StartsWith new.seen old.seen) (basis : Contains new.basis old.basis) (refusals : old.refusals ≤ new.refusals) where
       knows_now : IsFrom disk first new.basis
-      knows_now = from_through new.basis old.basis basis hears.knows
+      knows_now = from_through disk first new.basis old.basis basis hears.knows
 
-      old_heard : (cs : List Call) → AreHeard disk first new guest 1 (calls ++ cs) outcomes
-      old_heard cs = heard_more new guest 1 calls cs outcomes (all_heard_later old new guest 1 calls outcomes seen (knows_more new old basis refusals) hears.heard)
+      old_heard : (cs : List Call) → AreHeard disk first tells new guest 1 (calls ++ cs) outcomes
+      old_heard cs = heard_more new guest 1 calls cs outcomes (all_heard_later old new guest 1 calls outcomes seen (knows_more disk first new old basis refusals) hears.heard)
 
       -- nothing was told
-      pub nothing_more : (cs : List Call) → new.mine ≡ old.mine → new.drawn ≤ old.drawn + length cs → HasHeard disk first guest (calls ++ cs) new outcomes
+      pub nothing_more : (cs : List Call) → new.mine ≡ old.mine → new.drawn ≤ old.drawn + length cs → HasHeard disk first tells guest (calls ++ cs) new outcomes
       nothing_more cs same drew = record {
         knows = knows_now;
         heard = old_heard cs;
@@ -207,12 +208,12 @@ module _ {S T : Type 0} (disk : S → Disk) (first : Chain S Ledger T) where
         last_number P p = subst P {x = number} {y = 1 + length outcomes} (omega arith) p
 
         -- it was refused, and the seat has no more of its own
-        refused : (x : ChainRefusal) → IsHeardOf disk first new call x → ((p : ℕ) → 0 < times p new.mine → (0 < times p old.mine) ⊎ BreaksAt new.seen p guest (calls ++ call ∷ []) (outcomes ++ Err x ∷ []))
-            → HasHeard disk first guest (calls ++ call ∷ []) new (outcomes ++ Err x ∷ [])
+        refused : (x : ChainRefusal) → IsHeardOf disk first tells new call x → ((p : ℕ) → 0 < times p new.mine → (0 < times p old.mine) ⊎ BreaksAt new.seen p guest (calls ++ call ∷ []) (outcomes ++ Err x ∷ []))
+            → HasHeard disk first tells guest (calls ++ call ∷ []) new (outcomes ++ Err x ∷ [])
         refused x heard mine = record {
           knows = knows_now;
           heard = heard_snoc new guest 1 calls outcomes call (Err x) all
-              (all_heard_later old new guest 1 calls outcomes seen (knows_more new old basis refusals) hears.heard) heard;
+              (all_heard_later old new guest 1 calls outcomes seen (knows_more disk first new old basis refusals) hears.heard) heard;
           order = subst IsRising (sym (places_snoc outcomes (Err x) ∙ append_nil (places_in outcomes))) hears.order;
           unread = counted_snoc outcomes (Err x) hears.unread tt;
           owns = λ p own. go p (mine p own);
@@ -229,11 +230,11 @@ module _ {S T : Type 0} (disk : S → Disk) (first : Chain S Ledger T) where
 
         -- it was done
         done : (place : ℕ) (read : Result (Unit {0}) StoreFault) (shown : Reply) → IsDone disk who call (reply_if shown read) old new place → IfErr read (IsMissed call outcomes)
-            → HasHeard disk first guest (calls ++ call ∷ []) new (outcomes ++ Ok (place, read_as shown read) ∷ [])
+            → HasHeard disk first tells guest (calls ++ call ∷ []) new (outcomes ++ Ok (place, read_as shown read) ∷ [])
         done place read shown d missed = record {
           knows = knows_now;
           heard = heard_snoc new guest 1 calls outcomes call last all
-              (all_heard_later old new guest 1 calls outcomes seen (knows_more new old basis refusals) hears.heard)
+              (all_heard_later old new guest 1 calls outcomes seen (knows_more disk first new old basis refusals) hears.heard)
               (last_number (λ n. HasPlace disk first new.seen guest n call (place, read_as shown read)) here);
           order = subst IsRising (sym (places_snoc outcomes last)) (rising_snoc (places_in outcomes) place hears.order (all_below (places_in outcomes) place earlier));
           unread = counted_snoc outcomes last hears.unread (counted read missed);
@@ -286,7 +287,7 @@ module _ {S T : Type 0} (disk : S → Disk) (first : Chain S Ledger T) where
 
         -- the seat has the break for its own, if the call was what broke the session
         module _ (made : Call) (opens : (s : ℕ) → is_named 512 call s ≡ false → open_by (Some (breach_of who made)) s ≡ false) where
-          broken : (file count : ℕ) → HasNote new.basis.notes (notes.ChangeFailed file count) → (new.mine ≡ old.mine) ⊎ HasBroken who made old new → HasHeard disk first guest (calls ++ call ∷ []) new (outcomes ++ Err (Broken file count) ∷ [])
+          broken : (file count : ℕ) → HasNote new.basis.notes (notes.ChangeFailed file count) → (new.mine ≡ old.mine) ⊎ HasBroken who made old new → HasHeard disk first tells guest (calls ++ call ∷ []) new (outcomes ++ Err (Broken file count) ∷ [])
           broken file count noted (inl same) = refused (Broken file count) noted (λ p own. inl (subst (λ ms. 0 < times p ms) same own))
           broken file count noted (inr b) = refused (Broken file count) noted (λ p own. by_place p (length b.before + 1 == p) refl (subst (λ ms. 0 < times p ms) b.mine own))
             where
@@ -307,7 +308,7 @@ module _ {S T : Type 0} (disk : S → Disk) (first : Chain S Ledger T) where
 
         -- ---- by what it was answered
 
-        stays : (x : ChainRefusal) → IsHeardOf disk first new call x → new.mine ≡ old.mine → HasHeard disk first guest (calls ++ call ∷ []) new (outcomes ++ Err x ∷ [])
+        stays : (x : ChainRefusal) → IsHeardOf disk first tells new call x → new.mine ≡ old.mine → HasHeard disk first tells guest (calls ++ call ∷ []) new (outcomes ++ Err x ∷ [])
         stays x heard same = refused x heard (λ p own. inl (subst (λ ms. 0 < times p ms) same own))
 
         at_place : (x : Option ChainRefusal) (made : Call) → IfSome new.basis.first (λ (chain : Chain S Ledger T). misplaced made chain.layers ≡ x) → misplaced made first.layers ≡ x
@@ -318,7 +319,7 @@ module _ {S T : Type 0} (disk : S → Disk) (first : Chain S Ledger T) where
         kept_outcomes r answer = if is_want answer then outcomes else outcomes ++ outcome_of r answer ∷ []
 
         abbrev Kept : Result Placed ChainRefusal → Reply → Type 0
-        Kept answer r = HasHeard disk first guest (calls ++ call ∷ []) new (kept_outcomes r answer)
+        Kept answer r = HasHeard disk first tells guest (calls ++ call ∷ []) new (kept_outcomes r answer)
 
         own_opens : (s : ℕ) → is_named 512 call s ≡ false → open_by (Some (breach_of who call)) s ≡ false
         own_opens s = go call
@@ -349,6 +350,26 @@ module _ {S T : Type 0} (disk : S → Disk) (first : Chain S Ledger T) where
         by_call shown (Err (NoStripe stripe stripes)) a missed = absurd a.1
         by_call shown (Err NoPiece) a missed = absurd a.1
         by_call shown (Err NoRoom) a missed = nothing_more (call ∷ []) a.0 drew
+
+        -- where memory ran out for it, that is told too
+        pub told_call : tells ≡ true → (shown : Reply) (answer : Result Placed ChainRefusal) → Answers disk who call (reply_by shown answer) old new (placed_at answer) → IfOk answer (λ placed. IfErr placed.read (IsMissed call outcomes))
+            → HasHeard disk first tells guest (calls ++ call ∷ []) new (outcomes ++ outcome_of shown answer ∷ [])
+        told_call telling shown (Err NoRoom) a missed = stays NoRoom telling a.0
+        told_call telling shown (Ok placed) a missed = by_call shown (Ok placed) a missed
+        told_call telling shown (Err EmptyRange) a missed = by_call shown (Err EmptyRange) a missed
+        told_call telling shown (Err (OutOfRange x y z)) a missed = by_call shown (Err (OutOfRange x y z)) a missed
+        told_call telling shown (Err (TooLong x y)) a missed = by_call shown (Err (TooLong x y)) a missed
+        told_call telling shown (Err ReadOnly) a missed = by_call shown (Err ReadOnly) a missed
+        told_call telling shown (Err (Broken file count)) a missed = by_call shown (Err (Broken file count)) a missed
+        told_call telling shown (Err (Spent t)) a missed = by_call shown (Err (Spent t)) a missed
+        told_call telling shown (Err (FileFull next)) a missed = by_call shown (Err (FileFull next)) a missed
+        told_call telling shown (Err (ReadFault file count)) a missed = by_call shown (Err (ReadFault file count)) a missed
+        told_call telling shown (Err NoMerge) a missed = by_call shown (Err NoMerge) a missed
+        told_call telling shown (Err (Stale taken now)) a missed = by_call shown (Err (Stale taken now)) a missed
+        told_call telling shown (Err (NotYet stripe)) a missed = by_call shown (Err (NotYet stripe)) a missed
+        told_call telling shown (Err (Abandoned file count)) a missed = by_call shown (Err (Abandoned file count)) a missed
+        told_call telling shown (Err (NoStripe stripe stripes)) a missed = by_call shown (Err (NoStripe stripe stripes)) a missed
+        told_call telling shown (Err NoPiece) a missed = by_call shown (Err NoPiece) a missed
 
         -- the call that a line asks for
         module _ (form : Form) (of_form : call_of form ≡ call) where

@@ -147,8 +147,8 @@ module _ {S T : Type 0} where
       go p a none (inr q) = q
 
   -- a guest that has made no call was told nothing
-  pub none_heard : (disk : S → Disk) (first : Chain S Ledger T) (guest : ℕ) (seat : Known Step (Basis S T)) → IsFrom disk first seat.basis → seat.mine ≡ [] → seat.drawn ≡ 0 → HasHeard disk first guest [] seat []
-  none_heard disk first guest seat knows mine drawn = record {
+  pub none_heard : (disk : S → Disk) (first : Chain S Ledger T) (tells : Bool) (guest : ℕ) (seat : Known Step (Basis S T)) → IsFrom disk first seat.basis → seat.mine ≡ [] → seat.drawn ≡ 0 → HasHeard disk first tells guest [] seat []
+  none_heard disk first tells guest seat knows mine drawn = record {
     knows = knows;
     heard = tt;
     order = tt;
@@ -165,7 +165,7 @@ module _ {S T : Type 0} where
       room = h.room;
       sector = sector;
       outcomes = [];
-      hears = none_heard disk first a.number a.guest.seat (subst (λ (s : Known Step (Basis S T)). IsFrom disk first s.basis) (sym h.seat) knows) (ap (λ (s : Known Step (Basis S T)). s.mine) h.seat) (ap (λ (s : Known Step (Basis S T)). s.drawn) h.seat);
+      hears = none_heard disk first false a.number a.guest.seat (subst (λ (s : Known Step (Basis S T)). IsFrom disk first s.basis) (sym h.seat) knows) (ap (λ (s : Known Step (Basis S T)). s.mine) h.seat) (ap (λ (s : Known Step (Basis S T)). s.drawn) h.seat);
       readers = h.set;
       unread = h.unread;
       tally = subst (λ t. AddsUp t []) (sym h.tally) none_add;
@@ -194,15 +194,15 @@ module _ {S T : Type 0} where
 
     -- it was told of as many calls as there are lines at most
     pub few_told_of : (a : Actor S T) (run : HasRun disk first lock names lines a) → length run.outcomes ≤ length lines
-    few_told_of a run = omega (arith, heard_few disk first a.guest.seat a.number 1 (map call_of (forms_of a.number lines)) run.outcomes run.hears.heard, calls_few a.number lines)
+    few_told_of a run = omega (arith, heard_few disk first false a.guest.seat a.number 1 (map call_of (forms_of a.number lines)) run.outcomes run.hears.heard, calls_few a.number lines)
 
     -- few of its reads failed by a reader
     pub few_unread : (a : Actor S T) (run : HasRun disk first lock names lines a) → length (unread_in run.outcomes) ≤ length lines
-    few_unread a run = omega (arith, unread_few run.outcomes, heard_few disk first a.guest.seat a.number 1 (map call_of (forms_of a.number lines)) run.outcomes run.hears.heard, calls_few a.number lines)
+    few_unread a run = omega (arith, unread_few run.outcomes, heard_few disk first false a.guest.seat a.number 1 (map call_of (forms_of a.number lines)) run.outcomes run.hears.heard, calls_few a.number lines)
 
     -- the guest of the next number has heard so
-    pub run_hears : (guest : ℕ) (a : Actor S T) (run : HasRun disk first lock names lines a) → a.number ≡ guest → HasHeard disk first guest ((asked_by lines).calls guest) a.guest.seat run.outcomes
-    run_hears guest a run number = subst (λ n. HasHeard disk first n (map call_of (forms_of n lines)) a.guest.seat run.outcomes) number run.hears
+    pub run_hears : (guest : ℕ) (a : Actor S T) (run : HasRun disk first lock names lines a) → a.number ≡ guest → HasHeard disk first false guest ((asked_by lines).calls guest) a.guest.seat run.outcomes
+    run_hears guest a run number = subst (λ n. HasHeard disk first false n (map call_of (forms_of n lines)) a.guest.seat run.outcomes) number run.hears
 
     -- and is one more of those whose texts are kept
     pub one_kept : (told : List (List ToldCall)) (short : Bool) (guests : List (List Outcome)) → AreKept names lines told short guests → (a : Actor S T) (run : HasRun disk first lock names lines a) → a.number ≡ 1 + length guests
@@ -240,13 +240,13 @@ module _ {S T : Type 0} (disk : S → Disk) (first : Chain S Ledger T) (lock : T
   }
 
   abbrev Heard : Known Step (Basis S T) → ℕ → List Outcome → Type 0
-  Heard s guest outcomes = AreHeard disk first s guest 1 (asking.calls guest) outcomes
+  Heard s guest outcomes = AreHeard disk first asking.tells_want s guest 1 (asking.calls guest) outcomes
 
   abbrev Owns : Known Step (Basis S T) → ℕ → ℕ → List Outcome → Type 0
   Owns s p guest outcomes = OwnsAt s.seen p guest (asking.calls guest) outcomes
 
   -- one guest's more
-  module _ (seat own new : Known Step (Basis S T)) (guests : List (List Outcome)) (outcomes : List Outcome) (j : AreJoined disk first false lock asking seat guests) (hears : HasHeard disk first (1 + length guests) (asking.calls (1 + length guests)) own outcomes)
+  module _ (seat own new : Known Step (Basis S T)) (guests : List (List Outcome)) (outcomes : List Outcome) (j : AreJoined disk first false lock asking seat guests) (hears : HasHeard disk first asking.tells_want (1 + length guests) (asking.calls (1 + length guests)) own outcomes)
       (both : new ≡ together_of together seat own) (seen : StartsWith new.seen seat.seen × StartsWith new.seen own.seen) (basis : Contains new.basis seat.basis × Contains new.basis own.basis) where
     refused : (seat.refusals ≤ new.refusals) × (own.refusals ≤ new.refusals)
     refused = let both_of : new.refusals ≡ seat.refusals + own.refusals = ap (λ (s : Known Step (Basis S T)). s.refusals) both in (omega (arith, both_of), omega (arith, both_of))
@@ -273,8 +273,8 @@ module _ {S T : Type 0} (disk : S → Disk) (first : Chain S Ledger T) (lock : T
       leads = ap (λ (s : Known Step (Basis S T)). s.family.is_first) both ∙ j.leads;
       knows = from_through disk first new.basis seat.basis basis.0 j.knows;
       heard = each_snoc (Heard new) 1 guests outcomes
-          (each_map (Heard seat) (Heard new) 1 guests (λ g os. all_heard_later disk first seat new g 1 (asking.calls g) os seen.0 (knows_more disk first new seat basis.0 refused.0)) j.heard)
-          (all_heard_later disk first own new (1 + length guests) 1 (asking.calls (1 + length guests)) outcomes seen.1 (knows_more disk first new own basis.1 refused.1) hears.heard);
+          (each_map (Heard seat) (Heard new) 1 guests (λ g os. all_heard_later disk first asking.tells_want seat new g 1 (asking.calls g) os seen.0 (knows_more disk first new seat basis.0 refused.0)) j.heard)
+          (all_heard_later disk first asking.tells_want own new (1 + length guests) 1 (asking.calls (1 + length guests)) outcomes seen.1 (knows_more disk first new own basis.1 refused.1) hears.heard);
       order = each_snoc (λ g os. IsRising (places_in os)) 1 guests outcomes j.order hears.order;
       unread = each_snoc (λ g os. IsCountedUp none_failed (unread_in os)) 1 guests outcomes j.unread hears.unread;
       owns = owns_now;
@@ -300,7 +300,7 @@ module _ {S T : Type 0} (disk : S → Disk) (first : Chain S Ledger T) (lock : T
       free = (workers.lock ∙ j.free.0, workers.turn ∙ j.free.1);
       leads = workers.leads ∙ j.leads;
       knows = from_through disk first new.basis seat.basis workers.basis j.knows;
-      heard = each_map (Heard seat) (Heard new) 1 guests (λ g os. all_heard_later disk first seat new g 1 (asking.calls g) os workers.seen (knows_more disk first new seat workers.basis workers.refusals)) j.heard;
+      heard = each_map (Heard seat) (Heard new) 1 guests (λ g os. all_heard_later disk first asking.tells_want seat new g 1 (asking.calls g) os workers.seen (knows_more disk first new seat workers.basis workers.refusals)) j.heard;
       order = j.order;
       unread = j.unread;
       owns = λ p own. owns_by p (workers.own p own);

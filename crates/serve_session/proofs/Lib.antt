@@ -5,11 +5,12 @@ pub mod Reading
 pub mod Tallies
 pub mod Stepping
 pub mod Joining
+pub mod Calling
 pub mod Ending
 pub mod Filled
 pub mod Final
 pub mod Sealed
-pub mod EndedEarly
+pub mod Beginnings
 pub mod Sessions
 pub mod MergeSessions
 pub mod Sending

@@ -48,7 +48,7 @@ use Rattle.shared_chain.specs.Steps.{open_by as opens_by}
 use Rattle.serve_session.specs.Endings.{Ending, ending_of}
 use Rattle.serve_session.specs.MergeServed.{HasRunLeafMerge, HasRunMerge, HasRunServeLeafMerge, HasRunServeMerge, HasServedOver, HasServedWith, IsStopTold}
 use Rattle.serve_session.specs.Served.{AreServed, Asking, Outcome, all_told, all_unread, asked_by}
-use Rattle.serve_session.specs.Sealing.{ServesFirst, ServesScript, ServesSealed}
+use Rattle.serve_session.specs.Sealing.{ServesFirst, ServesSealed}
 use Rattle.serve_session.specs.Serving.{HasServed, IsNearEnd, IsUpTo, drive_from}
 use Rattle.serve_session.specs.declared.merging.MergeRun.{MergeRun}
 use Rattle.serve_session.proofs.Filled.{long_up}
@@ -214,24 +214,6 @@ module _ {S T : Type 0} (disk : S → Disk) (chain : Chain S Ledger T) (asking :
       planned = begun.planned;
       serves = with_counts (leaf_scope_of of_leaf) old begun.begun.counts (have_leaf old.told (disk chain.store).told (disk first.store).told after.told refl begun.begun.serving begun.still refl sealed.sealing.goes h.leaves);
     }
-
--- and of a script
-module _ {S T : Type 0} (disk : S → Disk) (chain : Chain S Ledger T) (names : List (List ℕ)) (lines : List Line) (run : MergeRun) (after : Disk) (s : ServesScript disk true chain names lines run after) (sector : chain.layers.geometry.sector ≡ 512) where
-  pub merge_ran : (files : List LinkedFile) (name : List ℕ) (old : Disk) (drawn now_drawn : Option (List (List ℕ))) → CanStart files old → HasStartedMerge files name old (disk chain.store) drawn now_drawn chain.layers → HasRunServeMerge files name names lines run old after drawn now_drawn
-  merge_ran files name old drawn now_drawn can begun = record {
-    guests = s.guests;
-    history = s.history;
-    ran = guests_merged disk chain (asked_by lines) s.guests s.history (ending_of run.run run.unread) run.merged after s.sealed sector files name old drawn now_drawn can begun;
-    written = s.written;
-  }
-
-  pub leaf_merge_ran : (files : List LinkedFile) (old : Disk) (drawn now_drawn : Option (List (List ℕ))) → CanStart files old → HasStartedLeafMerge files old (disk chain.store) drawn now_drawn chain.layers → HasRunServeLeafMerge files names lines run old after drawn now_drawn
-  leaf_merge_ran files old drawn now_drawn can begun = record {
-    guests = s.guests;
-    history = s.history;
-    ran = guests_leaf_merged disk chain (asked_by lines) s.guests s.history (ending_of run.run run.unread) run.merged after s.sealed sector files old drawn now_drawn can begun;
-    written = s.written;
-  }
 
 -- a session that has started with a merge serves its first state
 pub merge_first : {S T : Type 0} (disk : S → Disk) (chain : Chain S Ledger T) (m : MergeFiles) (merge : Merge) (a : Option Trace) → StartsMerge m merge chain.layers a (disk chain.store).told → ServesFirst disk chain

@@ -1,5 +1,5 @@
 -- What a guest's readers count, as its reads are made.
-use Rattle.std.proofs.Common.{◌≡◌, ◌≢◌, ◌⊎◌, ◌<◌, ◌++◌, ◌∷◌, ℕ, zero, suc, true, List, [], length, map, set, get_or, Result, Ok, Err, inl, inr, refl, sym, ap, subst, ◌∙◌, arith, ne_eqb}
+use Rattle.std.proofs.Common.{◌≡◌, ◌≢◌, ◌⊎◌, ◌<◌, ◌++◌, ◌∷◌, ℕ, zero, suc, Bool, true, false, List, [], length, map, set, get_or, Result, Ok, Err, inl, inr, refl, sym, ap, subst, ◌∙◌, arith, ne_eqb}
 use Rattle.std.specs.Prelude.{All, IfErr, if◌then◌else◌}
 use Rattle.std.specs.List.{AllByRecursion}
 use Rattle.std.proofs.Math.Seq.{map-set_same}
@@ -10,21 +10,21 @@ use Rattle.store_model.specs.Cause.{Rose}
 use Rattle.store_model.specs.Disk.{Disk, Sealed}
 use Rattle.store_model.specs.declared.fault.ReadFault.{ReadFault}
 use Rattle.store_model.specs.declared.fault.StoreFault.{StoreFault}
+use Rattle.guest_model.specs.declared.call.Call.{Call}
 use Rattle.guest_model.specs.declared.call.Reply.{Reply}
 use Rattle.ledger.specs.declared.ledger.Ledger.{Ledger}
 use Rattle.guest_model.specs.declared.refusal.ChainRefusal.{ChainRefusal}
-use Rattle.guest_model.specs.declared.refusal.ChainRefusal.TheVariants.{Abandoned, Broken, EmptyRange, FileFull, NoMerge, NoPiece, NoRoom, NoStripe, NotYet, OutOfRange, ReadFault as Unread, ReadOnly, Spent, Stale, TooLong}
 use Rattle.read_plan.specs.Reading.{ReaderFailed}
+use Rattle.layer_session.proofs.Equal.{false_true}
 use Rattle.chain_core.specs.Refusing.{is_read}
 use Rattle.chain_core.specs.Sessions.{AreApart}
 use Rattle.chain_core.specs.declared.chain.Chain.{Chain}
-use Rattle.script.specs.declared.form.Form.{Form}
 use Rattle.shared_chain.specs.Planned.{IsReaderFor}
 use Rattle.guest_io.specs.Guests.{AreReadBy, ReadsBy}
 use Rattle.guest_io.specs.declared.placed.Placed.{Placed}
 use Rattle.serve_session.specs.Actors.{HasReaders, IsUnread}
 use Rattle.serve_session.specs.Asking.{is_want, outcome_of, read_as}
-use Rattle.serve_session.specs.Served.{Outcome, call_of, counts_behind, none_failed, unread_in, unread_of, with_count}
+use Rattle.serve_session.specs.Served.{Outcome, counts_behind, none_failed, unread_in, unread_of, with_count}
 use Rattle.read_plan.proofs.Failing.{failed_at, risen_lt}
 use Rattle.serve_session.proofs.Back.{snoc_lt}
 use Rattle.serve_session.proofs.Guests.{unread_snoc}
@@ -114,17 +114,17 @@ module _ {S T : Type 0} (disk : S → Disk) (first : Chain S Ledger T) where
   -- ---- a call
 
   -- a read that failed by a reader is one of the call, and is told its count
-  pub missed_by : (form : Form) (unread : List StoreFault) (readers new : List Sealed) (read : Result (Unit {0}) StoreFault) → HasReaders disk first unread readers → AreReadBy read readers new → IfErr read (λ fault. is_read (call_of form) ≡ true)
-      → IfErr read (λ fault. IsUnread disk first (call_of form) fault × Rose (counts_behind none_failed unread fault.file) fault.count)
-  missed_by form unread readers new (Ok done) h by reads = tt
-  missed_by form unread readers new (Err fault) h by reads =
+  pub missed_by : (call : Call) (unread : List StoreFault) (readers new : List Sealed) (read : Result (Unit {0}) StoreFault) → HasReaders disk first unread readers → AreReadBy read readers new → IfErr read (λ fault. is_read call ≡ true)
+      → IfErr read (λ fault. IsUnread disk first call fault × Rose (counts_behind none_failed unread fault.file) fault.count)
+  missed_by call unread readers new (Ok done) h by reads = tt
+  missed_by call unread readers new (Err fault) h by reads =
       let k : ReadFault = record { file = fault.file; count = fault.count } in
       ((reads, failed_there unread readers new k h by), failed_rose unread readers new k h by)
 
   -- and behind it the readers count what was told
-  pub readers_after : (outcomes : List Outcome) (r : Reply) (answer : Result Placed ChainRefusal) (readers new : List Sealed) → HasReaders disk first (unread_in outcomes) readers → ReadsBy answer readers new
-      → HasReaders disk first (unread_in (if is_want answer then outcomes else outcomes ++ outcome_of r answer ∷ [])) new
-  readers_after outcomes r answer readers new h by = go answer by
+  pub readers_behind : (outcomes : List Outcome) (r : Reply) (answer : Result Placed ChainRefusal) (readers new : List Sealed) → HasReaders disk first (unread_in outcomes) readers → ReadsBy answer readers new
+      → HasReaders disk first (unread_in (outcomes ++ outcome_of r answer ∷ [])) new
+  readers_behind outcomes r answer readers new h by = go answer by
     where
       with_last : (o : Outcome) → HasReaders disk first (unread_in outcomes ++ unread_of o) new → HasReaders disk first (unread_in (outcomes ++ o ∷ [])) new
       with_last o k = subst (λ faults. HasReaders disk first faults new) (sym (unread_snoc outcomes o)) k
@@ -136,20 +136,19 @@ module _ {S T : Type 0} (disk : S → Disk) (first : Chain S Ledger T) where
       by_read place (Ok done) e = with_last (Ok (place, Ok r)) (same e)
       by_read place (Err fault) f = with_last (Ok (place, Err fault)) (failed_readers (unread_in outcomes) readers new (record { file = fault.file; count = fault.count }) h f)
 
-      go : (answer : Result Placed ChainRefusal) → ReadsBy answer readers new → HasReaders disk first (unread_in (if is_want answer then outcomes else outcomes ++ outcome_of r answer ∷ [])) new
+      go : (answer : Result Placed ChainRefusal) → ReadsBy answer readers new → HasReaders disk first (unread_in (outcomes ++ outcome_of r answer ∷ [])) new
       go (Ok placed) by = by_read placed.place placed.read by
-      go (Err EmptyRange) e = with_last (Err EmptyRange) (same e)
-      go (Err (OutOfRange a b c)) e = with_last (Err (OutOfRange a b c)) (same e)
-      go (Err (TooLong a b)) e = with_last (Err (TooLong a b)) (same e)
-      go (Err ReadOnly) e = with_last (Err ReadOnly) (same e)
-      go (Err (Broken file count)) e = with_last (Err (Broken file count)) (same e)
-      go (Err (Spent t)) e = with_last (Err (Spent t)) (same e)
-      go (Err (FileFull next)) e = with_last (Err (FileFull next)) (same e)
-      go (Err (Unread file count)) e = with_last (Err (Unread file count)) (same e)
-      go (Err NoMerge) e = with_last (Err NoMerge) (same e)
-      go (Err (Stale taken now)) e = with_last (Err (Stale taken now)) (same e)
-      go (Err (NotYet stripe)) e = with_last (Err (NotYet stripe)) (same e)
-      go (Err (Abandoned file count)) e = with_last (Err (Abandoned file count)) (same e)
-      go (Err (NoStripe stripe stripes)) e = with_last (Err (NoStripe stripe stripes)) (same e)
-      go (Err NoPiece) e = with_last (Err NoPiece) (same e)
-      go (Err NoRoom) e = subst (HasReaders disk first (unread_in outcomes)) (sym e) h
+      go (Err x) e = with_last (Err x) (same e)
+
+  -- where memory ran out nothing was told
+  pub readers_after : (outcomes : List Outcome) (r : Reply) (answer : Result Placed ChainRefusal) (readers new : List Sealed) → HasReaders disk first (unread_in outcomes) readers → ReadsBy answer readers new
+      → HasReaders disk first (unread_in (if is_want answer then outcomes else outcomes ++ outcome_of r answer ∷ [])) new
+  readers_after outcomes r answer readers new h by = go (is_want answer) refl
+    where
+      none_read : (answer : Result Placed ChainRefusal) → is_want answer ≡ true → ReadsBy answer readers new → new ≡ readers
+      none_read (Ok placed) never by = absurd (false_true never)
+      none_read (Err x) want same = same
+
+      go : (want : Bool) → is_want answer ≡ want → HasReaders disk first (unread_in (if want then outcomes else outcomes ++ outcome_of r answer ∷ [])) new
+      go true want = subst (HasReaders disk first (unread_in outcomes)) (sym (none_read answer want by)) h
+      go false told = readers_behind outcomes r answer readers new h by

@@ -40,7 +40,7 @@ use Rattle.shared_chain.specs.Steps.{open_by as opens_by}
 use Rattle.serve_session.specs.Endings.{Ending, ending_of}
 use Rattle.serve_session.specs.Running.{HasRunGuests, HasRunServe, HasServedFiles, HaveServed}
 use Rattle.serve_session.specs.Served.{AreServed, Asking, Outcome, all_told, all_unread, asked_by}
-use Rattle.serve_session.specs.Sealing.{IsSealing, ServesFirst, ServesScript, ServesSealed}
+use Rattle.serve_session.specs.Sealing.{IsSealing, ServesFirst, ServesSealed}
 use Rattle.serve_session.specs.Serving.{HasServed, IsUpTo, drive_from}
 use Rattle.serve_session.specs.declared.merging.MergeRun.{MergeRun}
 use Rattle.serve_session.proofs.Filled.{long_up}
@@ -187,16 +187,6 @@ pub guests_ran : {S T : Type 0} (disk : S → Disk) (chain : Chain S Ledger T) (
     → ServesSealed disk false chain asking guests history end merged after → HasStarted Guests files chain.layers old (disk chain.store) drawn now → CanStart files old → chain.layers.geometry.sector ≡ 512 → IsOfDisk files chain.layers.geometry → HasRunGuests files asking guests history end old after drawn now
 guests_ran disk chain [] asking guests history end merged old after drawn now sealed begun can sector geometry = absurd can.line
 guests_ran disk chain (leaf ∷ others) asking guests history end merged old after drawn now sealed begun can sector geometry = has_run disk chain asking guests history end merged after sealed sector leaf others old drawn now begun geometry
-
--- and of a script
-pub serve_ran : {S T : Type 0} (disk : S → Disk) (chain : Chain S Ledger T) (files : List LinkedFile) (names : List (List ℕ)) (lines : List Line) (run : MergeRun) (old after : Disk) (drawn now : Option (List (List ℕ))) → ServesScript disk false chain names lines run after
-    → HasStarted Guests files chain.layers old (disk chain.store) drawn now → CanStart files old → chain.layers.geometry.sector ≡ 512 → IsOfDisk files chain.layers.geometry → HasRunServe files names lines (record { run = run.run; unread = run.unread; tally = run.tally }) old after drawn now
-serve_ran disk chain files names lines run old after drawn now s begun can sector geometry = record {
-  guests = s.guests;
-  history = s.history;
-  ran = guests_ran disk chain files (asked_by lines) s.guests s.history (ending_of run.run run.unread) run.merged old after drawn now s.sealed begun can sector geometry;
-  written = s.written;
-}
 
 -- the session that has started serves its first state
 pub serves_first : {S T : Type 0} (disk : S → Disk) (chain : Chain S Ledger T) (files : List LinkedFile) (old : Disk) (drawn now : Option (List (List ℕ))) → CanStart files old → HasStarted Guests files chain.layers old (disk chain.store) drawn now → ServesFirst disk chain

@@ -87,10 +87,10 @@ module _ {S T : Type 0} where
   asked_free disk who form room lock old new answer asked free = let k = asked_seat disk who form room old new answer asked in (k.lock ∙ free.0, k.free)
 
   module _ (disk : S → Disk) (first : Chain S Ledger T) (lock : TableId) (names : List (List ℕ)) (forms : List Form) (form : Form) (old : Actor S T) (is : IsActor disk first lock names forms old) where
-    more_heard : (fs : List Form) → HasHeard disk first old.number (map call_of (forms ++ fs)) old.guest.seat is.outcomes
+    more_heard : (fs : List Form) → HasHeard disk first false old.number (map call_of (forms ++ fs)) old.guest.seat is.outcomes
     more_heard fs =
-        subst (λ cs. HasHeard disk first old.number cs old.guest.seat is.outcomes) (sym (calls_append forms fs))
-        (nothing_more disk first old.number (map call_of forms) is.outcomes (call_of form) old.guest.seat old.guest.seat is.hears (starts-itself old.guest.seat.seen) (contains_itself old.guest.seat.basis) (omega arith) (map call_of fs) refl (omega arith))
+        subst (λ cs. HasHeard disk first false old.number cs old.guest.seat is.outcomes) (sym (calls_append forms fs))
+        (nothing_more disk first false old.number (map call_of forms) is.outcomes (call_of form) old.guest.seat old.guest.seat is.hears (starts-itself old.guest.seat.seen) (contains_itself old.guest.seat.basis) (omega arith) (map call_of fs) refl (omega arith))
 
     -- memory has run out before
     pub short_passes : old.is_short ≡ true → IsActor disk first lock names (forms ++ called_form form) old
@@ -120,7 +120,7 @@ module _ {S T : Type 0} where
         go false short false call h = other_passes call
 
     -- the call was made
-    module _ (room : List ℕ) (seat : Known Step (Basis S T)) (answer : Result Placed ChainRefusal) (asked : IsAsked disk (caller_of old.guest.number old.guest.next) form room old.guest.seat seat answer) (readers : List Sealed) (only : OnlyReadsMiss form answer) (by : ReadsBy answer old.guest.readers readers)
+    module _ (room : List ℕ) (seat : Known Step (Basis S T)) (answer : Result Placed ChainRefusal) (asked : IsAsked disk (caller_of old.guest.number old.guest.next) form room old.guest.seat seat answer) (readers : List Sealed) (only : OnlyReadsMiss (call_of form) answer) (by : ReadsBy answer old.guest.readers readers)
         (few : length forms < 2 ^ 32) (memory : old.is_short ≡ false) (call : is_call form ≡ true) where
       kept : HasKept disk first names forms old is.outcomes
       kept = is.kept memory
@@ -139,16 +139,16 @@ module _ {S T : Type 0} where
       missed : IfOk answer (λ placed. IfErr placed.read (λ fault. IsUnread disk first (call_of form) fault × Rose (counts_behind none_failed (unread_in is.outcomes) fault.file) fault.count))
       missed = go answer only by
         where
-          go : (a : Result Placed ChainRefusal) → OnlyReadsMiss form a → ReadsBy a old.guest.readers readers
+          go : (a : Result Placed ChainRefusal) → OnlyReadsMiss (call_of form) a → ReadsBy a old.guest.readers readers
               → IfOk a (λ placed. IfErr placed.read (λ fault. IsUnread disk first (call_of form) fault × Rose (counts_behind none_failed (unread_in is.outcomes) fault.file) fault.count))
-          go (Ok placed) reads own = missed_by disk first form (unread_in is.outcomes) old.guest.readers readers placed.read is.readers own reads
+          go (Ok placed) reads own = missed_by disk first (call_of form) (unread_in is.outcomes) old.guest.readers readers placed.read is.readers own reads
           go (Err x) reads own = tt
 
-      heard : HasHeard disk first old.number (map call_of (forms ++ form ∷ [])) seat outcomes_after
+      heard : HasHeard disk first false old.number (map call_of (forms ++ form ∷ [])) seat outcomes_after
       heard =
-          subst (λ cs. HasHeard disk first old.number cs seat outcomes_after) (sym (calls_append forms (form ∷ [])))
+          subst (λ cs. HasHeard disk first false old.number cs seat outcomes_after) (sym (calls_append forms (form ∷ [])))
           (let k = asked_seat disk (caller_of old.guest.number old.guest.next) form room old.guest.seat seat answer asked in
-          asked_kept disk first old.number (map call_of forms) is.outcomes (call_of form) old.guest.seat seat is.hears k.seen k.basis k.refusals (kept.all ∙ sym (as_many forms)) (asked_drawn disk (caller_of old.guest.number old.guest.next) form room old.guest.seat seat answer asked) form refl is.sector room answer asked_by missed)
+          asked_kept disk first false old.number (map call_of forms) is.outcomes (call_of form) old.guest.seat seat is.hears k.seen k.basis k.refusals (kept.all ∙ sym (as_many forms)) (asked_drawn disk (caller_of old.guest.number old.guest.next) form room old.guest.seat seat answer asked) form refl is.sector room answer asked_by missed)
 
       pub called : (a : Actor S T) → a.guest.seat ≡ seat → a.guest.readers ≡ readers → a.guest.number ≡ old.guest.number → a.guest.next ≡ one_more old.guest.next → a.number ≡ old.number → length a.room.items ≡ 1048576 → a.unread ≡ with_answer old.unread answer → AddsUp a.tally outcomes_after
           → (a.is_short ≡ false → (is_want answer ≡ false) × (a.told.items ≡ old.told.items ++ told_call names form (outcome_of (shown_in room form) answer) ∷ [])) → IsActor disk first lock names (forms ++ called_form form) a
@@ -158,7 +158,7 @@ module _ {S T : Type 0} where
         room = rooms;
         sector = is.sector;
         outcomes = outcomes_after;
-        hears = subst (λ n. HasHeard disk first n (map call_of (forms ++ form ∷ [])) a.guest.seat outcomes_after) (sym number) (subst (λ s. HasHeard disk first old.number (map call_of (forms ++ form ∷ [])) s outcomes_after) (sym seat_is) heard);
+        hears = subst (λ n. HasHeard disk first false n (map call_of (forms ++ form ∷ [])) a.guest.seat outcomes_after) (sym number) (subst (λ s. HasHeard disk first false old.number (map call_of (forms ++ form ∷ [])) s outcomes_after) (sym seat_is) heard);
         readers = subst (HasReaders disk first (unread_in outcomes_after)) (sym readers_are) (readers_after disk first is.outcomes (shown_in room form) answer old.guest.readers readers is.readers by);
         tally = tally;
         unread = unread ∙ unread_more is.outcomes old.unread (shown_in room form) answer is.unread (subst (λ n. n < 2 ^ 32) (sym kept.all) few);

@@ -73,29 +73,30 @@ module _ {S T : Type 0} (disk : S → Disk) (first : Chain S Ledger T) where
     pub replies : IfOk done.1 (RepliesBehind disk first before call)
     pub unread : IfErr done.1 (IsUnread call)
 
-  -- it was refused, for what is noted or by its place
-  abbrev pub IsHeardOf : Known Step (Basis S T) → Call → ChainRefusal → Type 0
-  IsHeardOf seat call refusals.EmptyRange = misplaced call first.layers ≡ Some refusals.EmptyRange
-  IsHeardOf seat call (refusals.OutOfRange from count sectors) = misplaced call first.layers ≡ Some (refusals.OutOfRange from count sectors)
-  IsHeardOf seat call (refusals.TooLong count limit) = misplaced call first.layers ≡ Some (refusals.TooLong count limit)
-  IsHeardOf seat call refusals.ReadOnly = misplaced call first.layers ≡ Some refusals.ReadOnly
-  IsHeardOf seat call (refusals.Broken file count) = HasNote seat.basis.notes (notes.ChangeFailed file count)
+  -- it was refused, for what is noted or by its place; or memory ran out for it, which is told by some fronts
+  abbrev pub IsHeardOf : Bool → Known Step (Basis S T) → Call → ChainRefusal → Type 0
+  IsHeardOf tells seat call refusals.EmptyRange = misplaced call first.layers ≡ Some refusals.EmptyRange
+  IsHeardOf tells seat call (refusals.OutOfRange from count sectors) = misplaced call first.layers ≡ Some (refusals.OutOfRange from count sectors)
+  IsHeardOf tells seat call (refusals.TooLong count limit) = misplaced call first.layers ≡ Some (refusals.TooLong count limit)
+  IsHeardOf tells seat call refusals.ReadOnly = misplaced call first.layers ≡ Some refusals.ReadOnly
+  IsHeardOf tells seat call (refusals.Broken file count) = HasNote seat.basis.notes (notes.ChangeFailed file count)
   -- so many turns, or events, there were
-  IsHeardOf seat call (refusals.Spent t) = (2 ^ 63 ≤ t) × ((0 < seat.refusals) ⊎ (t ≤ seat.basis.events))
-  IsHeardOf seat call (refusals.FileFull next) = (misplaced call first.layers ≡ None) × HasNote seat.basis.notes (notes.Full next) × StopsOver disk first call (refusals.FileFull next)
-  IsHeardOf seat call (refusals.ReadFault file count) =
+  IsHeardOf tells seat call (refusals.Spent t) = (2 ^ 63 ≤ t) × ((0 < seat.refusals) ⊎ (t ≤ seat.basis.events))
+  IsHeardOf tells seat call (refusals.FileFull next) = (misplaced call first.layers ≡ None) × HasNote seat.basis.notes (notes.Full next) × StopsOver disk first call (refusals.FileFull next)
+  IsHeardOf tells seat call (refusals.ReadFault file count) =
       (misplaced call first.layers ≡ None) × HasNote seat.basis.notes (notes.ReadFailed file count) × (HasNote first_notes (notes.ReadFailed file count) → 2 ^ 64 - 1 ≤ count)
-  IsHeardOf seat call other = ⊥
+  IsHeardOf tells seat call refusals.NoRoom = tells ≡ true
+  IsHeardOf tells seat call other = ⊥
 
-  abbrev pub IsHeard : Known Step (Basis S T) → ℕ → ℕ → Call → Outcome → Type 0
-  IsHeard seat guest number call (Ok done) = HasPlace seat.seen guest number call done
-  IsHeard seat guest number call (Err refusal) = IsHeardOf seat call refusal
+  abbrev pub IsHeard : Bool → Known Step (Basis S T) → ℕ → ℕ → Call → Outcome → Type 0
+  IsHeard tells seat guest number call (Ok done) = HasPlace seat.seen guest number call done
+  IsHeard tells seat guest number call (Err refusal) = IsHeardOf tells seat call refusal
 
   -- so it is of a guest's calls, the first of which has this number
-  abbrev pub AreHeard : Known Step (Basis S T) → ℕ → ℕ → List Call → List Outcome → Type 0
-  AreHeard seat guest number calls [] = ⊤
-  AreHeard seat guest number [] (o ∷ outcomes) = ⊥
-  AreHeard seat guest number (call ∷ calls) (o ∷ outcomes) = IsHeard seat guest number call o × AreHeard seat guest (number + 1) calls outcomes
+  abbrev pub AreHeard : Bool → Known Step (Basis S T) → ℕ → ℕ → List Call → List Outcome → Type 0
+  AreHeard tells seat guest number calls [] = ⊤
+  AreHeard tells seat guest number [] (o ∷ outcomes) = ⊥
+  AreHeard tells seat guest number (call ∷ calls) (o ∷ outcomes) = IsHeard tells seat guest number call o × AreHeard tells seat guest (number + 1) calls outcomes
 
 -- the call at this place, behind the whole history, is what broke the session: one of this guest's
 pub record BreaksAt (seen : List Step) (p guest : ℕ) (calls : List Call) (outcomes : List Outcome) : Type 0 where
@@ -122,9 +123,9 @@ called_form form = if is_call form then form ∷ [] else []
 
 module _ {S T : Type 0} (disk : S → Disk) (first : Chain S Ledger T) where
   -- What a guest with this seat was told of its calls, and nothing else is its own. It drew a ticket for each of them at most.
-  pub record HasHeard (guest : ℕ) (calls : List Call) (seat : Known Step (Basis S T)) (outcomes : List Outcome) : Type 0 where
+  pub record HasHeard (tells : Bool) (guest : ℕ) (calls : List Call) (seat : Known Step (Basis S T)) (outcomes : List Outcome) : Type 0 where
     pub knows : IsFrom disk first seat.basis
-    pub heard : AreHeard disk first seat guest 1 calls outcomes
+    pub heard : AreHeard disk first tells seat guest 1 calls outcomes
     pub order : IsRising (places_in outcomes)
     pub unread : IsCountedUp none_failed (unread_in outcomes)
     pub owns : (p : ℕ) → 0 < times p seat.mine → OwnsAt seat.seen p guest calls outcomes
@@ -151,7 +152,7 @@ module _ {S T : Type 0} (disk : S → Disk) (first : Chain S Ledger T) where
     pub room : length actor.room.items ≡ 1048576
     pub sector : first.layers.geometry.sector ≡ sector_size
     pub outcomes : List Outcome
-    pub hears : HasHeard actor.number (map call_of forms) actor.guest.seat outcomes
+    pub hears : HasHeard false actor.number (map call_of forms) actor.guest.seat outcomes
     pub readers : HasReaders (unread_in outcomes) actor.guest.readers
     pub unread : actor.unread ≡ length (unread_in outcomes)
     pub tally : AddsUp actor.tally outcomes
@@ -168,7 +169,7 @@ module _ {S T : Type 0} (disk : S → Disk) (first : Chain S Ledger T) where
     pub free : IsFree lock seat
     pub leads : seat.family.is_first ≡ true
     pub knows : IsFrom disk first seat.basis
-    pub heard : EachGuest (λ guest outcomes. AreHeard disk first seat guest 1 (asking.calls guest) outcomes) 1 guests
+    pub heard : EachGuest (λ guest outcomes. AreHeard disk first asking.tells_want seat guest 1 (asking.calls guest) outcomes) 1 guests
     pub order : EachGuest (λ guest outcomes. IsRising (places_in outcomes)) 1 guests
     pub unread : EachGuest (λ guest outcomes. IsCountedUp none_failed (unread_in outcomes)) 1 guests
     pub owns : (p : ℕ) → 0 < times p seat.mine → IsOwned merges seat.seen p asking guests

@@ -114,6 +114,6 @@ module _ {S T : Type 0} where
       MatchBool (asks_too_many form) (IsTooLong disk who (emptied form) (count_of form) old new answer) (IsMade disk who (call_of form) (reply_in room form) old new answer)
 
 -- a reader fails for a read alone
-abbrev pub OnlyReadsMiss : Form → Result Placed ChainRefusal → Type 0
-OnlyReadsMiss form (Ok placed) = IfErr placed.read (λ fault. is_read (call_of form) ≡ true)
-OnlyReadsMiss form (Err refusal) = Unit {0}
+abbrev pub OnlyReadsMiss : Call → Result Placed ChainRefusal → Type 0
+OnlyReadsMiss call (Ok placed) = IfErr placed.read (λ fault. is_read call ≡ true)
+OnlyReadsMiss call (Err refusal) = Unit {0}

@@ -6,8 +6,10 @@ pub mod Sealing
 pub mod Tools
 pub mod Actors
 pub mod Lists
+pub mod Calling
 pub mod MergeServed
 pub mod Serving
+pub mod Beginning
 pub mod Tallies
 pub mod Running
 pub mod Endings

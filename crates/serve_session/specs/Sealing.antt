@@ -12,13 +12,10 @@ use Rattle.chain_core.specs.States.{IsServing, State}
 use Rattle.shared_chain.specs.Closing.{LeavesHistory}
 use Rattle.shared_chain.specs.Faults.{EndsCounted}
 use Rattle.shared_chain.specs.Homes.{session_of}
-use Rattle.script.specs.declared.form.Line.{Line}
 use Rattle.serve_session.specs.Actors.{HasReaders}
-use Rattle.serve_session.specs.Endings.{Ending, ending_of}
-use Rattle.serve_session.specs.Served.{Asking, Outcome, asked_by}
+use Rattle.serve_session.specs.Endings.{Ending}
+use Rattle.serve_session.specs.Served.{Asking, Outcome}
 use Rattle.serve_session.specs.Serving.{HasServed}
-use Rattle.serve_session.specs.Written.{IsWritten}
-use Rattle.serve_session.specs.declared.merging.MergeRun.{MergeRun}
 
 module _ {S T : Type 0} (disk : S → Disk) where
   -- where the store tells its content, the session serves a state with no call
@@ -54,10 +51,3 @@ module _ {S T : Type 0} (disk : S → Disk) where
     pub sealing : IsSealing chain first met
     pub told : end.fault ≡ None → met ≡ None
     pub served : HasServed disk merges first asking guests history end merged after
-
-  -- the guests of a script were served so
-  pub record ServesScript (merges : Bool) (chain : Chain S Ledger T) (names : List (List ℕ)) (lines : List Line) (run : MergeRun) (after : Disk) : Type 0 where
-    pub guests : List (List Outcome)
-    pub history : History
-    pub sealed : ServesSealed merges chain (asked_by lines) guests history (ending_of run.run run.unread) run.merged after
-    pub written : IsWritten names lines guests history run.run run.tally

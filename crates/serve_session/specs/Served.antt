@@ -48,14 +48,16 @@ guest_count lines = min (greatest_from 0 lines) 64
 
 -- ---- what is asked
 
--- What guests ask of one disk, whatever front they come by: how many they are, from guest 1 on, and the calls that each makes, in its order.
+-- What guests ask of one disk, whatever front they come by: how many they are, from guest 1 on, and the calls that each makes, in its order; and
+-- whether a guest is told where memory ran out for a call, and may go on. (A guest of a script isn't, and makes no further call then.)
 pub record Asking : Type 0 where
   pub count : ℕ
   pub calls : ℕ → List Call
+  pub tells_want : Bool
 
 -- by a script
 abbrev pub asked_by : List Line → Asking
-asked_by lines = record { count = guest_count lines; calls = λ guest. map call_of (forms_of guest lines) }
+asked_by lines = record { count = guest_count lines; calls = λ guest. map call_of (forms_of guest lines); tells_want = false }
 
 -- ---- what is told
 
@@ -153,12 +155,14 @@ IsRising (p ∷ places) = AllByRecursion (λ q. p < q) places × IsRising places
 abbrev pub misplaced : Drive → Call → Option ChainRefusal
 misplaced drive call = out_of (range_of drive.geometry call) (barred call drive.can_change)
 
--- What refuses a call: it is misplaced; a change of the leaf has failed, which has broken the session for all; or, of a call that isn't misplaced, a read of a file failed, or the file is full, which stops it as a line of `steps`.
-pub data IsRefused (drive : Drive) (broken : Option StoreFault) (call : Call) : ChainRefusal → Type 0 where
-  is_misplaced : (e : ChainRefusal) → misplaced drive call ≡ Some e → IsRefused drive broken call e
-  is_broken : (fault : StoreFault) → broken ≡ Some fault → IsRefused drive broken call (refusals.Broken fault.file fault.count)
-  is_unread : (file count : ℕ) → misplaced drive call ≡ None → IsRefused drive broken call (refusals.ReadFault file count)
-  is_full : (next : ℕ) → misplaced drive call ≡ None → Stops call (refusals.FileFull next) → IsRefused drive broken call (refusals.FileFull next)
+-- What refuses a call: it is misplaced; a change of the leaf has failed, which has broken the session for all; of a call that isn't misplaced, a read of a file failed, or the file is full, which stops it as a line of `steps`; or memory
+-- ran out for it, where that is told.
+pub data IsRefused (drive : Drive) (broken : Option StoreFault) (tells_want : Bool) (call : Call) : ChainRefusal → Type 0 where
+  is_misplaced : (e : ChainRefusal) → misplaced drive call ≡ Some e → IsRefused drive broken tells_want call e
+  is_broken : (fault : StoreFault) → broken ≡ Some fault → IsRefused drive broken tells_want call (refusals.Broken fault.file fault.count)
+  is_unread : (file count : ℕ) → misplaced drive call ≡ None → IsRefused drive broken tells_want call (refusals.ReadFault file count)
+  is_full : (next : ℕ) → misplaced drive call ≡ None → Stops call (refusals.FileFull next) → IsRefused drive broken tells_want call (refusals.FileFull next)
+  has_no_room : tells_want ≡ true → IsRefused drive broken tells_want call refusals.NoRoom
 
 abbrev pub entry_of : ℕ → ℕ → Call → Entry
 entry_of guest number call = record { guest = guest; no = number; call = call }
@@ -174,15 +178,16 @@ pub record HasDone (drive : Drive) (h : History) (entry : Entry) (done : ℕ × 
   pub unread : IfErr done.1 (λ fault. is_read entry.call ≡ true)
 
 -- What a guest is told of its call of this number, in a session with this history at its end, which this fault has broken if one did.
-abbrev pub IsOutcome : Drive → History → Option StoreFault → ℕ → ℕ → Call → Outcome → Type 0
-IsOutcome drive h broken guest number call (Ok done) = HasDone drive h (entry_of guest number call) done
-IsOutcome drive h broken guest number call (Err e) = IsRefused drive broken call e
+abbrev pub IsOutcome : Drive → History → Option StoreFault → Bool → ℕ → ℕ → Call → Outcome → Type 0
+IsOutcome drive h broken tells_want guest number call (Ok done) = HasDone drive h (entry_of guest number call) done
+IsOutcome drive h broken tells_want guest number call (Err e) = IsRefused drive broken tells_want call e
 
 -- so it is of its calls, the first of which has this number; where memory ran out not all of them were made
-abbrev pub AreOutcomes : Drive → History → Option StoreFault → ℕ → ℕ → List Call → List Outcome → Type 0
-AreOutcomes drive h broken guest number calls [] = ⊤
-AreOutcomes drive h broken guest number [] (o ∷ outcomes) = ⊥
-AreOutcomes drive h broken guest number (call ∷ calls) (o ∷ outcomes) = IsOutcome drive h broken guest number call o × AreOutcomes drive h broken guest (number + 1) calls outcomes
+abbrev pub AreOutcomes : Drive → History → Option StoreFault → Bool → ℕ → ℕ → List Call → List Outcome → Type 0
+AreOutcomes drive h broken tells_want guest number calls [] = ⊤
+AreOutcomes drive h broken tells_want guest number [] (o ∷ outcomes) = ⊥
+AreOutcomes drive h broken tells_want guest number (call ∷ calls) (o ∷ outcomes) =
+    IsOutcome drive h broken tells_want guest number call o × AreOutcomes drive h broken tells_want guest (number + 1) calls outcomes
 
 -- The call broke the session: it was told so, by the fault that did.
 abbrev pub HasBroken : Call → Break → Outcome → Type 0
@@ -206,7 +211,7 @@ IsBreakOf true asking guests ended b = SomeGuest (λ guest outcomes. HasBreaker 
 -- session's end is answered this fault, if it failed or if a fault had broken the session; the call that this one broke it in is one of theirs,
 -- if it wasn't a step of a merge.
 pub record AreServed (merges : Bool) (drive : Drive) (asking : Asking) (guests : List (List Outcome)) (h : History) (ended : Option StoreFault) (broken : Option Break) : Type 0 where
-  pub told : EachGuest (λ guest outcomes. AreOutcomes drive h ended guest 1 (asking.calls guest) outcomes) 1 guests
+  pub told : EachGuest (λ guest outcomes. AreOutcomes drive h ended asking.tells_want guest 1 (asking.calls guest) outcomes) 1 guests
   pub order : EachGuest (λ guest outcomes. IsRising (places_in outcomes)) 1 guests
   pub unread : EachGuest (λ guest outcomes. IsCountedUp none_failed (unread_in outcomes)) 1 guests
   pub all : (p : ℕ) → 1 ≤ p → p ≤ length h → SomeGuest (λ guest outcomes. Has p (places_in outcomes)) 1 guests

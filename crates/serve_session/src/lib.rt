@@ -3,20 +3,26 @@
 #![tactic(auto)]
 
 mod actor;
+mod beginning;
+mod begun;
 mod calls;
-mod fresh;
+mod closing;
+mod laws;
 mod merging;
 mod sealing;
 mod serving;
 mod session;
+mod starting;
 mod tally;
 mod tools;
 
-pub use merging::{MergeRun, pieces_for, run_serve_leaf_merge, run_serve_merge, stripes_of};
+pub use beginning::{Begun, begin};
+pub use closing::{Ended, end_session};
+pub use laws::guests_call;
+pub use merging::{MergeRun, pieces_for, run_serve_leaf_merge, run_serve_merge};
 pub use sealing::{Unserved, seal};
-pub use serving::{
-    add_workers, beside, close_shared, end_merge, end_workers, room_for_sets, rooms_for,
-};
+pub use serving::{add_workers, beside, close_shared, join_guest, room_for_sets, rooms_for};
 pub use session::{ServeRun, run_serve};
+pub use starting::{begin_guests, begin_leaf_merge, begin_merge, stripes_of};
 pub use tally::Tally;
 pub use tools::{Tools, tools_for};

@@ -9,9 +9,10 @@ ghost use Rattle.serve_session.specs.MergeServed.{HasRunServeLeafMerge, HasRunSe
 ghost use Rattle.serve_session.specs.Back.{any_failed};
 ghost use Rattle.serve_session.specs.Served.{guest_count};
 
-use crate::fresh::serve_fresh;
+use crate::begun::serve_begun;
+use crate::starting::{begin_leaf_merge, begin_merge};
 use crate::tally::Tally;
-use chain_core::{Chain, MergeStartRefusal};
+use chain_core::MergeStartRefusal;
 use guest_model::ChainRefusal;
 use ledger::Ledger;
 use link_rules::LinkedFile;
@@ -25,9 +26,6 @@ use std::sync::Wait;
 use std::thread::Threads;
 use store_model::{Gate, Ids, Store};
 use vx_base::{Name, NoRoom};
-
-// Sectors of a stripe.
-const STRIPE: u64 = 2_048;
 
 /// What a script's session with a merge gave.
 #[derive(Drop)]
@@ -50,17 +48,6 @@ pub fn pieces_for(alloc: Global, workers: u32) -> Result<Vec<Piece>, NoRoom>
         pieces.push(Piece::new(alloc)?)?;
     }
     Ok(pieces)
-}
-
-/// How many stripes of 1 MB the disk of a chain's files has; fewer than 2^32.
-pub fn stripes_of(files: &[LinkedFile]) -> u32 {
-    match files.first() {
-        Some(leaf) => {
-            let stripes = leaf.parts.geometry.sectors.div_ceil(STRIPE);
-            stripes.min(u64::from(u32::MAX)) as u32
-        }
-        None => 0,
-    }
 }
 
 /// Runs a script of `serve` in a session over the files of a chain that starts with the merge of its file `source`, which isn't the leaf, into
@@ -102,18 +89,17 @@ where
     // Where no session started.
     ensures kept { OnErr result.1 (EachOpensAlike files.now (S.disk store).told (S.disk result.0).told) }
 {
-    let stripes = stripes_of(files);
-    match Chain::start_merge(alloc, store, files, source, Ledger::keeping(alloc), ids) {
-        Ok(chain) => {
-            let (store, run, back) = serve_fresh(
+    let history = Ledger::keeping(alloc);
+    let guests = rooms.len() as u32;
+    match begin_merge(alloc, store, files, source, history, ids, guests, pieces) {
+        Ok(begun) => {
+            let (store, run, back) = serve_begun(
                 rt,
                 alloc,
-                chain,
+                begun,
                 names,
                 lines,
                 rooms,
-                stripes,
-                pieces,
                 Some(last),
                 gate,
             );
@@ -160,18 +146,17 @@ where
     // Where no session started.
     ensures kept { OnErr result.1 (EachOpensAlike files.now (S.disk store).told (S.disk result.0).told) }
 {
-    let stripes = stripes_of(files);
-    match Chain::start_leaf_merge(alloc, store, files, Ledger::keeping(alloc), ids) {
-        Ok(chain) => {
-            let (store, run, back) = serve_fresh(
+    let history = Ledger::keeping(alloc);
+    let guests = rooms.len() as u32;
+    match begin_leaf_merge(alloc, store, files, history, ids, guests, pieces) {
+        Ok(begun) => {
+            let (store, run, back) = serve_begun(
                 rt,
                 alloc,
-                chain,
+                begun,
                 names,
                 lines,
                 rooms,
-                stripes,
-                pieces,
                 Some(last),
                 gate,
             );

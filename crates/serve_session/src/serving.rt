@@ -1,6 +1,6 @@
 //! A script's session with several guests, from the first call to its end.
 
-ghost use Rattle.std.specs.Prelude.{◌≡◌, ◌+◌, ◌*◌, ◌≤◌, ◌<◌, ◌^◌, ◌||◌, ℕ, Bool, List, All, Err, Ok, false, true, length, map, nat_lt, is_some, string_bytes, vec_capacity, [], IfOk, IfSome, None, Some};
+ghost use Rattle.std.specs.Prelude.{◌≡◌, ◌+◌, ◌*◌, ◌≤◌, ◌<◌, ◌^◌, ◌||◌, ◌++◌, ◌∷◌, ℕ, Bool, List, All, Err, Ok, false, true, length, map, nat_lt, is_some, string_bytes, vec_capacity, [], IfOk, IfSome, None, Some};
 ghost use denote.Param.Send.{IsSend, IsSync};
 ghost use Rattle.std.specs.Fork.{AcceptsEach};
 ghost use Rattle.serve_session.specs.Beside.{WasCalledAt};
@@ -8,7 +8,10 @@ ghost use Rattle.chain_core.specs.declared.chain.Chain.{Chain};
 ghost use Rattle.ledger.specs.declared.ledger.Ledger.{Ledger};
 ghost use Rattle.shared_chain.specs.Seats.{IsFree};
 ghost use Rattle.seats.specs.Families.{newborn};
-ghost use Rattle.serve_session.specs.Actors.{AreJoined, HasRun};
+ghost use Rattle.serve_session.specs.Actors.{AreJoined, HasHeard, HasRun};
+ghost use Rattle.serve_session.specs.Beginning.{CanBeShared};
+ghost use Rattle.shared_chain.specs.Bases.{together};
+ghost use Rattle.turn_lock.specs.Seats.{together_of};
 ghost use Rattle.serve_session.specs.Back.{any_failed};
 ghost use Rattle.script.specs.Transcript.{IsTold, serve_text};
 ghost use Rattle.serve_session.specs.Lists.{AreActors, AreFresh, CanWork, HasDone, HasJoined, IsFreshWorker, IsReady, RunsEach, WorkersJoin, WorksEach, with_splits};
@@ -16,10 +19,12 @@ ghost use Rattle.serve_session.specs.Tools.{AreToolsFor};
 ghost use Rattle.serve_session.specs.Served.{Asking, Outcome, all_unread, asked_by, greatest_from, guest_count};
 ghost use Rattle.serve_session.specs.Sealing.{IsSetFor};
 ghost use Rattle.serve_session.specs.Tallies.{no_tally};
-ghost use Rattle.serve_session.specs.Serving.{EndsAs, HasBegun, HasServedScript, IsShared, WasShared};
+ghost use Rattle.serve_session.specs.Serving.{HasBegun, HasServedScript, IsShared, WasShared};
 ghost use Rattle.serve_session.specs.Written.{AreKept};
 
 use crate::actor::{Actor, Left as GuestLeft, ROOM_LEN};
+use crate::beginning::Begun;
+use crate::closing::{Ended, end_session};
 use crate::merging::MergeRun;
 use crate::tally::Tally;
 use crate::tools::Tools;
@@ -164,6 +169,25 @@ struct Totals {
     is_short: bool,
 }
 
+/// Joins the seat of one guest more into the first, to which those of the guests before it are joined.
+pub fn join_guest<S: Store>(
+    lock: &TurnLock<SharedChain<S>>,
+    first: &mut Seat<SharedChain<S>>,
+    seat: Seat<SharedChain<S>>,
+    chain: &Snapshot<SharedChain<S>>,
+)
+    requires own { IsFree lock.now first.old }
+    requires leads { first.old.family.is_first ≡ true }
+    requires free { IsFree lock.now seat }
+    ensures both { first.new ≡ together_of together first.old seat }
+    ensures joined { (asking : Asking) (guests : List (List Outcome)) (outcomes : List Outcome) → AreJoined S.disk chain.now.value.first false lock.now asking first.old guests
+        → HasHeard S.disk chain.now.value.first asking.tells_want (1 + length guests) (asking.calls (1 + length guests)) seat outcomes
+        → AreJoined S.disk chain.now.value.first false lock.now asking first.new (guests ++ outcomes ∷ []) }
+{
+    let _ = chain;
+    lock.join(first, seat);
+}
+
 // Joins the seats of all actors, and keeps their readers and what they leave, of the first guest first; there is room for it.
 fn end_actors<S: Store, N: AsStr>(
     lock: &TurnLock<SharedChain<S>>,
@@ -196,7 +220,7 @@ fn end_actors<S: Store, N: AsStr>(
     let mut is_short = false;
     while let Some(actor) = actors.pop() {
         let (seat, readers, left) = actor.end();
-        lock.join(first, seat);
+        join_guest(lock, first, seat, chain);
         back.push_reserved(readers);
         let GuestLeft {
             told: calls,
@@ -602,19 +626,6 @@ where
     end_all(lock, first, actors, workers, told, back, &was, names, lines)
 }
 
-/// Finishes the merge, if there is one.
-pub fn end_merge<S: Store>(
-    chain: &mut SharedChain<S>,
-    last: Option<&mut Piece>,
-) -> Result<(), ChainRefusal>
-    ensures { EndsAs S.disk (is_some last.entry) chain.old chain.new result }
-{
-    match last {
-        Some(piece) => chain.end_merge(piece),
-        None => Ok(()),
-    }
-}
-
 /// Runs a script of `serve` over a chain whose session has begun, each guest's calls in the script's order, beside a worker of the merge for
 /// each one's tools; then the merge, if there is one, is finished, and the session ends. The store comes back, whatever is answered, and with it the
 /// readers of guests and workers. The names are those of the chain's files, from the leaf on; each guest has a room, and the merge a piece of its
@@ -622,42 +633,49 @@ pub fn end_merge<S: Store>(
 pub(crate) fn serve<S: Store + Send, R: Threads + Wait + Sync, G: Gate + Sync, N: AsStr + Sync>(
     rt: &R,
     alloc: Global,
-    chain: SharedChain<S>,
+    begun: Begun<S>,
     names: &[N],
     lines: &[Line],
     rooms: Vec<Vec<u8>>,
-    sets: Readers<S::R>,
-    stripes: u32,
-    tools: Vec<Tools>,
     last: Option<&mut Piece>,
     gate: &G,
 ) -> (S, MergeRun, Vec<ReaderSet<S::R>>)
 where
     S::R: Send + Drop,
-    requires begun { HasBegun S.disk chain }
+    requires ready { CanBeShared S.disk (length rooms.items) (length begun.tools.items) begun }
     requires few { length lines.now ≤ 2 ^ 20 }
     requires count { length rooms.items ≡ guest_count lines.now }
     requires each { All (λ room. length room.items ≡ 1048576) rooms.items }
-    requires sets { (length sets ≡ length rooms.items + length tools.items) × All (IsSetFor S.disk chain.first) sets }
-    requires tools { All (AreToolsFor S.disk chain.first) tools.items }
-    requires workers { length tools.items ≤ 64 }
-    requires alone { is_some last ≡ false → length tools.items ≡ 0 }
-    ensures served { HasServedScript S.disk (is_some last.entry) chain.first (map N.text names.now) lines.now result.1 (S.disk result.0) }
+    requires workers { length begun.tools.items ≤ 64 }
+    requires alone { is_some last ≡ false → length begun.tools.items ≡ 0 }
+    ensures served { HasServedScript S.disk (is_some last.entry) begun.chain.first (map N.text names.now) lines.now result.1 (S.disk result.0) }
     ensures back { any_failed result.2.items ≡ nat_lt 0 result.1.unread }
 {
+    let Begun {
+        chain,
+        sets,
+        stripes,
+        tools,
+    } = begun;
+    let was = Snapshot::of(&chain);
     let left = share(
         rt, alloc, chain, names, lines, rooms, sets, stripes, tools, gate,
     );
     let Left {
-        mut chain,
+        chain,
         told,
         back,
         unread,
         tally,
         is_short,
     } = left;
-    let merged = end_merge(&mut chain, last);
-    let (store, history, fault, closed) = chain.close();
+    let Ended {
+        store,
+        history,
+        fault,
+        closed,
+        merged,
+    } = end_session(chain, &was, last);
     let transcript = transcript_of(alloc, is_short, &history, told.as_slice());
     let run = ScriptRun {
         transcript,

@@ -8,9 +8,10 @@ ghost use Rattle.serve_session.specs.Running.{HasRunServe};
 ghost use Rattle.serve_session.specs.Back.{any_failed};
 ghost use Rattle.serve_session.specs.Served.{guest_count};
 
-use crate::fresh::serve_fresh;
+use crate::begun::serve_begun;
+use crate::starting::begin_guests;
 use crate::tally::Tally;
-use chain_core::{Chain, Mode, StartRefusal};
+use chain_core::StartRefusal;
 use ledger::Ledger;
 use link_rules::LinkedFile;
 use read_plan::ReaderSet;
@@ -67,14 +68,13 @@ where
     ensures kept { OnErr result.1 (EachOpensAlike files.now (S.disk store).told (S.disk result.0).told) }
     ensures still { OnErr result.1 (LeavesOthersFrom (S.disk store).told (S.disk result.0).told) }
 {
-    let chain = match Chain::start(alloc, store, files, Mode::Guests, Ledger::keeping(alloc), ids) {
-        Ok(chain) => chain,
+    let history = Ledger::keeping(alloc);
+    let guests = rooms.len() as u32;
+    let begun = match begin_guests(alloc, store, files, history, ids, guests) {
+        Ok(begun) => begun,
         Err((store, refusal)) => return (store, Err(refusal), Vec::new(alloc)),
     };
-    let none = Vec::new(alloc);
-    let (store, served, back) = serve_fresh(
-        rt, alloc, chain, names, lines, rooms, 0, none, None, gate,
-    );
+    let (store, served, back) = serve_begun(rt, alloc, begun, names, lines, rooms, None, gate);
     let run = ServeRun {
         run: served.run,
         unread: served.unread,

@@ -1,21 +1,12 @@
-use Rattle.std.proofs.Common.{◌||◌, Bool, Option, ap₂, map}
-use Rattle.std.specs.Prelude.{is_some}
-use Rattle.chain_core.specs.declared.layers.Underway.{Underway}
-use Rattle.serve_session.proofs.MergeSessions.{leaf_merge_first, leaf_merge_ran}
+use Rattle.std.proofs.Common.{length, map, true}
+use Rattle.serve_session.specs.MergeServed.{HasRunLeafMerge}
+use Rattle.serve_session.proofs.Beginnings.{begun_ready, begun_workers, script_told}
 use Rattle.serve_session.proofs.merging.run_serve_leaf_merge.Goals as goal
 
 pub returns-in-Ok-clause-ran : goal.returns-in-Ok-clause-ran
 returns-in-Ok-clause-ran g c =
     let disk = g.S.Store.disk in
-    let first = c.in-Ok.chain in
-    leaf_merge_ran disk first (map g.N.AsStr.text c.args.names.now) c.args.lines.now c.serve_fresh-store.result.1 (disk c.serve_fresh-store.result.0) c.serve_fresh-store.ensures.served c.in-Ok.ensures.sound.sector
-    c.args.files.now (disk c.args.store) (g.I.Ids.drawn c.args.ids.now) (g.I.Ids.drawn c.start_leaf_merge.new.ids) c.requires.files c.in-Ok.ensures.started
-
-pub serve_fresh-store-requires-clause-under_way : goal.serve_fresh-store-requires-clause-under_way
-serve_fresh-store-requires-clause-under_way g c κs within some = ap₂ (λ (o : Option Underway) (b : Bool). is_some o || b) c.in-Ok.ensures.started.begun.only c.in-Ok.ensures.started.begun.under_way
-
-pub serve_fresh-store-requires-clause-serves : goal.serve_fresh-store-requires-clause-serves
-serve_fresh-store-requires-clause-serves g c κs within =
-    let disk = g.S.Store.disk in
-    let started = c.in-Ok.ensures.started in
-    leaf_merge_first disk c.in-Ok.chain started.m started.merge (disk c.args.store).told started.begun.serving
+    let served = c.serve_begun-store in
+    let t = script_told disk true _ (length c.args.pieces.items) (λ asking told history end merged after. HasRunLeafMerge c.args.files.now asking told history end merged (disk c.args.store) after (g.I.Ids.drawn c.args.ids.now) (g.I.Ids.drawn c.begin_leaf_merge.new.ids))
+    (map g.N.AsStr.text c.args.names.now) c.args.lines.now served.result.1 (disk served.result.0) c.in-Ok.begun c.in-Ok.ensures.begins served.ensures.served served.ensures.unserved in
+    record { guests = t.guests; history = t.history; ran = t.ran; written = t.written }

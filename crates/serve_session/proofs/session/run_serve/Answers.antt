@@ -1,14 +1,13 @@
-use Rattle.std.proofs.Common.{map}
-use Rattle.serve_session.proofs.Sessions.{serve_ran, serves_first}
+use Rattle.std.proofs.Common.{false, map, refl, sym}
+use Rattle.std.specs.Prelude.{◌≡◌, ◌≤◌}
+use Rattle.serve_session.specs.Running.{HasRunGuests}
+use Rattle.serve_session.proofs.Beginnings.{begun_ready, begun_workers, script_told}
 use Rattle.serve_session.proofs.session.run_serve.Goals as goal
 
 pub returns-clause-ran : goal.returns-clause-ran
 returns-clause-ran g c =
     let disk = g.S.Store.disk in
-    serve_ran disk c.in-Ok.chain c.args.files.now (map g.N.AsStr.text c.args.names.now) c.args.lines.now c.serve_fresh-store.result.1 (disk c.args.store) (disk c.serve_fresh-store.result.0) (g.I.Ids.drawn c.args.ids.now) (g.I.Ids.drawn c.start.new.ids)
-    c.serve_fresh-store.ensures.served c.in-Ok.ensures.started c.requires.files c.in-Ok.ensures.sound.sector c.in-Ok.ensures.geometry
-
-pub serve_fresh-store-requires-clause-serves : goal.serve_fresh-store-requires-clause-serves
-serve_fresh-store-requires-clause-serves g c κs within =
-    let disk = g.S.Store.disk in
-    serves_first disk c.in-Ok.chain c.args.files.now (disk c.args.store) (g.I.Ids.drawn c.args.ids.now) (g.I.Ids.drawn c.start.new.ids) c.requires.files c.in-Ok.ensures.started
+    let served = c.serve_begun-store in
+    let t = script_told disk false _ 0 (λ asking told history end merged after. HasRunGuests c.args.files.now asking told history end (disk c.args.store) after (g.I.Ids.drawn c.args.ids.now) (g.I.Ids.drawn c.begin_guests.new.ids))
+    (map g.N.AsStr.text c.args.names.now) c.args.lines.now served.result.1 (disk served.result.0) c.in-Ok.begun c.in-Ok.ensures.begins served.ensures.served served.ensures.unserved in
+    record { guests = t.guests; history = t.history; ran = t.ran; written = t.written }
