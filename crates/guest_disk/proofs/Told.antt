@@ -11,41 +11,42 @@ use Rattle.guest_model.specs.declared.call.Reply.TheVariants.{Bytes, Done}
 use Rattle.guest_model.specs.declared.refusal.ChainRefusal.{ChainRefusal}
 use Rattle.read_plan.specs.Reading.{has_failed}
 use Rattle.read_plan.proofs.Failing.{has_now}
-use Rattle.guest_io.specs.Guests.{IsCall, ReadsBy, caller_of, found_by, placed_at}
+use Rattle.guest_io.specs.Guests.{AreReadBy, IsCall, ReadsBy, caller_of, found_by, placed_at}
 use Rattle.guest_io.specs.declared.guest.Guest.{Guest}
 use Rattle.guest_io.specs.declared.placed.Placed.{Placed}
 use Rattle.disk_calls.specs.Disks.{plain, through, told}
-use Rattle.guest_disk.specs.Hearing.{GoesOn, Held, Tells, answer_of, held, of_both, of_call, of_flush, of_write, was_done, was_lost, was_refused, with_lost}
+use Rattle.guest_disk.specs.Hearing.{Held, Tells, answer_of, held, of_both, of_call, of_flush, of_write, was_done, was_lost, was_refused, with_lost}
 
 module _ {S T : Type 0} (disk : S → Disk) where
   -- of a read
-  pub heard_read : (old new : Guest S T) (lost : ℕ) (first count : ℕ) (bytes : List ℕ) (answer : Result Placed ChainRefusal) → GoesOn (held old lost) (held new (with_lost lost answer))
+  pub heard_read : (old new : Guest S T) (lost : ℕ) (first count : ℕ) (bytes : List ℕ) (answer : Result Placed ChainRefusal) → (new.number ≡ old.number) × (new.next ≡ one_more old.next) → ReadsBy answer old.readers new.readers
       → IsCall disk (caller_of old.number old.next) (calls.Read first count) (found_by answer bytes) old.seat new.seat (placed_at answer)
       → Tells disk (held old lost) (plain (calls.Read first count)) (told (Bytes bytes) (answer_of answer)) (held new (with_lost lost answer))
-  heard_read old new lost first count bytes (Ok placed) on called = by_read placed.place placed.read on called
+  heard_read old new lost first count bytes (Ok placed) on reads called = by_read placed.place placed.read reads called
     where
-      by_read : (place : ℕ) (read : Result (Unit {0}) StoreFault) → GoesOn (held old lost) (held new (with_lost lost (Ok (record { place = place; read = read }))))
+      by_read : (place : ℕ) (read : Result (Unit {0}) StoreFault) → AreReadBy read old.readers new.readers
           → IsCall disk (caller_of old.number old.next) (calls.Read first count) (found_by (Ok (record { place = place; read = read })) bytes) old.seat new.seat (Ok place)
           → Tells disk (held old lost) (plain (calls.Read first count)) (told (Bytes bytes) (answer_of (Ok (record { place = place; read = read })))) (held new (with_lost lost (Ok (record { place = place; read = read }))))
-      by_read place (Ok done) on called = of_call (was_done on refl called)
-      by_read place (Err fault) on called = of_call (was_lost on refl fault refl called)
-  heard_read old new lost first count bytes (Err refusal) on called = of_call (was_refused on refl None called)
+      by_read place (Ok done) reads called = of_call (was_done (record { number = on.0; next = on.1; reads = reads }) refl called)
+      by_read place (Err fault) reads called = of_call (was_lost fault (record { number = on.0; next = on.1; reads = reads }) refl refl called)
+  heard_read old new lost first count bytes (Err refusal) on reads called = of_call (was_refused (record { number = on.0; next = on.1; reads = reads }) refl None called)
 
   -- by what it was answered as
   pub read_told : (old new : Guest S T) (lost now first count n : ℕ) (bytes : List ℕ) (answer : Result Placed ChainRefusal) (r : Result ℕ ChainRefusal) → now ≡ with_lost lost answer → r ≡ answer_of answer → n ≡ count
-      → (new.number ≡ old.number) × (new.next ≡ one_more old.next) → IsCall disk (caller_of old.number old.next) (calls.Read first count) (found_by answer bytes) old.seat new.seat (placed_at answer)
+      → (new.number ≡ old.number) × (new.next ≡ one_more old.next) → ReadsBy answer old.readers new.readers
+      → IsCall disk (caller_of old.number old.next) (calls.Read first count) (found_by answer bytes) old.seat new.seat (placed_at answer)
       → Tells disk (held old lost) (plain (calls.Read first n)) (told (Bytes bytes) r) (held new now)
-  read_told old new lost now first count n bytes answer r now_is r_is n_is on called =
+  read_told old new lost now first count n bytes answer r now_is r_is n_is on reads called =
       subst (λ k. Tells disk (held old lost) (plain (calls.Read first k)) (told (Bytes bytes) r) (held new now)) (sym n_is)
       (subst (λ x. Tells disk (held old lost) (plain (calls.Read first count)) (told (Bytes bytes) x) (held new now)) (sym r_is)
       (subst (λ l. Tells disk (held old lost) (plain (calls.Read first count)) (told (Bytes bytes) (answer_of answer)) (held new l)) (sym now_is)
-      (heard_read old new lost first count bytes answer (record { number = on.0; next = on.1 }) called)))
+      (heard_read old new lost first count bytes answer on reads called)))
 
   -- of another call
-  pub heard_call : (old new : Guest S T) (lost : ℕ) (call : Call) (answer : Result ℕ ChainRefusal) → (new.number ≡ old.number) × (new.next ≡ one_more old.next)
+  pub heard_call : (old new : Guest S T) (lost : ℕ) (call : Call) (answer : Result ℕ ChainRefusal) → (new.number ≡ old.number) × (new.next ≡ one_more old.next) → new.readers ≡ old.readers
       → IsCall disk (caller_of old.number old.next) call (Some Done) old.seat new.seat answer → Tells disk (held old lost) (plain call) (told Done answer) (held new lost)
-  heard_call old new lost call (Ok place) on called = of_call (was_done (record { number = on.0; next = on.1 }) refl called)
-  heard_call old new lost call (Err refusal) on called = of_call (was_refused (record { number = on.0; next = on.1 }) refl (Some Done) called)
+  heard_call old new lost call (Ok place) on same called = of_call (was_done (record { number = on.0; next = on.1; reads = same }) refl called)
+  heard_call old new lost call (Err refusal) on same called = of_call (was_refused (record { number = on.0; next = on.1; reads = same }) refl (Some Done) called)
 
   -- of a write that outlasts a crash
   pub told_flushed : (old mid new : Held S T) (first place flushed : ℕ) (bytes : List ℕ) → Tells disk old (plain (calls.Write first bytes)) (Ok (place, Done)) mid → Tells disk mid (plain calls.Flush) (Ok (flushed, Done)) new

@@ -10,7 +10,7 @@ use Rattle.guest_model.specs.declared.call.Reply.TheVariants.{Done}
 use Rattle.guest_model.specs.declared.refusal.ChainRefusal.{ChainRefusal}
 use Rattle.guest_model.specs.declared.refusal.ChainRefusal.TheVariants.{ReadFault}
 use Rattle.chain_core.specs.Refusing.{is_read}
-use Rattle.guest_io.specs.Guests.{IsCall, caller_of}
+use Rattle.guest_io.specs.Guests.{AreReadBy, IsCall, caller_of}
 use Rattle.guest_io.specs.declared.guest.Guest.{Guest}
 use Rattle.guest_io.specs.declared.placed.Placed.{Placed}
 use Rattle.disk_calls.specs.Disks.{Asked, Told, plain, through}
@@ -54,17 +54,18 @@ module _ {S T : Type 0} where
   abbrev pub Calls : (S → Disk) → Call → Option Reply → Held S T → Held S T → Result ℕ ChainRefusal → Type 0
   Calls disk call r old new answer = IsCall disk (caller_of old.guest.number old.guest.next) call r old.guest.seat new.guest.seat answer
 
-  -- and the guest goes on
-  pub record GoesOn (old new : Held S T) : Type 0 where
+  -- and the guest goes on, with its readers as they were, but where one of them failed for the read
+  pub record GoesOn (read : Result (Unit {0}) StoreFault) (old new : Held S T) : Type 0 where
     pub number : new.guest.number ≡ old.guest.number
     pub next : new.guest.next ≡ one_more old.guest.next
+    pub reads : AreReadBy read old.guest.readers new.guest.readers
 
   -- A call was done, and has its reply at its place; or it was refused; or it is a read that stands in the history, and a reader failed for it behind
   -- its turn.
   pub data Hears (disk : S → Disk) (call : Call) (old new : Held S T) : Told → Type 0 where
-    was_done : {place : ℕ} {said : Reply} → GoesOn old new → new.lost ≡ old.lost → Calls disk call (Some said) old new (Ok place) → Hears disk call old new (Ok (place, said))
-    was_refused : {refusal : ChainRefusal} → GoesOn old new → new.lost ≡ old.lost → (r : Option Reply) → Calls disk call r old new (Err refusal) → Hears disk call old new (Err refusal)
-    was_lost : {place : ℕ} → GoesOn old new → new.lost ≡ one_more old.lost → (fault : StoreFault) → is_read call ≡ true → Calls disk call None old new (Ok place)
+    was_done : {place : ℕ} {said : Reply} → GoesOn (Ok tt) old new → new.lost ≡ old.lost → Calls disk call (Some said) old new (Ok place) → Hears disk call old new (Ok (place, said))
+    was_refused : {refusal : ChainRefusal} → GoesOn (Ok tt) old new → new.lost ≡ old.lost → (r : Option Reply) → Calls disk call r old new (Err refusal) → Hears disk call old new (Err refusal)
+    was_lost : {place : ℕ} → (fault : StoreFault) → GoesOn (Err fault) old new → new.lost ≡ one_more old.lost → is_read call ≡ true → Calls disk call None old new (Ok place)
         → Hears disk call old new (Err (ReadFault fault.file fault.count))
 
   -- What is told of what a disk is asked: of a call what the guest is told of it; of a write that outlasts a crash the place of its Write, once the

@@ -4,4 +4,4 @@ use Rattle.guest_disk.proofs.calls.flush_of.Goals as goal
 
 pub returns-clause-told : goal.returns-clause-told
 returns-clause-told g c =
-    heard_call g.S.Store.disk c.args.guest.now c.flush.new.self c.args.lost.now calls.Flush c.flush.result c.flush.ensures.next c.flush.ensures.called
+    heard_call g.S.Store.disk c.args.guest.now c.flush.new.self c.args.lost.now calls.Flush c.flush.result c.flush.ensures.next c.flush.ensures.readers c.flush.ensures.called
