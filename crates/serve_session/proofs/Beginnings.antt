@@ -1,8 +1,7 @@
 -- A session that started, made ready for threads to share, or ended before; and what a script's run over it comes to.
-use Rattle.std.proofs.Common.{◌≡◌, ℕ, Bool, true, List, [], length, replicate, Option, None, Result, Ok, Err, refl, sym, ap, subst, ◌∙◌}
+use Rattle.std.proofs.Common.{◌≡◌, ℕ, Bool, true, List, [], length, replicate, None, Result, Ok, Err, refl, sym, ap, subst, ◌∙◌}
 use Rattle.std.specs.Prelude.{IfErr, IfOk, is_err}
 use Rattle.store_model.specs.Disk.{Disk}
-use Rattle.store_model.specs.declared.fault.StoreFault.{StoreFault}
 use Rattle.guest_model.specs.History.{History}
 use Rattle.ledger.specs.declared.ledger.Ledger.{Ledger}
 use Rattle.guest_model.specs.declared.refusal.ChainRefusal.{ChainRefusal}

@@ -1,22 +1,17 @@
 -- A guest that makes calls one after the other, and is told where memory ran out for one.
-use Rattle.std.proofs.Common.{◌≡◌, ◌+◌, ◌++◌, ◌∷◌, [], ℕ, List, Result, Ok, Err, length, length-append, refl, subst, sym, true, ◌∙◌, ap, arith}
+use Rattle.std.proofs.Common.{◌+◌, ◌∷◌, [], List, Result, Ok, Err, length-append, refl, sym, true, ◌∙◌, ap}
 use Rattle.std.specs.Prelude.{IfErr, IfOk}
 use Rattle.store_model.specs.Disk.{Disk, Sealed}
 use Rattle.store_model.specs.Cause.{Rose}
-use Rattle.store_model.specs.declared.fault.StoreFault.{StoreFault}
 use Rattle.guest_model.specs.declared.call.Call.{Call}
-use Rattle.guest_model.specs.declared.call.Reply.{Reply}
 use Rattle.guest_model.specs.declared.refusal.ChainRefusal.{ChainRefusal}
 use Rattle.ledger.specs.declared.ledger.Ledger.{Ledger}
 use Rattle.chain_core.specs.declared.chain.Chain.{Chain}
-use Rattle.guest_io.specs.Guests.{ReadsBy, caller_of}
+use Rattle.guest_io.specs.Guests.{ReadsBy}
 use Rattle.guest_io.specs.declared.placed.Placed.{Placed}
-use Rattle.turn_lock.specs.Seats.{Known}
-use Rattle.shared_chain.specs.declared.basis.Basis.{Basis}
-use Rattle.shared_chain.specs.declared.basis.Step.{Step}
 use Rattle.serve_session.specs.Actors.{HasReaders, IsUnread}
-use Rattle.serve_session.specs.Asking.{IsMade, OnlyReadsMiss, outcome_of}
-use Rattle.serve_session.specs.Calling.{BeginsToCall, CallsOnceMore, HasCalled}
+use Rattle.serve_session.specs.Asking.{OnlyReadsMiss, outcome_of}
+use Rattle.serve_session.specs.Calling.{BeginsToCall, CallsOnceMore}
 use Rattle.serve_session.specs.Served.{Outcome, counts_behind, none_failed, unread_in}
 use Rattle.serve_session.proofs.Hearing.{told_call}
 use Rattle.serve_session.proofs.Joining.{none_heard}

@@ -46,7 +46,7 @@ use Rattle.serve_session.specs.declared.actor.Actor.{Actor}
 use Rattle.serve_session.specs.Actors.{AreJoined, HasRun, IsFrom, first_notes}
 use Rattle.serve_session.specs.Sealing.{IsSetFor}
 use Rattle.serve_session.specs.Lists.{AreActors, AreFresh, IsReady, RunsEach, with_splits}
-use Rattle.serve_session.specs.Endings.{Ending, StopsMerge, ending_of}
+use Rattle.serve_session.specs.Endings.{Ending, StopsMerge}
 use Rattle.serve_session.specs.Served.{Asking, EachGuest, IsBreakOf, IsTranscript, Outcome, all_unread, asked_by, greatest_from, guest_count, told_of, unread_in}
 use Rattle.serve_session.specs.Serving.{EndsAs, HasBegun, HasServed, HasServedScript, IsNearEnd, IsShared, WasShared}
 use Rattle.serve_session.specs.Written.{IsWritten}

@@ -30,7 +30,6 @@ use Rattle.merge_plan.specs.declared.merge.Merge.{Merge}
 use Rattle.chain_core.specs.States.{IsServing, State, sector_of}
 use Rattle.chain_core.proofs.MergeFound.{AreFound}
 use Rattle.chain_core.proofs.MergeTold.{are_found}
-use Rattle.script.specs.declared.form.Line.{Line}
 use Rattle.script_session.specs.Faults.{FaultsAreTold}
 use Rattle.script_session.specs.Histories.{IsLater, IsSoLong, disk_after}
 use Rattle.script_session.specs.MergeRunning.{Scope, drive_over, leaf_scope_of, scope_of}
@@ -45,12 +44,11 @@ use Rattle.script_session.proofs.Scripts.{past_as}
 use Rattle.shared_chain.proofs.Breaking.{past_wider, wider}
 use Rattle.shared_chain.specs.Closing.{HasLeft}
 use Rattle.shared_chain.specs.Steps.{open_by as opens_by}
-use Rattle.serve_session.specs.Endings.{Ending, ending_of}
-use Rattle.serve_session.specs.MergeServed.{HasRunLeafMerge, HasRunMerge, HasRunServeLeafMerge, HasRunServeMerge, HasServedOver, HasServedWith, IsStopTold}
-use Rattle.serve_session.specs.Served.{AreServed, Asking, Outcome, all_told, all_unread, asked_by}
+use Rattle.serve_session.specs.Endings.{Ending}
+use Rattle.serve_session.specs.MergeServed.{HasRunLeafMerge, HasRunMerge, HasServedOver, HasServedWith, IsStopTold}
+use Rattle.serve_session.specs.Served.{AreServed, Asking, Outcome, all_told, all_unread}
 use Rattle.serve_session.specs.Sealing.{ServesFirst, ServesSealed}
 use Rattle.serve_session.specs.Serving.{HasServed, IsNearEnd, IsUpTo, drive_from}
-use Rattle.serve_session.specs.declared.merging.MergeRun.{MergeRun}
 use Rattle.serve_session.proofs.Filled.{long_up}
 use Rattle.serve_session.proofs.Sessions.{changes_are, counts_change, files_are, last_as, quiet_since, whole_as}
 

@@ -25,7 +25,6 @@ use Rattle.chain_core.specs.Sealed.{GoesOnSealed, IsKept}
 use Rattle.chain_core.specs.declared.layers.Layers.{Layers}
 use Rattle.chain_core.specs.Starting.{HasStarted, IsOfDisk, StartsWith, opening_disk, started, under, way_to}
 use Rattle.chain_core.specs.States.{IsServing, State, sector_of}
-use Rattle.script.specs.declared.form.Line.{Line}
 use Rattle.script_session.specs.Faults.{Counts, FaultsAreTold}
 use Rattle.layer_session.proofs.Equal.{false_true, none_some, some_same}
 use Rattle.script_session.specs.Histories.{GoesOn, HasRetired, IsSoLong, disk_after, merges_leaf}
@@ -37,12 +36,11 @@ use Rattle.shared_chain.proofs.Breaking.{past_wider, wider}
 use Rattle.shared_chain.specs.Closing.{HasLeft}
 use Rattle.shared_chain.specs.Faults as shared
 use Rattle.shared_chain.specs.Steps.{open_by as opens_by}
-use Rattle.serve_session.specs.Endings.{Ending, ending_of}
-use Rattle.serve_session.specs.Running.{HasRunGuests, HasRunServe, HasServedFiles, HaveServed}
-use Rattle.serve_session.specs.Served.{AreServed, Asking, Outcome, all_told, all_unread, asked_by}
+use Rattle.serve_session.specs.Endings.{Ending}
+use Rattle.serve_session.specs.Running.{HasRunGuests, HasServedFiles, HaveServed}
+use Rattle.serve_session.specs.Served.{AreServed, Asking, Outcome, all_told, all_unread}
 use Rattle.serve_session.specs.Sealing.{IsSealing, ServesFirst, ServesSealed}
 use Rattle.serve_session.specs.Serving.{HasServed, IsUpTo, drive_from}
-use Rattle.serve_session.specs.declared.merging.MergeRun.{MergeRun}
 use Rattle.serve_session.proofs.Filled.{long_up}
 
 -- ---- what is left of the files

@@ -1,5 +1,5 @@
 -- Sealing what a session only reads, before its guests are served, and the readers that each of them gets.
-use Rattle.std.specs.Prelude.{◌≡◌, ℕ, Bool, List, [], Option, None, Result}
+use Rattle.std.specs.Prelude.{◌≡◌, Bool, List, [], Option, None, Result}
 use Rattle.store_model.specs.Disk.{Disk, Sealed, WhereBothTold, WhereTold}
 use Rattle.store_model.specs.declared.fault.StoreFault.{StoreFault}
 use Rattle.guest_model.specs.History.{History}

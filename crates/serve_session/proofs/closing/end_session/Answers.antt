@@ -1,4 +1,4 @@
-use Rattle.std.proofs.Common.{[], Ok, ap, refl, replicate, subst, sym, true, ◌∙◌}
+use Rattle.std.proofs.Common.{refl, subst, sym, true, ◌∙◌}
 use Rattle.std.specs.Prelude.{is_some}
 use Rattle.serve_session.specs.Endings.{Ending}
 use Rattle.serve_session.specs.Serving.{HasServed}

@@ -1,4 +1,3 @@
-use Rattle.std.proofs.Common.{refl}
 use Rattle.serve_session.proofs.Calling.{begins, goes_on}
 use Rattle.serve_session.proofs.laws.guests_call.Goals as goal
 

@@ -1,6 +1,6 @@
 use Rattle.std.proofs.Common.{length, map, true}
 use Rattle.serve_session.specs.MergeServed.{HasRunMerge}
-use Rattle.serve_session.proofs.Beginnings.{begun_ready, begun_workers, script_told}
+use Rattle.serve_session.proofs.Beginnings.{script_told}
 use Rattle.serve_session.proofs.merging.run_serve_merge.Goals as goal
 
 pub returns-in-Ok-clause-ran : goal.returns-in-Ok-clause-ran

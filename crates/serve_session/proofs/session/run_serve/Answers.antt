@@ -1,7 +1,6 @@
-use Rattle.std.proofs.Common.{false, map, refl, sym}
-use Rattle.std.specs.Prelude.{◌≡◌, ◌≤◌}
+use Rattle.std.proofs.Common.{false, map}
 use Rattle.serve_session.specs.Running.{HasRunGuests}
-use Rattle.serve_session.proofs.Beginnings.{begun_ready, begun_workers, script_told}
+use Rattle.serve_session.proofs.Beginnings.{script_told}
 use Rattle.serve_session.proofs.session.run_serve.Goals as goal
 
 pub returns-clause-ran : goal.returns-clause-ran

@@ -1,4 +1,4 @@
-use Rattle.std.proofs.Common.{ap, false, length, subst, sym}
+use Rattle.std.proofs.Common.{ap, false, length, subst}
 use Rattle.std.specs.Prelude.{IfOk}
 use Rattle.layer_session.proofs.Equal.{false_true}
 use Rattle.serve_session.specs.Beginning.{CanBeShared}
