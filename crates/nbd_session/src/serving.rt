@@ -1,6 +1,6 @@
 //! A session with one client, from its first call to its end.
 
-ghost use Rattle.std.specs.Prelude.{◌≡◌, ◌+◌, ◌*◌, ◌^◌, ◌<◌, ◌≤◌, ◌∷◌, [], All, List, None, Some, false, true, is_some, length, nat_lt, vec_capacity, IfSome};
+ghost use Rattle.std.specs.Prelude.{◌≡◌, ◌+◌, ◌*◌, ◌^◌, ◌<◌, ◌≤◌, ◌∷◌, [], All, List, None, Ok, Some, false, true, is_some, length, nat_lt, vec_capacity, IfSome};
 ghost use Rattle.guest_model.specs.declared.call.Call.{Call};
 ghost use Rattle.nbd_front.specs.Parts.{IsFresh};
 ghost use Rattle.nbd_front.specs.Sessions.{world};
@@ -227,6 +227,7 @@ where
         (world (Q.left source.old) (Q.faults source.old) (K.written sink.old) (K.faults sink.old) tt)
         (world (Q.left source.new) (Q.faults source.new) (K.written sink.new) (K.faults sink.new) tt)
         result.1 (S.disk result.0) }
+    ensures without { is_some last.entry ≡ false → result.1.merged ≡ Ok tt }
     ensures back { any_failed result.2.items ≡ nat_lt 0 result.1.unread }
 {
     let Begun {

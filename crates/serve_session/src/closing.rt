@@ -1,6 +1,6 @@
 //! The end of a session whose chain was shared.
 
-ghost use Rattle.std.specs.Prelude.{◌≡◌, ℕ, Bool, List, Ok, [], is_some, replicate, true};
+ghost use Rattle.std.specs.Prelude.{◌≡◌, ℕ, Bool, List, Ok, [], false, is_some, replicate, true};
 ghost use Rattle.serve_session.specs.Served.{Asking, Outcome};
 ghost use Rattle.serve_session.specs.Serving.{EndsAs, HasBegun, HasServed, WasShared};
 
@@ -43,6 +43,7 @@ pub fn end_session<S: Store>(
 ) -> Ended<S>
     requires begun { HasBegun S.disk was.now.value }
     ensures history { result.history ≡ chain.chain.recorder }
+    ensures without { is_some last.entry ≡ false → result.merged ≡ Ok tt }
     ensures served { (asking : Asking) (guests : List (List Outcome)) (unread : ℕ) (short : Bool) → WasShared S.disk (is_some last.entry) was.now.value asking chain guests unread
         → HasServed S.disk (is_some last.entry) was.now.value.first asking guests result.history (record { fault = result.fault; closed = result.closed; unread = unread; short = short }) result.merged (S.disk result.store) }
     // Where memory ran out before a guest made a call.

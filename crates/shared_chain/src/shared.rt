@@ -218,10 +218,7 @@ fn is_no_merge(answer: Result<(), ChainRefusal>) -> bool
 }
 
 // Copies what is missing of a merge, and finishes it; where none is under way nothing is left to be done.
-fn merge_rest<S: Store>(
-    chain: &mut Chain<S, Ledger>,
-    piece: &mut Piece,
-) -> Result<(), ChainRefusal>
+fn merge_rest<S: Store>(chain: &mut Chain<S, Ledger>, piece: &mut Piece) -> Result<(), ChainRefusal>
     requires sound { IsSound (session_of S.disk chain.old) }
     requires slot { piece.old.filled ≡ false }
     ensures sound { IsSound (session_of S.disk chain.new) }

@@ -1,12 +1,15 @@
 use Rattle.std.proofs.Common.{refl, subst, sym, true, ◌∙◌}
 use Rattle.std.specs.Prelude.{is_some}
 use Rattle.serve_session.specs.Endings.{Ending}
-use Rattle.serve_session.specs.Serving.{HasServed}
+use Rattle.serve_session.specs.Serving.{EndsAs, HasServed}
 use Rattle.serve_session.proofs.Final.{all_served, ended_so, none_served}
 use Rattle.serve_session.proofs.closing.end_session.Goals as goal
 
 pub returns-clause-history : goal.returns-clause-history
 returns-clause-history g c = c.close-store.ensures.history ∙ (ended_so g.S.Store.disk (is_some c.args.last) c.args.chain c.end_merge-merged.new.chain c.end_merge-merged.result c.end_merge-merged.ensures).history
+
+pub returns-clause-without : goal.returns-clause-without
+returns-clause-without g c none = (subst (λ merges. EndsAs g.S.Store.disk merges c.args.chain c.end_merge-merged.new.chain c.end_merge-merged.result) none c.end_merge-merged.ensures).1
 
 pub returns-clause-served : goal.returns-clause-served
 returns-clause-served g c asking guests unread short s =
