@@ -54,8 +54,8 @@ module _ (leaf : List ℕ) (merge : Option (List ℕ)) (before now : World) (s :
   pub served_out : HasServedOut merge s.service Done
   served_out = record { sound = (none_later s.service.refused s.service.ended (s.quiet no_fault).1, λ e. absurd (let never : false ≡ true = sym e ∙ has_begun in cc)); begun = λ e. let never : Done ≡ NoMemory = e in cc }
 
-  pub keeps : (f : List Held) → before.host.folder ≡ Some f → KeepsServed leaf s.begun.linked s.begun.disk merge (asked_by s.begun.lines) s.service Done s.opened now.host
-  keeps f told = subst (λ m. KeepsServed leaf s.begun.linked s.begun.disk merge (asked_by s.begun.lines) s.service m s.opened now.host) meant_is (s.kept f told)
+  pub keeps : (f : List Held) → before.host.folder ≡ Some f → KeepsServed leaf s.begun.linked s.begun.disk merge (asked_by s.begun.lines) s.service Done s.session.opened now.host
+  keeps f told = subst (λ m. KeepsServed leaf s.begun.linked s.begun.disk merge (asked_by s.begun.lines) s.service m s.session.opened now.host) meant_is (s.session.kept f told)
 
   -- what the calls came to that were all taken
   taken_adds : (heard : Option Tally) → HasTally s.service heard → IfSome heard (λ tally. tally.refused ≡ None) → (tally : Tally) × (heard ≡ Some tally) × AddsUp tally (all_outcomes s.service.guests) × (first_refused (all_outcomes s.service.guests) ≡ None)

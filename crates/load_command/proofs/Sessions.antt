@@ -168,7 +168,7 @@ module _ (leaf : List ℕ) (merge : Option (List ℕ)) (lines : List Line) (befo
         by_answer : LeafIsServed leaf merge lines before.host now.host before.drawn now.drawn (Ok well.run) → TellsAlike before.host.folder now.host.folder
         by_answer (no_room is same undrawn) = absurd (let never : ◌≡◌ {A = Result MergeRun StepsRefusal} (Ok well.run) (Err (steps.Chain chain.NoRoom)) = is in cc)
         by_answer (unlinked r is none undrawn) = absurd (let never : ◌≡◌ {A = Result MergeRun StepsRefusal} (Ok well.run) (Err (steps.Chain (chain.Unlinked r))) = is in cc)
-        by_answer (over mid linked f ran none) = record { untold = λ none. ran.tells.untold (f.replayed.untold none); told = λ none. before_none (Replays (linked_names linked)) before.host.folder mid.folder f.replayed.files (ran.tells.told none) }
+        by_answer (over mid linked f ran none) = record { untold = λ none. ran.served.tells.untold (f.replayed.untold none); told = λ none. before_none (Replays (linked_names linked)) before.host.folder mid.folder f.replayed.files (ran.served.tells.told none) }
 
     pub well_served : tally.refused ≡ None → HasServed leaf merge lines before now tally
     well_served taken = record { serves = serves_done; taken = taken; tells = tells_alike; ends = ends_as None None 0 0 Done said_done }

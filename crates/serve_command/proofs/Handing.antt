@@ -1,22 +1,29 @@
 -- Readers of sealed files come back before the store does.
-use Rattle.std.proofs.Common.{◌≡◌, ◌≢◌, ◌<◌, ◌≤◌, ◌++◌, ◌∷◌, ◌||◌, ℕ, zero, suc, Bool, true, false, List, [], length, map, Option, Some, None, Result, Ok, Err, refl, sym, ap, ap₂, subst, ◌∙◌, arith}
-use Rattle.std.specs.Prelude.{IfErr, IfOk, OnErr, nat_lt, option_map}
+use Rattle.std.proofs.Common.{◌≡◌, ◌≢◌, ◌<◌, ◌≤◌, ◌++◌, ◌∷◌, ◌||◌, ℕ, zero, suc, Bool, true, false, List, [], length, map, Option, Some, None, Result, Ok, Result, refl, sym, ap, ap₂, subst, ◌∙◌, arith}
+use Rattle.std.specs.Prelude.{IfErr, IfOk, is_some, nat_lt, option_map}
 use Rattle.std.proofs.lemmas.Bool.{lt-ltb, ltb-true}
 use Rattle.store_model.specs.Cause.{Rose}
-use Rattle.store_model.specs.Disk.{Disk as StoreDisk, Sealed, WhereTold}
+use Rattle.store_model.specs.Disk.{Disk as StoreDisk, WhereTold}
 use Rattle.store_model.specs.Folder.{HasFailed, Held, Hosted, KeepsStore, RoseWhere, given_back, without}
-use Rattle.chain_core.specs.declared.starting.Mode.TheVariants.{Guests}
+use Rattle.guest_model.specs.History.{History}
+use Rattle.guest_model.specs.declared.refusal.ChainRefusal.{ChainRefusal}
 use Rattle.link_rules.specs.Chains.{names_of}
+use Rattle.chain_core.specs.Starting.{IsOfDisk}
 use Rattle.link_rules.specs.declared.linked.Linked.{Linked}
 use Rattle.link_rules.specs.declared.linked.LinkedFile.{LinkedFile}
 use Rattle.script.specs.declared.form.Line.{Line}
-use Rattle.serve_session.specs.Back.{any_failed}
+use Rattle.serve_session.specs.Beginning.{Begins, IsScriptRun, IsUnsaid}
+use Rattle.serve_session.specs.Endings.{Ending}
+use Rattle.serve_session.specs.Served.{Asking, Outcome}
+use Rattle.serve_session.specs.Serving.{HasServedScript}
+use Rattle.serve_session.specs.declared.beginning.Begun.{Begun}
 use Rattle.serve_session.specs.declared.merging.MergeRun.{MergeRun}
+use Rattle.serve_session.specs.declared.sealing.Unserved.{Unserved}
+use Rattle.serve_session.proofs.Beginnings.{script_told}
 use Rattle.command_base.specs.Commands.{Lends}
-use Rattle.serve_command.specs.Guests.{HasServedBy, ServedWith, TellsAlike}
-use Rattle.steps_command.specs.Sessions.{HasNotRunWith, IsLinkedChain, NotRunOver}
-use Rattle.steps_command.specs.declared.refusal.StepsRefusal.{StepsRefusal}
-use Rattle.serve_command.proofs.ServedOver.{served_not_run, served_ran}
+use Rattle.serve_command.specs.Guests.{BeginsOver, HasServedBy, ServedWith, TellsAlike}
+use Rattle.steps_command.specs.Sessions.{IsLinkedChain}
+use Rattle.serve_command.proofs.ServedOver.{served_ran}
 
 -- ---- lists that are taken from their end
 
@@ -89,25 +96,24 @@ none_before f (Some x) e = let never : Some (f x) ≡ None = e in cc
 
 -- ---- over what was linked
 
-module _ (merge : Option (List ℕ)) (linked : Linked) (files : List LinkedFile) (names : List (List ℕ)) (lines : List Line) (old mid risen now : Hosted) (lent disk : StoreDisk) (before after : Option (List (List ℕ)))
-    (same : files ≡ linked.files) (named : names ≡ names_of files) (chain : IsLinkedChain linked old) (lends : Lends (names_of files) old mid lent) (sets : List (List Sealed))
-    (folder : risen.folder ≡ mid.folder) (past : risen.past ≡ mid.past) (rose : RoseWhere (any_failed sets ≡ true) mid.faults risen.faults)
+module _ (merge : Option (List ℕ)) (linked : Linked) (old mid risen now : Hosted) (lent disk : StoreDisk) (before after : Option (List (List ℕ))) (chain : IsLinkedChain linked old) (lends : Lends (names_of linked.files) old mid lent) (failed : Bool)
+    (folder : risen.folder ≡ mid.folder) (past : risen.past ≡ mid.past) (rose : RoseWhere (failed ≡ true) mid.faults risen.faults)
     (back_is : WhereTold disk.told (λ trace. now.folder ≡ option_map (given_back trace) risen.folder)) (past_is : KeepsStore disk risen now) (count : RoseWhere (HasFailed disk) risen.faults now.faults) where
   -- the folder that is away is told as it was
-  lent_alike : mid.folder ≡ option_map (without (names_of files)) old.folder
+  lent_alike : mid.folder ≡ option_map (without (names_of linked.files)) old.folder
   lent_alike = ap (λ (h : Hosted). h.folder) lends.host_is
 
   back_alike : (risen.folder ≡ None → now.folder ≡ None) → (now.folder ≡ None → risen.folder ≡ None) → TellsAlike old.folder now.folder
   back_alike untold told = record {
-    untold = λ none. untold (folder ∙ lent_alike ∙ ap (option_map (without (names_of files))) none);
-    told = λ none. none_before (without (names_of files)) old.folder (sym (folder ∙ lent_alike) ∙ told none);
+    untold = λ none. untold (folder ∙ lent_alike ∙ ap (option_map (without (names_of linked.files))) none);
+    told = λ none. none_before (without (names_of linked.files)) old.folder (sym (folder ∙ lent_alike) ∙ told none);
   }
 
   -- the host as if its readers had come back before it lent the files
   abbrev as_before : Hosted
   as_before = record old { faults = risen.faults }
 
-  lends_then : Lends (names_of files) as_before risen lent
+  lends_then : Lends (names_of linked.files) as_before risen lent
   lends_then = record {
     disk_is = lends.disk_is;
     host_is = ap₂ (λ f p. record old { folder = f; past = p; faults = risen.faults }) (folder ∙ ap (λ (h : Hosted). h.folder) lends.host_is) (past ∙ ap (λ (h : Hosted). h.past) lends.host_is);
@@ -116,21 +122,49 @@ module _ (merge : Option (List ℕ)) (linked : Linked) (files : List LinkedFile)
   chain_then : IsLinkedChain linked as_before
   chain_then = record { idle = chain.idle; few = chain.few; once = chain.once; served = chain.served; line = chain.line; chain = chain.chain }
 
-  rose_before : RoseWhere (any_failed sets ≡ true) old.faults risen.faults
-  rose_before = subst (λ n. RoseWhere (any_failed sets ≡ true) n risen.faults) (ap (λ (h : Hosted). h.faults) lends.host_is) rose
+  rose_before : RoseWhere (failed ≡ true) old.faults risen.faults
+  rose_before = subst (λ n. RoseWhere (failed ≡ true) n risen.faults) (ap (λ (h : Hosted). h.faults) lends.host_is) rose
 
-  pub back_ran : (risen.folder ≡ None → now.folder ≡ None) → (now.folder ≡ None → risen.folder ≡ None) → (result : Result MergeRun StepsRefusal) → IfOk result (λ run. any_failed sets ≡ nat_lt 0 run.unread) → IfOk result (λ run. HasServedBy merge files names lines run lent disk before after)
-      → IfOk result (λ run. ServedWith merge linked lines run old now before after)
-  back_ran untold told (Ok run) back ran = record {
+  pub back_ran : (risen.folder ≡ None → now.folder ≡ None) → (now.folder ≡ None → risen.folder ≡ None) → (asking : Asking) (guests : List (List Outcome)) (history : History) (ending : Ending) (merged : Result (Unit {0}) ChainRefusal)
+      → failed ≡ nat_lt 0 ending.unread → (merge ≡ None → IfErr merged (λ e. ⊥)) → HasServedBy merge linked.files lent before after asking guests history ending merged disk → ServedWith merge linked asking guests history ending merged old now before after
+  back_ran untold told asking guests history ending merged back none ran = record {
     tells = back_alike untold told;
     faults = risen.faults;
-    readers = counted_as (any_failed sets) run.unread old.faults risen.faults back rose_before;
-    over = served_ran merge linked files names lines as_before risen lent disk before after same named chain_then lends_then now back_is past_is count (Ok run) ran;
+    readers = counted_as failed ending.unread old.faults risen.faults back rose_before;
+    over = served_ran merge linked as_before risen lent disk before after chain_then lends_then asking guests history ending merged now back_is past_is count none ran;
   }
-  back_ran untold told (Err r) back ran = tt
 
-  pub back_not_run : (result : Result MergeRun StepsRefusal) → OnErr result (any_failed sets ≡ false) → IfErr result (HasNotRunWith Guests merge files lent disk before after) → IfErr result (NotRunOver Guests merge linked old now before after)
-  back_not_run (Ok run) back none = tt
-  back_not_run (Err r) back none =
-      subst (λ h. NotRunOver Guests merge linked h now before after r) {x = as_before} {y = old} (ap (λ n. record old { faults = n }) (rose_before.none (λ e. no_true (sym back ∙ e))))
-      (served_not_run merge linked files names lines as_before risen lent disk before after same named chain_then lends_then now back_is past_is count (Err r) none)
+-- ---- a session that began over it
+
+-- the files were read as a slice
+pub begins_over : {S T : Type 0} (disk : S → StoreDisk) (merge : Option (List ℕ)) (guests workers : ℕ) (linked : Linked) (files : List LinkedFile) (old mid : Hosted) (before now : Option (List (List ℕ))) (lent : StoreDisk) (begun : Result (Begun S T) (Unserved S T))
+    → files ≡ linked.files → Lends (names_of files) old mid lent → Begins disk (is_some merge) guests workers (HasServedBy merge files lent before now) begun → IfOk begun (λ b. IsOfDisk files b.chain.first.layers.geometry)
+    → BeginsOver disk merge guests workers linked old mid before now begun
+begins_over disk merge guests workers linked files old mid before now lent begun same lends begins size = record {
+  lent = lent;
+  lends = subst (λ (fs : List LinkedFile). Lends (names_of fs) old mid lent) same lends;
+  begins = subst (λ fs. Begins disk (is_some merge) guests workers (HasServedBy merge fs lent before now) begun) same begins;
+  size = subst (λ fs. IfOk begun (λ b. IsOfDisk fs b.chain.first.layers.geometry)) same size;
+}
+
+-- without a merge its run is so however the merge is told
+pub loose_by : (merge : Option (List ℕ)) (files : List LinkedFile) (lent : StoreDisk) (before now : Option (List (List ℕ))) → is_some merge ≡ false → (asking : Asking) (told : List (List Outcome)) (history : History) (end : Ending) (m n : Result (Unit {0}) ChainRefusal) (after : StoreDisk)
+    → HasServedBy merge files lent before now asking told history end m after → HasServedBy merge files lent before now asking told history end n after
+loose_by None files lent before now is asking told history end m n after h = h
+loose_by (Some name) files lent before now is asking told history end m n after h = let never : true ≡ false = is in cc
+
+-- the guests of a script over it
+pub script_run : {S T : Type 0} (disk : S → StoreDisk) (merge : Option (List ℕ)) (guests workers : ℕ) (linked : Linked) (old mid : Hosted) (before now : Option (List (List ℕ))) (begun : Result (Begun S T) (Unserved S T)) (b : BeginsOver disk merge guests workers linked old mid before now begun)
+    (some : Bool) (names : List (List ℕ)) (lines : List Line) (run : MergeRun) (after : StoreDisk) → some ≡ is_some merge → IfOk begun (λ x. HasServedScript disk some x.chain.first names lines run after)
+    → IfErr begun (λ left. IsUnsaid some left.met left.closed run × (after ≡ disk left.store)) → IsScriptRun (HasServedBy merge linked.files b.lent before now) names lines run after
+script_run disk merge guests workers linked old mid before now begun b some names lines run after same served unserved =
+    script_told disk (is_some merge) guests workers (HasServedBy merge linked.files b.lent before now) (loose_by merge linked.files b.lent before now) names lines run after begun b.begins
+    (subst (λ m. IfOk begun (λ x. HasServedScript disk m x.chain.first names lines run after)) same served) (subst (λ m. IfErr begun (λ left. IsUnsaid m left.met left.closed run × (after ≡ disk left.store))) same unserved)
+
+-- what is merged is told as finished where there is no merge
+pub none_stops : (merge : Option (List ℕ)) (some : Bool) (merged : Result (Unit {0}) ChainRefusal) → some ≡ is_some merge → (some ≡ false → merged ≡ Ok tt) → merge ≡ None → IfErr merged (λ e. ⊥)
+none_stops merge some merged same without none = subst (λ r. IfErr r (λ e. ⊥)) (sym (without (same ∙ ap is_some none))) tt
+
+pub mapped : (names : List (List ℕ)) → map (λ n. n) names ≡ names
+mapped [] = refl
+mapped (n ∷ names) = ap (λ ns. n ∷ ns) (mapped names)

@@ -1,4 +1,5 @@
 pub mod Handing
 pub mod ServedOver
+pub mod Keeping
 pub mod ServedRuns
 pub mod Told

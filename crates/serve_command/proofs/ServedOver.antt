@@ -1,6 +1,6 @@
 -- Guests served over a chain's files, with a merge beside them or without: from what the store's session leaves to what the host is left with.
-use Rattle.std.proofs.Common.{◌≡◌, ◌≢◌, ◌==◌, ◌+◌, ◌<◌, ◌++◌, ℕ, Bool, true, false, List, [], ◌∷◌, length, Option, Some, None, Result, Ok, Err, arith, refl, sym, subst, ◌∙◌}
-use Rattle.std.specs.Prelude.{⊤, All, IfErr, IfOk, IfSome, OnOk, option_map, slice_index_or, string_bytes}
+use Rattle.std.proofs.Common.{◌≡◌, ◌≢◌, ◌==◌, ◌+◌, ◌<◌, ◌≤◌, ◌++◌, ℕ, Bool, true, false, List, [], ◌∷◌, length, Option, Some, None, Result, Ok, Err, arith, refl, sym, ap, subst, ◌∙◌}
+use Rattle.std.specs.Prelude.{⊤, All, IfErr, IfSome, OnOk, option_map, slice_index_or}
 use Rattle.std.specs.List.{AllByRecursion}
 use Rattle.std.proofs.lemmas.Option.{same_Some}
 use Rattle.store_model.proofs.Told.{both_from}
@@ -25,32 +25,28 @@ use Rattle.chain_core.specs.LeafStarting.{is_first_two}
 use Rattle.chain_core.specs.MergeStarting.{is_changed}
 use Rattle.chain_core.specs.Starting.{way_to}
 use Rattle.chain_core.specs.declared.starting.Mode.TheVariants.{Guests}
-use Rattle.script.specs.declared.form.Line.{Line}
-use Rattle.script_session.specs.Faults.{Counts, FaultsAreTold}
+use Rattle.script_session.specs.Faults.{Counts, FaultsAreTold, IsFaultOf}
 use Rattle.script_session.specs.Histories.{Break, IsSoLong}
 use Rattle.script_session.specs.MergeRunning.{Scope, names_without}
 use Rattle.script_session.specs.Running.{IsAtRest, drive_of}
-use Rattle.script_session.specs.Told.{failed_by}
-use Rattle.serve_session.specs.Endings.{Ending, StopsMerge, ending_of}
+use Rattle.script_session.specs.Told.{Told, failed_by}
+use Rattle.serve_session.specs.Endings.{Ending, StopsMerge}
 use Rattle.serve_session.specs.MergeServed.{HasRunLeafMerge, HasRunMerge, HasServedOver}
 use Rattle.serve_session.specs.MergeServed as session
 use Rattle.serve_session.specs.Running.{HasRunGuests, HasServedFiles, HaveServed}
-use Rattle.serve_session.specs.Served.{AreServed, Asking, Outcome, all_told, all_unread, asked_by}
-use Rattle.serve_session.specs.declared.merging.MergeRun.{MergeRun}
+use Rattle.serve_session.specs.Served.{AreServed, Asking, Outcome, all_told, all_unread}
 use Rattle.command_base.specs.Commands.{Lends}
 use Rattle.steps_command.specs.Crashes.{HasLong, NoneNamesLog}
-use Rattle.serve_command.specs.Guests.{HasServedBy, HasServedMergeOf, ScriptServedOver, ServedIn, ServedOver, stopped_by}
+use Rattle.serve_command.specs.Guests.{HasServedBy, HasServedMergeOf, ServedIn, ServedOver, TellsNoFault, stopped_by}
 use Rattle.serve_command.specs.Serves.{IsMergeLeft, IsStopTold}
-use Rattle.steps_command.specs.Sessions.{HasNotRunWith, IsChainIn, IsLinkedChain, NotRunOver, Rests, leaf_name}
+use Rattle.steps_command.specs.Sessions.{IsChainIn, IsLinkedChain, Rests, leaf_name}
 use Rattle.steps_command.specs.Starts.{JudgesMergeOf, changed_names, is_leaf}
 use Rattle.steps_command.specs.Steps.{AreLeft, leaf_left_names}
-use Rattle.steps_command.specs.declared.refusal.StepsRefusal.{StepsRefusal}
 use Rattle.command_base.proofs.Followed.{last_once}
 use Rattle.steps_command.proofs.Over.{back_for, drawn_over, drive_is, first_may, first_only, if_err, if_some, lent_faults, lent_told, not_first, on_ok, trace_of, written_in}
-use Rattle.steps_command.proofs.OverAll.{linked_back, linked_not_run}
 use Rattle.steps_command.proofs.OverLeaf as leaf_merge
 use Rattle.steps_command.proofs.OverMerge as merge
-use Rattle.steps_command.proofs.OverScope.{EndsAtRest, LeftMerged, later, scope_dropped, scope_over, scope_rests, scope_stays, scope_unlogged}
+use Rattle.steps_command.proofs.OverScope.{EndsAtRest, LeftMerged, scope_dropped, scope_over, scope_rests, scope_stays, scope_unlogged}
 use Rattle.steps_command.proofs.OverScope as scoped
 use Rattle.steps_command.proofs.Ran.{Changed, back_requires, both_told, full_ends, last_returned, now_told, rests, stands, unlogged}
 use Rattle.steps_command.proofs.Sparing.{attached_since}
@@ -68,6 +64,36 @@ changed_beside : (scope : Scope) (asking : Asking) (guests : List (List Outcome)
     → WhereBothTold (HasServedOver scope asking guests h broken merged closed) a b → WhereBothTold (Changed scope.changes) a b
 changed_beside scope asking guests h broken merged closed a b k =
     both_from (HasServedOver scope asking guests h broken merged closed) (Changed scope.changes) a b (λ trace now k. record { attached = attached_since trace now k.moments.since; still = k.still }) k
+
+-- ---- faults that are told
+
+-- where no read of a store's files had failed, and no change ended its session, none was told a fault of a file
+no_faults : (told : List Told) (files : ℕ) (reads : ℕ → ℕ) (ended : Option StoreFault) → reads ≡ (λ file. 0) → ended ≡ None → AllByRecursion (λ t. IfErr t (IsFaultOf files reads ended)) told → AllByRecursion TellsNoFault told
+no_faults [] files reads ended none well all = tt
+no_faults (t ∷ told) files reads ended none well all = (one t all.0, no_faults told files reads ended none well all.1)
+  where
+    one : (t : Told) → IfErr t (IsFaultOf files reads ended) → TellsNoFault t
+    one (Ok done) k = tt
+    one (Err (refusals.ReadFault file count)) k = let below : count ≤ 0 = subst (λ (r : ℕ → ℕ). count ≤ r file) none k.2 in omega (arith, k.1, below)
+    one (Err (refusals.Broken file count)) k = let never : ◌≡◌ {A = Option StoreFault} None (Some (record { file = file; count = count })) = sym well ∙ k in cc
+    one (Err refusals.EmptyRange) k = tt
+    one (Err (refusals.OutOfRange x0 x1 x2)) k = tt
+    one (Err (refusals.TooLong x0 x1)) k = tt
+    one (Err refusals.ReadOnly) k = tt
+    one (Err (refusals.Spent x0)) k = tt
+    one (Err (refusals.FileFull x0)) k = tt
+    one (Err refusals.NoMerge) k = tt
+    one (Err (refusals.Stale x0 x1)) k = tt
+    one (Err (refusals.NotYet x0)) k = tt
+    one (Err (refusals.Abandoned x0 x1)) k = tt
+    one (Err (refusals.NoStripe x0 x1)) k = tt
+    one (Err refusals.NoPiece) k = tt
+    one (Err refusals.NoRoom) k = tt
+
+well_by : (told : List Told) (lent disk : StoreDisk) (fault : Option StoreFault) (closed : Result (Unit {0}) StoreFault) → lent.failed_reads ≡ (λ file. 0) → FaultsAreTold told (failed_by closed) lent.files lent.failed_changes disk.failed_reads disk.failed_changes
+    → (fault ≡ None → OnOk closed (disk ≡ record lent { told = disk.told })) → fault ≡ None → OnOk closed (AllByRecursion TellsNoFault told)
+well_by told lent disk fault (Ok done) unread faults quiet none = no_faults told lent.files disk.failed_reads None (ap (λ (d : StoreDisk). d.failed_reads) (quiet none) ∙ unread) refl faults.each
+well_by told lent disk fault (Err last) unread faults quiet none = tt
 
 -- ---- without a merge
 
@@ -136,6 +162,7 @@ module _ (retired : List (List ℕ)) (leaf : LinkedFile) (others : List LinkedFi
       counted = if_some Guests retired leaf others old mid now lent disk idle served once chain lends back_is past_is count before after None (written_in Guests) (first_may Guests leaf others) changed ending.fault h.counted;
       ended = if_err Guests retired leaf others old mid now lent disk idle served once chain lends back_is past_is count before after None (written_in Guests) (first_may Guests leaf others) changed ending.closed h.ended;
       quiet = λ none. on_ok Guests retired leaf others old mid now lent disk idle served once chain lends back_is past_is count before after None (written_in Guests) (first_may Guests leaf others) changed ending.closed (h.quiet none);
+      well = well_by (all_told guests) lent disk ending.fault ending.closed (ap (λ (d : StoreDisk). d.failed_reads) lends.disk_is) h.faults h.quiet;
       unfetched = 0;
       none_fetched = λ none. refl;
       unread_is = (let all = h.unread_is in omega (arith, all));
@@ -234,6 +261,7 @@ module _ (retired : List (List ℕ)) (leaf : LinkedFile) (others : List LinkedFi
       counted = if_some Guests retired leaf others old mid now lent disk idle served once chain lends back_is past_is count before after (Some name) changes may became ending.fault counted;
       ended = if_err Guests retired leaf others old mid now lent disk idle served once chain lends back_is past_is count before after (Some name) changes may became ending.closed ended;
       quiet = λ none. on_ok Guests retired leaf others old mid now lent disk idle served once chain lends back_is past_is count before after (Some name) changes may became ending.closed (quiet none);
+      well = well_by (all_told guests) lent disk ending.fault ending.closed (ap (λ (d : StoreDisk). d.failed_reads) lends.disk_is) told_faults quiet;
       unfetched = unfetched;
       none_fetched = λ none. let never : Some name ≡ None = none in cc;
       unread_is = unread_is;
@@ -274,6 +302,10 @@ module _ (retired : List (List ℕ)) (leaf : LinkedFile) (others : List LinkedFi
     changed = changed_beside (scope_over leaf others name (is_changed h.m) (names_without h.m)) asking guests history h.serves.broken merged ending.closed lent.told disk.told (past_other h is);
   }
 
+  pub left_beside : (b : Bool) → is_leaf (leaf ∷ others) name ≡ b → HasServedMergeOf b (leaf ∷ others) name lent before after asking guests history ending merged disk → LeftMerged leaf others name lent disk
+  left_beside true is h = left_of_leaf h is
+  left_beside false is h = left_of_other h is
+
   module _ (now : Hosted) (idle : WhereTold old.folder AllIdle) (served : All IsServed (leaf ∷ others)) (once : NoneTwice (retired ++ names_of (leaf ∷ others))) (back_is : WhereTold disk.told (λ trace. now.folder ≡ option_map (given_back trace) mid.folder)) (past_is : KeepsStore disk mid now)
       (count : RoseWhere (HasFailed disk) mid.faults now.faults) where
     pub over_leaf : HasRunLeafMerge (leaf ∷ others) asking guests history ending merged lent disk before after → is_leaf (leaf ∷ others) name ≡ true → ServedOver (Some name) (record { retired = retired; files = leaf ∷ others }) asking guests history ending merged old now before after
@@ -287,81 +319,38 @@ module _ (retired : List (List ℕ)) (leaf : LinkedFile) (others : List LinkedFi
         (merge.ended_all retired leaf others old mid lent disk chain lends before after name is h.m h.merge h.planned (last_once retired (names_of (leaf ∷ others)) once))
         h.serves.count h.serves.counted h.serves.ended h.serves.quiet h.serves.unfetched h.serves.unread_is h.serves.stopped (merge.drawn retired leaf others old mid lent disk chain lends before after name is h.m h.merge h.planned)
 
--- ---- of a script
+    pub over_beside : (b : Bool) → is_leaf (leaf ∷ others) name ≡ b → HasServedMergeOf b (leaf ∷ others) name lent before after asking guests history ending merged disk → ServedOver (Some name) (record { retired = retired; files = leaf ∷ others }) asking guests history ending merged old now before after
+    over_beside true is h = over_leaf h is
+    over_beside false is h = over_other h is
 
-module _ (retired : List (List ℕ)) (leaf : LinkedFile) (others : List LinkedFile) (old mid : Hosted) (lent disk : StoreDisk) (chain : WhereTold old.folder (IsChainIn (record { retired = retired; files = leaf ∷ others })))
-    (lends : Lends (names_of (leaf ∷ others)) old mid lent) (before after : Option (List (List ℕ))) (name : List ℕ) (lines : List Line) (run : MergeRun) where
-  left_beside : (b : Bool) → is_leaf (leaf ∷ others) name ≡ b → HasServedMergeOf b (leaf ∷ others) name (names_of (leaf ∷ others)) lines run lent disk before after → LeftMerged leaf others name lent disk
-  left_beside true is h = left_of_leaf retired leaf others old mid lent disk chain lends before after name (asked_by lines) h.guests h.history (ending_of run.run run.unread) run.merged h.ran is
-  left_beside false is h = left_of_other retired leaf others old mid lent disk chain lends before after name (asked_by lines) h.guests h.history (ending_of run.run run.unread) run.merged h.ran is
+-- ---- of what was linked
 
-  module _ (now : Hosted) (idle : WhereTold old.folder AllIdle) (served : All IsServed (leaf ∷ others)) (once : NoneTwice (retired ++ names_of (leaf ∷ others))) (back_is : WhereTold disk.told (λ trace. now.folder ≡ option_map (given_back trace) mid.folder)) (past_is : KeepsStore disk mid now)
-      (count : RoseWhere (HasFailed disk) mid.faults now.faults) where
-    over_beside : (b : Bool) → is_leaf (leaf ∷ others) name ≡ b → HasServedMergeOf b (leaf ∷ others) name (names_of (leaf ∷ others)) lines run lent disk before after → ScriptServedOver (Some name) (record { retired = retired; files = leaf ∷ others }) lines run old now before after
-    over_beside true is h = record {
-      guests = h.guests;
-      history = h.history;
-      over = over_leaf retired leaf others old mid lent disk chain lends before after name (asked_by lines) h.guests h.history (ending_of run.run run.unread) run.merged now idle served once back_is past_is count h.ran is;
-      written = h.written;
-    }
-    over_beside false is h = record {
-      guests = h.guests;
-      history = h.history;
-      over = over_other retired leaf others old mid lent disk chain lends before after name (asked_by lines) h.guests h.history (ending_of run.run run.unread) run.merged now idle served once back_is past_is count h.ran is;
-      written = h.written;
-    }
-
--- ---- of what was linked, whose files are these
-
-module _ (merge : Option (List ℕ)) (linked : Linked) (files : List LinkedFile) (names : List (List ℕ)) (lines : List Line) (old mid : Hosted) (lent disk : StoreDisk) (before after : Option (List (List ℕ)))
-    (same : files ≡ linked.files) (named : names ≡ names_of files) (chain : IsLinkedChain linked old) (lends : Lends (names_of files) old mid lent) where
-  line : IsLine files
-  line = subst IsLine (sym same) chain.line
-
-  served_all : All IsServed files
-  served_all = subst (All IsServed) (sym same) chain.served
-
-  once_all : NoneTwice (linked.retired ++ names_of files)
-  once_all = subst (λ fs. NoneTwice (linked.retired ++ names_of fs)) (sym same) chain.once
-
-  is_chain : WhereTold old.folder (IsChainIn (record { retired = linked.retired; files = files }))
-  is_chain = subst (λ fs. WhereTold old.folder (IsChainIn (record { retired = linked.retired; files = fs }))) (sym same) chain.chain
-
+module _ (merge : Option (List ℕ)) (linked : Linked) (old mid : Hosted) (lent disk : StoreDisk) (before after : Option (List (List ℕ))) (chain : IsLinkedChain linked old) (lends : Lends (names_of linked.files) old mid lent)
+    (asking : Asking) (guests : List (List Outcome)) (history : History) (ending : Ending) (merged : Result (Unit {0}) ChainRefusal) where
   abbrev Away : Type 0
   Away = WhereTold mid.folder (λ folder. WhereTold disk.told (λ trace. AreAway trace folder))
 
-  ran_back : (k : Option (List ℕ)) (fs : List LinkedFile) (run : MergeRun) → IsLine fs → NoneTwice (linked.retired ++ names_of fs) → WhereTold old.folder (IsChainIn (record { retired = linked.retired; files = fs })) → Lends (names_of fs) old mid lent
-      → HasServedBy k fs (names_of fs) lines run lent disk before after → Away
-  ran_back k [] run is_line once chain_is lend h = absurd is_line
-  ran_back None (leaf ∷ others) run is_line once chain_is lend h =
-      back_for Guests linked.retired (leaf ∷ others) old mid lent disk is_line chain.idle once chain_is lend (changed_served leaf others (asked_by lines) h.ran.guests h.ran.history h.ran.ran.broken run.run.closed lent.told disk.told h.ran.ran.served)
-  ran_back (Some name) (leaf ∷ others) run is_line once chain_is lend h =
-      let left = left_beside linked.retired leaf others old mid lent disk chain_is lend before after name lines run (is_leaf (leaf ∷ others) name) refl h in
+  back_by : (k : Option (List ℕ)) (fs : List LinkedFile) → IsLine fs → NoneTwice (linked.retired ++ names_of fs) → WhereTold old.folder (IsChainIn (record { retired = linked.retired; files = fs })) → Lends (names_of fs) old mid lent
+      → HasServedBy k fs lent before after asking guests history ending merged disk → Away
+  back_by k [] is_line once chain_is lend h = absurd is_line
+  back_by None (leaf ∷ others) is_line once chain_is lend h =
+      back_for Guests linked.retired (leaf ∷ others) old mid lent disk is_line chain.idle once chain_is lend (changed_served leaf others asking guests history h.broken ending.closed lent.told disk.told h.served)
+  back_by (Some name) (leaf ∷ others) is_line once chain_is lend h =
+      let left = left_beside linked.retired leaf others old mid lent disk chain_is lend before after name asking guests history ending merged (is_leaf (leaf ∷ others) name) refl h in
       back_requires linked.retired leaf others old mid lent chain.idle once chain_is lend disk Guests (Some name) left.written left.may left.changed
 
-  pub served_back : (result : Result MergeRun StepsRefusal) → IfOk result (λ run. HasServedBy merge files names lines run lent disk before after) → IfErr result (HasNotRunWith Guests merge files lent disk before after) → Away
-  served_back (Ok run) ran none = ran_back merge files run line once_all is_chain lends (subst (λ ns. HasServedBy merge files ns lines run lent disk before after) named ran)
-  served_back (Err r) ran none = linked_back Guests merge linked files names lines (Err r) old mid lent disk before after same named chain lends tt none
+  -- the store may be given back
+  pub served_back : HasServedBy merge linked.files lent before after asking guests history ending merged disk → Away
+  served_back h = back_by merge linked.files chain.line chain.once chain.chain lends h
 
   module _ (now : Hosted) (back_is : WhereTold disk.told (λ trace. now.folder ≡ option_map (given_back trace) mid.folder)) (past_is : KeepsStore disk mid now) (count : RoseWhere (HasFailed disk) mid.faults now.faults) where
-    ran_over : (k : Option (List ℕ)) (fs : List LinkedFile) (run : MergeRun) → IsLine fs → All IsServed fs → NoneTwice (linked.retired ++ names_of fs) → WhereTold old.folder (IsChainIn (record { retired = linked.retired; files = fs })) → Lends (names_of fs) old mid lent
-        → HasServedBy k fs (names_of fs) lines run lent disk before after → ScriptServedOver k (record { retired = linked.retired; files = fs }) lines run old now before after
-    ran_over k [] run is_line are_served once chain_is lend h = absurd is_line
-    ran_over None (leaf ∷ others) run is_line are_served once chain_is lend h = record {
-      guests = h.ran.guests;
-      history = h.ran.history;
-      over = alone_over linked.retired leaf others old mid now lent disk chain.idle are_served once chain_is lend back_is past_is count before after (asked_by lines) h.ran.guests h.ran.history (ending_of run.run run.unread) run.merged h.ran.ran h.none;
-      written = h.ran.written;
-    }
-    ran_over (Some name) (leaf ∷ others) run is_line are_served once chain_is lend h =
-        over_beside linked.retired leaf others old mid lent disk chain_is lend before after name lines run now chain.idle are_served once back_is past_is count (is_leaf (leaf ∷ others) name) refl h
+    over_by : (k : Option (List ℕ)) (fs : List LinkedFile) → IsLine fs → All IsServed fs → NoneTwice (linked.retired ++ names_of fs) → WhereTold old.folder (IsChainIn (record { retired = linked.retired; files = fs })) → Lends (names_of fs) old mid lent
+        → (k ≡ None → IfErr merged (λ e. ⊥)) → HasServedBy k fs lent before after asking guests history ending merged disk → ServedOver k (record { retired = linked.retired; files = fs }) asking guests history ending merged old now before after
+    over_by k [] is_line are_served once chain_is lend none h = absurd is_line
+    over_by None (leaf ∷ others) is_line are_served once chain_is lend none h =
+        alone_over linked.retired leaf others old mid now lent disk chain.idle are_served once chain_is lend back_is past_is count before after asking guests history ending merged h (none refl)
+    over_by (Some name) (leaf ∷ others) is_line are_served once chain_is lend none h =
+        over_beside linked.retired leaf others old mid lent disk chain_is lend before after name asking guests history ending merged now chain.idle are_served once back_is past_is count (is_leaf (leaf ∷ others) name) refl h
 
-    pub served_ran : (result : Result MergeRun StepsRefusal) → IfOk result (λ run. HasServedBy merge files names lines run lent disk before after) → IfOk result (λ run. ScriptServedOver merge linked lines run old now before after)
-    served_ran (Ok run) ran =
-        subst (λ fs. ScriptServedOver merge (record { retired = linked.retired; files = fs }) lines run old now before after) same
-        (ran_over merge files run line served_all once_all is_chain lends (subst (λ ns. HasServedBy merge files ns lines run lent disk before after) named ran))
-    served_ran (Err r) ran = tt
-
-    pub served_not_run : (result : Result MergeRun StepsRefusal) → IfErr result (HasNotRunWith Guests merge files lent disk before after) → IfErr result (NotRunOver Guests merge linked old now before after)
-    served_not_run (Ok run) none = tt
-    served_not_run (Err r) none = linked_not_run Guests merge linked files names lines (Err r) old mid lent disk before after same named chain lends tt none now tt back_is past_is count
+    pub served_ran : (merge ≡ None → IfErr merged (λ e. ⊥)) → HasServedBy merge linked.files lent before after asking guests history ending merged disk → ServedOver merge linked asking guests history ending merged old now before after
+    served_ran none h = over_by merge linked.files chain.line chain.served chain.once chain.chain lends none h

@@ -1,25 +1,30 @@
 -- What the functions of `serve` say of themselves; what a run promises doesn't rest on these.
-use Rattle.std.specs.Prelude.{◌≡◌, ◌+◌, ◌≢◌, ◌<◌, ◌==◌, if◌then◌else◌, codes, ℕ, Bool, true, false, is_some, List, length, String, string_bytes, Option, None, Some, Result, Ok, Err, IfErr, IfOk, IfSome, OnOk, option_map}
+use Rattle.std.specs.Prelude.{◌≡◌, ◌+◌, ◌≢◌, ◌<◌, ◌==◌, if◌then◌else◌, ⊤, codes, ℕ, Bool, true, false, is_some, List, length, String, string_bytes, Option, None, Some, Result, Ok, Err, IfErr, IfOk, IfSome, OnOk, option_map}
 use Rattle.std.specs.List.{AllByRecursion}
 use Rattle.store_model.specs.Disk.{Disk, WhereTold}
 use Rattle.store_model.specs.Folder.{Held, Hosted, RoseWhere}
 use Rattle.store_model.specs.declared.fault.StoreFault.{StoreFault}
 use Rattle.guest_model.specs.History.{History}
 use Rattle.guest_model.specs.declared.refusal.ChainRefusal.{ChainRefusal}
+use Rattle.guest_model.specs.declared.refusal.ChainRefusal.TheVariants as refusals
 use Rattle.link_rules.specs.Chains.{names_of}
 use Rattle.link_rules.specs.declared.linked.Linked.{Linked}
 use Rattle.link_rules.specs.declared.linked.LinkedFile.{LinkedFile}
 use Rattle.link_rules.specs.declared.refusal.LinkRefusal.{LinkRefusal}
+use Rattle.chain_core.specs.Starting.{IsOfDisk}
 use Rattle.chain_core.specs.declared.starting.Mode.TheVariants.{Guests}
 use Rattle.script.specs.declared.form.Line.{Line}
 use Rattle.script_session.specs.Faults.{FaultsAreTold}
 use Rattle.script_session.specs.Histories.{Break, IsEndTold}
-use Rattle.script_session.specs.Told.{failed_by}
+use Rattle.script_session.specs.Told.{Told, failed_by}
 use Rattle.serve_session.specs.Endings.{Ending, StopsMerge, ending_of}
-use Rattle.serve_session.specs.MergeServed.{HasRunServeLeafMerge, HasRunServeMerge}
-use Rattle.serve_session.specs.Running.{HasRunServe}
+use Rattle.serve_session.specs.Beginning.{Begins, GuestRun}
+use Rattle.serve_session.specs.MergeServed.{HasRunLeafMerge, HasRunMerge}
+use Rattle.serve_session.specs.Running.{HasRunGuests}
 use Rattle.serve_session.specs.Served.{AreServed, Asking, Outcome, all_told, all_unread, asked_by}
 use Rattle.serve_session.specs.Written.{IsWritten}
+use Rattle.serve_session.specs.declared.beginning.Begun.{Begun}
+use Rattle.serve_session.specs.declared.sealing.Unserved.{Unserved}
 use Rattle.serve_session.specs.declared.tally.Tally.{Tally}
 use Rattle.serve_session.specs.declared.merging.MergeRun.{MergeRun}
 use Rattle.vx_base.specs.declared.NoRoom.{NoRoom}
@@ -27,7 +32,7 @@ use Rattle.printing.specs.Answers.{fault_line}
 use Rattle.printing.specs.Sent.{Sent}
 use Rattle.printing.specs.declared.status.Status.{Status}
 use Rattle.printing.specs.declared.status.Status.TheVariants.{Done, Fault, NoMemory, Refused}
-use Rattle.command_base.specs.Commands.{Reports}
+use Rattle.command_base.specs.Commands.{Lends, Reports}
 use Rattle.steps_command.specs.Crashes.{HasLong, NoneNamesLog}
 use Rattle.command_base.specs.Folders.{LastReturned}
 use Rattle.serve_command.specs.Serves.{IsMergeLeft, IsStopTold}
@@ -36,29 +41,38 @@ use Rattle.steps_command.specs.Starts.{DrawsFor, changed_names, is_leaf}
 use Rattle.steps_command.specs.Steps.{drive_over}
 use Rattle.command_base.specs.declared.refusal.ChainRefusal.TheVariants as chain
 use Rattle.steps_command.specs.declared.refusal.StepsRefusal.{StepsRefusal}
-use Rattle.serve_command.specs.declared.command.Merging.{Merging}
+use Rattle.serve_command.specs.declared.beginning.Merging.{Merging}
 use Rattle.steps_command.specs.declared.refusal.StepsRefusal.TheVariants as steps
 
--- the file that is merged, if one is
+-- ---- a merge
+
+-- the file that is merged, if one is, and how many workers copy for it
 abbrev pub source_of : Option Merging → Option (List ℕ)
 source_of merging = option_map (λ (m : Merging). m.source.now) merging
+
+abbrev pub workers_of : Option Merging → ℕ
+workers_of None = 0
+workers_of (Some m) = length m.pieces.items
 
 -- ---- over a store
 
 -- guests were served in a session with the merge of the file of this name, which is the leaf, or isn't
-abbrev pub HasServedMergeOf : Bool → List LinkedFile → List ℕ → List (List ℕ) → List Line → MergeRun → Disk → Disk → Option (List (List ℕ)) → Option (List (List ℕ)) → Type 0
-HasServedMergeOf true files name names lines run old new before now = HasRunServeLeafMerge files names lines run old new before now
-HasServedMergeOf false files name names lines run old new before now = HasRunServeMerge files name names lines run old new before now
-
--- in a session without a merge none isn't finished
-pub record HasServedAlone (files : List LinkedFile) (names : List (List ℕ)) (lines : List Line) (run : MergeRun) (old new : Disk) (before now : Option (List (List ℕ))) : Type 0 where
-  pub ran : HasRunServe files names lines (record { run = run.run; unread = run.unread; tally = run.tally }) old new before now
-  pub none : IfErr run.merged (λ refusal. ⊥)
+abbrev pub HasServedMergeOf : Bool → List LinkedFile → List ℕ → Disk → Option (List (List ℕ)) → Option (List (List ℕ)) → GuestRun
+HasServedMergeOf true files name old before now asking guests history end merged new = HasRunLeafMerge files asking guests history end merged old new before now
+HasServedMergeOf false files name old before now asking guests history end merged new = HasRunMerge files name asking guests history end merged old new before now
 
 -- with a merge of the file of this name, if there is one
-abbrev pub HasServedBy : Option (List ℕ) → List LinkedFile → List (List ℕ) → List Line → MergeRun → Disk → Disk → Option (List (List ℕ)) → Option (List (List ℕ)) → Type 0
-HasServedBy None files names lines run old new before now = HasServedAlone files names lines run old new before now
-HasServedBy (Some name) files names lines run old new before now = HasServedMergeOf (is_leaf files name) files name names lines run old new before now
+abbrev pub HasServedBy : Option (List ℕ) → List LinkedFile → Disk → Option (List (List ℕ)) → Option (List (List ℕ)) → GuestRun
+HasServedBy None files old before now asking guests history end merged new = HasRunGuests files asking guests history end old new before now
+HasServedBy (Some name) files old before now asking guests history end merged new = HasServedMergeOf (is_leaf files name) files name old before now asking guests history end merged new
+
+-- A session began over the files of a chain, which the host has lent: it is ready for so many guests and workers, and its run is so once they are
+-- served, or it ended before. Its disk has the size that the files say.
+pub record BeginsOver {S T : Type 0} (disk : S → Disk) (merge : Option (List ℕ)) (guests workers : ℕ) (linked : Linked) (old mid : Hosted) (before now : Option (List (List ℕ))) (begun : Result (Begun S T) (Unserved S T)) : Type 0 where
+  pub lent : Disk
+  pub lends : Lends (names_of linked.files) old mid lent
+  pub begins : Begins disk (is_some merge) guests workers (HasServedBy merge linked.files lent before now) begun
+  pub size : IfOk begun (λ b. IsOfDisk linked.files b.chain.first.layers.geometry)
 
 -- ---- over a folder
 
@@ -84,7 +98,13 @@ pub record ServedIn (merge : Option (List ℕ)) (linked : Linked) (asking : Aski
   pub no_log : OnOk closed (WhereTold new.folder (NoneNamesLog (changed_names false merge linked.files)))
   pub left : OnOk closed (IfSome merge (IsMergeLeft (stopped_by merged) (leaf_name linked) linked new))
 
--- Guests were served over the chain.
+-- what is told isn't a fault of a file
+abbrev pub TellsNoFault : Told → Type 0
+TellsNoFault (Err (refusals.ReadFault file count)) = ⊥
+TellsNoFault (Err (refusals.Broken file count)) = ⊥
+TellsNoFault other = ⊤
+
+-- Guests were served over the chain. Where no fault is answered at the end the host's count stands, and no guest was told one of a file.
 pub record ServedOver (merge : Option (List ℕ)) (linked : Linked) (asking : Asking) (guests : List (List Outcome)) (history : History) (end : Ending) (merged : Result (Unit {0}) ChainRefusal) (old new : Hosted) (before now : Option (List (List ℕ))) : Type 0 where
   pub broken : Option Break
   pub count : length guests ≡ asking.count
@@ -92,33 +112,34 @@ pub record ServedOver (merge : Option (List ℕ)) (linked : Linked) (asking : As
   pub counted : IfSome end.fault (IsCounted old new)
   pub ended : IfErr end.closed (IsCounted old new)
   pub quiet : end.fault ≡ None → OnOk end.closed (new.faults ≡ old.faults)
+  pub well : end.fault ≡ None → OnOk end.closed (AllByRecursion TellsNoFault (all_told guests))
   pub unfetched : ℕ
   pub none_fetched : merge ≡ None → unfetched ≡ 0
   pub unread_is : end.unread ≡ length (all_unread guests) + unfetched
   pub stopped : IfErr merged (λ refusal. (merge ≢ None) × StopsMerge end refusal)
   pub served : WhereTold old.folder (λ folder. ServedIn merge linked asking guests history broken merged end.closed folder old new)
 
--- The guests of a script were served so, and its run is written as they were told.
-pub record ScriptServedOver (merge : Option (List ℕ)) (linked : Linked) (lines : List Line) (run : MergeRun) (old new : Hosted) (before now : Option (List (List ℕ))) : Type 0 where
-  pub guests : List (List Outcome)
-  pub history : History
-  pub over : ServedOver merge linked (asked_by lines) guests history (ending_of run.run run.unread) run.merged old new before now
-  pub written : IsWritten (names_of linked.files) lines guests history run.run run.tally
-
 -- So they were, once their readers had come back, by which the host's count rose exactly where a read had failed by one. The host tells its folder
 -- where it told it before.
-pub record ServedWith (merge : Option (List ℕ)) (linked : Linked) (lines : List Line) (run : MergeRun) (old new : Hosted) (before now : Option (List (List ℕ))) : Type 0 where
+pub record ServedWith (merge : Option (List ℕ)) (linked : Linked) (asking : Asking) (guests : List (List Outcome)) (history : History) (end : Ending) (merged : Result (Unit {0}) ChainRefusal) (old new : Hosted) (before now : Option (List (List ℕ))) : Type 0 where
   pub tells : TellsAlike old.folder new.folder
   pub faults : ℕ
-  pub readers : RoseWhere (0 < run.unread) old.faults faults
-  pub over : ScriptServedOver merge linked lines run (record old { faults = faults }) new before now
+  pub readers : RoseWhere (0 < end.unread) old.faults faults
+  pub over : ServedOver merge linked asking guests history end merged (record old { faults = faults }) new before now
+
+-- The guests of a script were served so, and its run is written as they were told.
+pub record ScriptIsServed (merge : Option (List ℕ)) (linked : Linked) (lines : List Line) (run : MergeRun) (old new : Hosted) (before now : Option (List (List ℕ))) : Type 0 where
+  pub guests : List (List Outcome)
+  pub history : History
+  pub served : ServedWith merge linked (asked_by lines) guests history (ending_of run.run run.unread) run.merged old new before now
+  pub written : IsWritten (names_of linked.files) lines guests history run.run run.tally
 
 -- They were served over the chain to which a leaf's name leads, or they weren't.
 pub data LeafIsServed (leaf : List ℕ) (merge : Option (List ℕ)) (lines : List Line) (old new : Hosted) (before now : Option (List (List ℕ))) (result : Result MergeRun StepsRefusal) : Type 0 where
   no_room : result ≡ Err (steps.Chain chain.NoRoom) → new ≡ old → now ≡ before → LeafIsServed leaf merge lines old new before now result
   unlinked : (refusal : LinkRefusal) → result ≡ Err (steps.Chain (chain.Unlinked refusal)) → IsNotFollowed leaf refusal old new → now ≡ before
       → LeafIsServed leaf merge lines old new before now result
-  over : (mid : Hosted) (linked : Linked) → IsFollowedTo leaf linked old mid → IfOk result (λ run. ServedWith merge linked lines run mid new before now)
+  over : (mid : Hosted) (linked : Linked) → IsFollowedTo leaf linked old mid → IfOk result (λ run. ScriptIsServed merge linked lines run mid new before now)
       → IfErr result (NotRunOver Guests merge linked mid new before now) → LeafIsServed leaf merge lines old new before now result
 
 -- ---- what is printed

@@ -135,23 +135,28 @@ pub record KeepsServed (leaf : List ℕ) (linked : Linked) (disk : Disk) (merge 
   pub no_log : HasServedOut merge service meant → service.has_begun ≡ true → WhereTold now.folder (NoneNamesLog (changed_names false merge linked.files))
   pub merged : HasServedOut merge service meant → service.has_begun ≡ true → IfSome merge (IsMergeLeft service.stopped leaf linked now)
 
--- The chain is opened, as by a dump, and its guests are served, or no session begins. A fault is met where the host's count rose, by its own
--- calls or by what came back to it, a store or a reader that had failed, and only there.
-pub record ServesOver (leaf : List ℕ) (merge : Option (List ℕ)) (before now : World) (status : Status) : Type 0 where
-  pub begun : Opened script.Serve leaf before
-  pub taken : WhereTold before.left (λ bytes. IsTaken bytes now.left)
+-- A session over a chain, to which the leaf's name leads and which is opened, as by a dump, to this disk, whatever front its guests come by: they
+-- are served, or no session begins. What is meant is the status of the run, but for a fault of the sink.
+pub record HasServedChain (leaf : List ℕ) (linked : Linked) (disk : Disk) (merge : Option (List ℕ)) (asking : Asking) (service : Service) (meant : Status) (before now : World) : Type 0 where
   pub opened : Hosted
   pub followed : OnlyFollows leaf before.host.folder opened.folder
   pub opening : TouchesSafely (λ folder. IsOnWay (contents folder) leaf) before.host opened
-  pub service : Service
   pub none : service.has_begun ≡ false → service ≡ no_service
   pub alone : merge ≡ None → service.unfetched ≡ 0
+  pub kept : WhereTold before.host.folder (λ folder. KeepsServed leaf linked disk merge asking service meant opened now.host)
+  pub unchanged : meant ≡ Refused → service.has_begun ≡ false → WhereTold opened.folder (λ folder. WhereTold now.host.folder (λ after. (name : List ℕ) → contents after name ≡ contents folder name))
+
+-- The script is read to its end, and its guests are served over the chain. A fault is met where the host's count rose, by its own calls or by what
+-- came back to it, a store or a reader that had failed, and only there.
+pub record ServesOver (leaf : List ℕ) (merge : Option (List ℕ)) (before now : World) (status : Status) : Type 0 where
+  pub begun : Opened script.Serve leaf before
+  pub taken : WhereTold before.left (λ bytes. IsTaken bytes now.left)
+  pub service : Service
   pub meant : Status
+  pub session : HasServedChain leaf begun.linked begun.disk merge (asked_by begun.lines) service meant before now
   pub text : List ℕ
   pub said : IsServeText begun merge now service meant text
   pub sent : Sent before.written now.written before.sink_faults now.sink_faults meant text status
-  pub kept : WhereTold before.host.folder (λ folder. KeepsServed leaf begun.linked begun.disk merge (asked_by begun.lines) service meant opened now.host)
-  pub unchanged : meant ≡ Refused → service.has_begun ≡ false → WhereTold opened.folder (λ folder. WhereTold now.host.folder (λ after. (name : List ℕ) → contents after name ≡ contents folder name))
   pub rose : meant ≡ Fault → Rose before.host.faults now.host.faults
   pub quiet : meant ≢ Fault → (now.host.faults ≡ before.host.faults) × (met service ≡ None) × (unread_by service ≡ 0)
 

@@ -45,7 +45,7 @@ fn give_back_each<H: Host>(host: &mut H, sets: &mut Vec<ReaderSet<<H::S as Store
 }
 
 /// Gives back sets of readers. The host's count rises exactly where one of them has failed.
-pub(crate) fn give_back_sets<H: Host>(host: &mut H, sets: Vec<ReaderSet<<H::S as Store>::R>>)
+pub fn give_back_sets<H: Host>(host: &mut H, sets: Vec<ReaderSet<<H::S as Store>::R>>)
     ensures folder { (H.hosted host.new).folder ≡ (H.hosted host.old).folder }
     ensures past { (H.hosted host.new).past ≡ (H.hosted host.old).past }
     ensures count { RoseWhere (any_failed sets.items ≡ true) (H.hosted host.old).faults (H.hosted host.new).faults }

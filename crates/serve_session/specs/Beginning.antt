@@ -1,5 +1,5 @@
 -- A chain that threads may share.
-use Rattle.std.specs.Prelude.{◌≡◌, ◌+◌, ℕ, Bool, true, All, List, [], length, replicate, Option, Result, Ok, Err, IfOk}
+use Rattle.std.specs.Prelude.{◌≡◌, ◌+◌, ℕ, Bool, true, false, All, List, [], length, replicate, Option, Result, Ok, Err, IfOk}
 use Rattle.store_model.specs.Disk.{Disk}
 use Rattle.store_model.specs.declared.fault.StoreFault.{StoreFault}
 use Rattle.guest_model.specs.History.{History}
@@ -7,12 +7,14 @@ use Rattle.guest_model.specs.declared.refusal.ChainRefusal.{ChainRefusal}
 use Rattle.guest_model.specs.declared.refusal.ChainRefusal.TheVariants.{NoRoom}
 use Rattle.ledger.specs.declared.ledger.Ledger.{Ledger}
 use Rattle.chain_core.specs.declared.chain.Chain.{Chain}
-use Rattle.serve_session.specs.Endings.{Ending}
+use Rattle.script.specs.declared.form.Line.{Line}
+use Rattle.serve_session.specs.Endings.{Ending, ending_of}
 use Rattle.serve_session.specs.Sealing.{IsSetFor}
-use Rattle.serve_session.specs.Served.{Asking, Outcome}
+use Rattle.serve_session.specs.Served.{Asking, Outcome, asked_by}
 use Rattle.serve_session.specs.Serving.{HasBegun, HasServed}
 use Rattle.serve_session.specs.Tallies.{no_tally}
 use Rattle.serve_session.specs.Tools.{AreToolsFor}
+use Rattle.serve_session.specs.Written.{IsWritten}
 use Rattle.serve_session.specs.declared.beginning.Begun.{Begun}
 use Rattle.serve_session.specs.declared.merging.MergeRun.{MergeRun}
 use Rattle.serve_session.specs.declared.sealing.Unserved.{Unserved}
@@ -50,11 +52,23 @@ module _ {S T : Type 0} (disk : S → Disk) where
   Begins merges guests workers run (Ok begun) = CanBeShared disk guests workers begun × RunsAs merges begun.chain.first run
   Begins merges guests workers run (Err left) = (asking : Asking) → run asking (replicate asking.count []) [] (unserved_end left.met left.closed) (Err NoRoom) (disk left.store)
 
+-- whether a merge is finished of which nothing was done, if there is one: memory ran out for it
+abbrev pub undone : Bool → Result (Unit {0}) ChainRefusal
+undone true = Err NoRoom
+undone false = Ok tt
+
 -- What is told of a script's run where its session ended before a guest was served.
-pub record IsUnsaid (failed : Option StoreFault) (ended : Result (Unit {0}) StoreFault) (run : MergeRun) : Type 0 where
+pub record IsUnsaid (merges : Bool) (failed : Option StoreFault) (ended : Result (Unit {0}) StoreFault) (run : MergeRun) : Type 0 where
   pub transcript : IfOk run.run.transcript (λ text. ⊥)
   pub fault : run.run.fault ≡ failed
   pub unread : run.unread ≡ 0
   pub tally : run.tally ≡ no_tally
   pub closed : run.run.closed ≡ ended
-  pub merged : run.merged ≡ Err NoRoom
+  pub merged : run.merged ≡ undone merges
+
+-- The guests of a script were served so, and its run is written as they were told.
+pub record IsScriptRun (run : GuestRun) (names : List (List ℕ)) (lines : List Line) (given : MergeRun) (after : Disk) : Type 0 where
+  pub guests : List (List Outcome)
+  pub history : History
+  pub ran : run (asked_by lines) guests history (ending_of given.run given.unread) given.merged after
+  pub written : IsWritten names lines guests history given.run given.tally

@@ -18,16 +18,13 @@ use Rattle.chain_core.specs.LeafStarting.{PlansLeafMerge}
 use Rattle.chain_core.specs.MergeStarting.{PlansMerge}
 use Rattle.chain_core.specs.Sealed.{IsKept}
 use Rattle.chain_core.specs.Starting.{opening_disk}
-use Rattle.script.specs.declared.form.Line.{Line}
 use Rattle.script_session.specs.Faults.{Counts, FaultsAreTold}
 use Rattle.script_session.specs.Histories.{Break, IsEndTold, IsSoLong, disk_after}
 use Rattle.script_session.specs.MergeRunning.{IsAtRestOver, Scope, drive_over, leaf_scope_of, scope_of}
 use Rattle.script_session.specs.Running.{open_by, open_last}
 use Rattle.script_session.specs.Told.{failed_by, sector_size}
-use Rattle.serve_session.specs.Endings.{Ending, StopsMerge, ending_of}
-use Rattle.serve_session.specs.Served.{AreServed, Asking, Outcome, all_told, all_unread, asked_by}
-use Rattle.serve_session.specs.Written.{IsWritten}
-use Rattle.serve_session.specs.declared.merging.MergeRun.{MergeRun}
+use Rattle.serve_session.specs.Endings.{Ending, StopsMerge}
+use Rattle.serve_session.specs.Served.{AreServed, Asking, Outcome, all_told, all_unread}
 
 -- Where a merge isn't finished at the end for want of room, a file that may be changed is so long, within 1,024 MB of the greatest place that a
 -- block may have.
@@ -80,16 +77,3 @@ pub record HasRunLeafMerge (files : List LinkedFile) (asking : Asking) (guests :
   pub merge : LeafMerge
   pub planned : PlansLeafMerge files old before now m merge
   pub serves : HasServedWith (leaf_scope_of m) asking guests history end merged old new
-
--- The guests of a script were served so, and its run is written as they were told.
-pub record HasRunServeMerge (files : List LinkedFile) (name : List ℕ) (names : List (List ℕ)) (lines : List Line) (run : MergeRun) (old new : Disk) (before now : Option (List (List ℕ))) : Type 0 where
-  pub guests : List (List Outcome)
-  pub history : History
-  pub ran : HasRunMerge files name (asked_by lines) guests history (ending_of run.run run.unread) run.merged old new before now
-  pub written : IsWritten names lines guests history run.run run.tally
-
-pub record HasRunServeLeafMerge (files : List LinkedFile) (names : List (List ℕ)) (lines : List Line) (run : MergeRun) (old new : Disk) (before now : Option (List (List ℕ))) : Type 0 where
-  pub guests : List (List Outcome)
-  pub history : History
-  pub ran : HasRunLeafMerge files (asked_by lines) guests history (ending_of run.run run.unread) run.merged old new before now
-  pub written : IsWritten names lines guests history run.run run.tally

@@ -10,15 +10,12 @@ use Rattle.link_rules.specs.declared.linked.LinkedFile.{LinkedFile}
 use Rattle.chain_core.specs.Sealed.{IsKept}
 use Rattle.chain_core.specs.Starting.{opening_disk, way_to}
 use Rattle.chain_core.specs.declared.starting.Mode.TheVariants.{Guests}
-use Rattle.script.specs.declared.form.Line.{Line}
 use Rattle.script_session.specs.Faults.{Counts, FaultsAreTold}
 use Rattle.script_session.specs.Histories.{Break, IsEndTold, IsSoLong, disk_after}
 use Rattle.script_session.specs.Running.{DrawsFor, IsAtRest, drive_of, open_by, open_last}
 use Rattle.script_session.specs.Told.{failed_by, sector_size}
-use Rattle.serve_session.specs.Endings.{Ending, ending_of}
-use Rattle.serve_session.specs.Served.{AreServed, Asking, Outcome, all_told, all_unread, asked_by}
-use Rattle.serve_session.specs.Written.{IsWritten}
-use Rattle.serve_session.specs.declared.session.ServeRun.{ServeRun}
+use Rattle.serve_session.specs.Endings.{Ending}
+use Rattle.serve_session.specs.Served.{AreServed, Asking, Outcome, all_told, all_unread}
 
 -- What stands behind guests that were told so, over the files of a store. At each moment each image opens from the leaf's name to the disk of
 -- a prefix of the history, outside the sectors that are open then, and at the end to that of all. Where a call is told that the leaf is full,
@@ -49,10 +46,3 @@ pub record HasRunGuests (files : List LinkedFile) (asking : Asking) (guests : Li
   pub unread : AllByRecursion (λ fault. fault.file < old.files) (all_unread guests)
   pub unread_is : end.unread ≡ length (all_unread guests)
   pub served : WhereBothTold (HaveServed files asking guests history broken end.closed) old.told new.told
-
--- The guests of a script were served so, and its run is written as they were told.
-pub record HasRunServe (files : List LinkedFile) (names : List (List ℕ)) (lines : List Line) (run : ServeRun) (old new : Disk) (before now : Option (List (List ℕ))) : Type 0 where
-  pub guests : List (List Outcome)
-  pub history : History
-  pub ran : HasRunGuests files (asked_by lines) guests history (ending_of run.run run.unread) old new before now
-  pub written : IsWritten names lines guests history run.run run.tally

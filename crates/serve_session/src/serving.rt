@@ -9,7 +9,7 @@ ghost use Rattle.ledger.specs.declared.ledger.Ledger.{Ledger};
 ghost use Rattle.shared_chain.specs.Seats.{IsFree};
 ghost use Rattle.seats.specs.Families.{newborn};
 ghost use Rattle.serve_session.specs.Actors.{AreJoined, HasHeard, HasRun};
-ghost use Rattle.serve_session.specs.Beginning.{CanBeShared};
+ghost use Rattle.serve_session.specs.Beginning.{CanBeShared, IsUnsaid};
 ghost use Rattle.shared_chain.specs.Bases.{together};
 ghost use Rattle.turn_lock.specs.Seats.{together_of};
 ghost use Rattle.serve_session.specs.Back.{any_failed};
@@ -649,6 +649,7 @@ where
     requires workers { length begun.tools.items ≤ 64 }
     requires alone { is_some last ≡ false → length begun.tools.items ≡ 0 }
     ensures served { HasServedScript S.disk (is_some last.entry) begun.chain.first (map N.text names.now) lines.now result.1 (S.disk result.0) }
+    ensures without { is_some last.entry ≡ false → result.1.merged ≡ Ok tt }
     ensures back { any_failed result.2.items ≡ nat_lt 0 result.1.unread }
 {
     let Begun {
@@ -691,24 +692,29 @@ where
     (store, run, back)
 }
 
-/// What is told where a read failed by this fault, or memory ran out, before the chain could be shared, and its session ended so.
-pub(crate) fn unserved(met: Option<StoreFault>, closed: Result<(), StoreFault>) -> MergeRun
-    ensures transcript { IfOk result.run.transcript (λ text. ⊥) }
-    ensures fault { result.run.fault ≡ met }
-    ensures unread { result.unread ≡ 0 }
-    ensures tally { result.tally ≡ no_tally }
-    ensures closed { result.run.closed ≡ closed }
-    ensures merged { result.merged ≡ Err ChainRefusal.NoRoom }
+/// What is told where a read failed by this fault, or memory ran out, before the chain could be shared, and its session ended so; of a merge, if
+/// there was one, nothing was done.
+pub(crate) fn unserved(
+    merges: bool,
+    met: Option<StoreFault>,
+    closed: Result<(), StoreFault>,
+) -> MergeRun
+    ensures { IsUnsaid merges met closed result }
 {
     let run = ScriptRun {
         transcript: Err(NoRoom),
         fault: met,
         closed,
     };
+    let merged = if merges {
+        Err(ChainRefusal::NoRoom)
+    } else {
+        Ok(())
+    };
     MergeRun {
         run,
         unread: 0,
         tally: Tally::none(),
-        merged: Err(ChainRefusal::NoRoom),
+        merged,
     }
 }

@@ -3,7 +3,7 @@
 ghost use Rattle.std.specs.Prelude.{◌≡◌, ◌≤◌, [], IfErr, IfOk, false, length, true};
 ghost use Rattle.chain_core.specs.LeafStarting.{RefusesLeafMerge};
 ghost use Rattle.chain_core.specs.MergeStarting.{RefusesMerge};
-ghost use Rattle.chain_core.specs.Starting.{EachOpensAlike, LeavesOthersFrom, RefusesStart};
+ghost use Rattle.chain_core.specs.Starting.{EachOpensAlike, IsOfDisk, LeavesOthersFrom, RefusesStart};
 ghost use Rattle.chain_core.specs.declared.starting.Mode.TheVariants as modes;
 ghost use Rattle.merge_plan.specs.Attached.{CanStart};
 ghost use Rattle.serve_session.specs.Beginning.{Begins};
@@ -50,6 +50,7 @@ where
     requires empty { history ≡ [] }
     requires few { guests ≤ 64 }
     ensures begins { IfOk result (Begins S.disk false guests 0 (λ asking told history end merged after. HasRunGuests files.now asking told history end (S.disk store) after (I.drawn ids.old) (I.drawn ids.new))) }
+    ensures size { IfOk result (λ begun. IfOk begun (λ b. IsOfDisk files.now b.chain.first.layers.geometry)) }
     ensures refused { IfErr result (λ back. RefusesStart modes.Guests files.now (S.disk store) (S.disk back.0) (I.drawn ids.old) (I.drawn ids.new) back.1) }
     ensures kept { IfErr result (λ back. EachOpensAlike files.now (S.disk store).told (S.disk back.0).told) }
     ensures still { IfErr result (λ back. LeavesOthersFrom (S.disk store).told (S.disk back.0).told) }
@@ -79,6 +80,7 @@ where
     requires few { guests ≤ 64 }
     requires workers { length pieces.items ≤ 64 }
     ensures begins { IfOk result (Begins S.disk true guests (length pieces.items) (λ asking told history end merged after. HasRunMerge files.now source.now asking told history end merged (S.disk store) after (I.drawn ids.old) (I.drawn ids.new))) }
+    ensures size { IfOk result (λ begun. IfOk begun (λ b. IsOfDisk files.now b.chain.first.layers.geometry)) }
     ensures refused { IfErr result (λ back. RefusesMerge files.now source.now (S.disk store) (S.disk back.0) (I.drawn ids.old) (I.drawn ids.new) back.1) }
     ensures kept { IfErr result (λ back. EachOpensAlike files.now (S.disk store).told (S.disk back.0).told) }
 {
@@ -107,6 +109,7 @@ where
     requires few { guests ≤ 64 }
     requires workers { length pieces.items ≤ 64 }
     ensures begins { IfOk result (Begins S.disk true guests (length pieces.items) (λ asking told history end merged after. HasRunLeafMerge files.now asking told history end merged (S.disk store) after (I.drawn ids.old) (I.drawn ids.new))) }
+    ensures size { IfOk result (λ begun. IfOk begun (λ b. IsOfDisk files.now b.chain.first.layers.geometry)) }
     ensures refused { IfErr result (λ back. RefusesLeafMerge files.now (S.disk store) (S.disk back.0) (I.drawn ids.old) (I.drawn ids.new) back.1) }
     ensures kept { IfErr result (λ back. EachOpensAlike files.now (S.disk store).told (S.disk back.0).told) }
 {

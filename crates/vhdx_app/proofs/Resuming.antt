@@ -35,7 +35,7 @@ use Rattle.steps_command.specs.Crashes.{OpensToFirst}
 use Rattle.command_base.specs.Folders.{files_of}
 use Rattle.command_base.specs.Printed.{RefusesLeaf, unlinked}
 use Rattle.command_base.specs.Refusals.{Refusal}
-use Rattle.vhdx_app.specs.Resuming.{CanResume, IsRunOver, OpeningsResume, ResumedRunsGoOn, ResumesFirst, ResumesWithin, RunsResume, ServicesResume, restarted}
+use Rattle.vhdx_app.specs.Resuming.{CanResume, IsRunOver, OpeningsResume, ResumedRunsGoOn, ResumesFirst, ResumesWithin, RunsResume, SessionsResume, restarted}
 use Rattle.steps_command.specs.Steps.{way_by}
 use Rattle.command_base.specs.Worlds.{World}
 use Rattle.script_session.specs.Histories.{Break}
@@ -129,10 +129,10 @@ runs_resume leaf merge read_only before now status run = record {
   last = λ folder told f is image left. resumes_within (way_by leaf run.begun.linked merge) _ _ image ((run.kept folder told).last f is image left);
 }
 
-pub services_resume : ServicesResume
-services_resume leaf merge before now status run = record {
-  moments = λ folder told. resumes_throughout (way_by leaf run.begun.linked merge) run.begun.disk run.service.history run.service.broken run.opened now.host (run.kept folder told).moments;
-  last = λ folder told f is image left. resumes_within (way_by leaf run.begun.linked merge) _ _ image ((run.kept folder told).last f is image left);
+pub sessions_resume : SessionsResume
+sessions_resume leaf linked disk merge asking service meant before now session = record {
+  moments = λ folder told. resumes_throughout (way_by leaf linked merge) disk service.history service.broken session.opened now.host (session.kept folder told).moments;
+  last = λ folder told f is image left. resumes_within (way_by leaf linked merge) _ _ image ((session.kept folder told).last f is image left);
 }
 
 -- ---- its opening, cut off

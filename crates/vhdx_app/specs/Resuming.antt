@@ -23,7 +23,8 @@ use Rattle.steps_command.specs.Crashes.{IsCleanFolderImage}
 use Rattle.command_base.specs.Folders.{files_of}
 use Rattle.command_base.specs.Printed.{RefusesLeaf}
 use Rattle.command_base.specs.Refusals.{Refusal}
-use Rattle.serve_command.specs.Serves.{ServesOver}
+use Rattle.serve_command.specs.Serves.{HasServedChain, Service}
+use Rattle.serve_session.specs.Served.{Asking}
 use Rattle.steps_command.specs.Steps.{Opened, RunsOver, way_by}
 use Rattle.command_base.specs.Worlds.{World}
 use Rattle.chain_model.specs.Members.{LeadsBy, Way}
@@ -69,13 +70,14 @@ pub record RunResumes {leaf : List ℕ} {merge : Option (List ℕ)} {read_only :
 abbrev pub RunsResume : Type 0
 RunsResume = (leaf : List ℕ) (merge : Option (List ℕ)) (read_only : Bool) (before now : World) (status : Status) (run : RunsOver leaf merge read_only before now status) → RunResumes run
 
--- So can one of `serve`.
-pub record ServiceResumes {leaf : List ℕ} {merge : Option (List ℕ)} {before now : World} {status : Status} (run : ServesOver leaf merge before now status) : Type 0 where
-  pub moments : WhereTold before.host.folder (λ folder. Throughout (ResumesFirst (way_by leaf run.begun.linked merge) run.begun.disk run.service.history run.service.broken) run.opened now.host)
-  pub last : WhereTold before.host.folder (λ folder. WhereTold now.host.folder (EachResumes (way_by leaf run.begun.linked merge) (open_last run.service.history run.service.broken) (replay sector_size run.begun.disk run.service.history)))
+-- So can a session with guests, whatever front they come by: that of `serve`, and that of `nbd`.
+pub record SessionResumes {leaf : List ℕ} {linked : Linked} {disk : Disk} {merge : Option (List ℕ)} {asking : Asking} {service : Service} {meant : Status} {before now : World} (session : HasServedChain leaf linked disk merge asking service meant before now) : Type 0 where
+  pub moments : WhereTold before.host.folder (λ folder. Throughout (ResumesFirst (way_by leaf linked merge) disk service.history service.broken) session.opened now.host)
+  pub last : WhereTold before.host.folder (λ folder. WhereTold now.host.folder (EachResumes (way_by leaf linked merge) (open_last service.history service.broken) (replay sector_size disk service.history)))
 
-abbrev pub ServicesResume : Type 0
-ServicesResume = (leaf : List ℕ) (merge : Option (List ℕ)) (before now : World) (status : Status) (run : ServesOver leaf merge before now status) → ServiceResumes run
+abbrev pub SessionsResume : Type 0
+SessionsResume =
+    (leaf : List ℕ) (linked : Linked) (disk : Disk) (merge : Option (List ℕ)) (asking : Asking) (service : Service) (meant : Status) (before now : World) (session : HasServedChain leaf linked disk merge asking service meant before now) → SessionResumes session
 
 -- What can be resumed still can where a crash cuts off its opening, in which files on the way alone are touched, and these safely; and
 -- so however often: by files of the same names, with the same disk.

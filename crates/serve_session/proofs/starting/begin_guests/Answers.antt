@@ -2,7 +2,7 @@ use Rattle.std.proofs.Common.{ap, false, length, subst}
 use Rattle.std.specs.Prelude.{IfOk}
 use Rattle.layer_session.proofs.Equal.{false_true}
 use Rattle.serve_session.specs.Beginning.{CanBeShared}
-use Rattle.serve_session.proofs.Beginnings.{begins_so}
+use Rattle.serve_session.proofs.Beginnings.{begins_so, size_sealed}
 use Rattle.serve_session.proofs.Sessions.{guests_ran, serves_first}
 use Rattle.serve_session.proofs.starting.begin_guests.Goals as goal
 
@@ -18,3 +18,6 @@ pub begin-requires-clause-serves : goal.begin-requires-clause-serves
 begin-requires-clause-serves g c =
     let disk = g.S.Store.disk in
     serves_first disk c.in-Ok.chain c.args.files.now (disk c.args.store) (g.I.Ids.drawn c.args.ids.now) (g.I.Ids.drawn c.start.new.ids) c.requires.files c.in-Ok.ensures.started
+
+pub returns-in-Ok-clause-size : goal.returns-in-Ok-clause-size
+returns-in-Ok-clause-size g c = size_sealed g.S.Store.disk c.in-Ok.chain c.args.files.now c.in-Ok.ensures.geometry c.begin.result c.begin.ensures.sealed

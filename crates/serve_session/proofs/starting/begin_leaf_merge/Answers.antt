@@ -1,7 +1,7 @@
 use Rattle.std.proofs.Common.{◌||◌, Bool, Option, ap₂, length, true}
 use Rattle.std.specs.Prelude.{is_some}
 use Rattle.chain_core.specs.declared.layers.Underway.{Underway}
-use Rattle.serve_session.proofs.Beginnings.{begins_so}
+use Rattle.serve_session.proofs.Beginnings.{begins_so, leaf_merge_size, size_sealed}
 use Rattle.serve_session.proofs.MergeSessions.{guests_leaf_merged, leaf_merge_first}
 use Rattle.serve_session.proofs.starting.begin_leaf_merge.Goals as goal
 
@@ -17,3 +17,8 @@ pub begin-requires-clause-serves : goal.begin-requires-clause-serves
 begin-requires-clause-serves g c =
     let started = c.in-Ok.ensures.started in
     leaf_merge_first g.S.Store.disk c.in-Ok.chain started.m started.merge (g.S.Store.disk c.args.store).told started.begun.serving
+
+pub returns-in-Ok-clause-size : goal.returns-in-Ok-clause-size
+returns-in-Ok-clause-size g c =
+    let s = c.in-Ok.ensures.started in
+    size_sealed g.S.Store.disk c.in-Ok.chain c.args.files.now (leaf_merge_size c.args.files.now s.m c.in-Ok.chain.layers.geometry s.planned.begun.files_are s.begun.geometry) c.begin.result c.begin.ensures.sealed

@@ -1,6 +1,6 @@
 use Rattle.std.proofs.Common.{◌||◌, ap, length, true}
 use Rattle.std.specs.Prelude.{is_some}
-use Rattle.serve_session.proofs.Beginnings.{begins_so}
+use Rattle.serve_session.proofs.Beginnings.{begins_so, merge_size, size_sealed}
 use Rattle.serve_session.proofs.MergeSessions.{guests_merged, merge_first}
 use Rattle.serve_session.proofs.starting.begin_merge.Goals as goal
 
@@ -16,3 +16,8 @@ pub begin-requires-clause-serves : goal.begin-requires-clause-serves
 begin-requires-clause-serves g c =
     let started = c.in-Ok.ensures.started in
     merge_first g.S.Store.disk c.in-Ok.chain started.m started.merge (g.S.Store.disk c.args.store).told started.begun.serving
+
+pub returns-in-Ok-clause-size : goal.returns-in-Ok-clause-size
+returns-in-Ok-clause-size g c =
+    let s = c.in-Ok.ensures.started in
+    size_sealed g.S.Store.disk c.in-Ok.chain c.args.files.now (merge_size c.args.files.now s.m c.args.source.now c.in-Ok.chain.layers.geometry s.planned.begun.files_are s.begun.geometry) c.begin.result c.begin.ensures.sealed
