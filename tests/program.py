@@ -4,9 +4,10 @@
     tests/program.py PROGRAM
 
 Each block of README.md and docs/USE.md that shows a command is run, in order, and prints what stands there, but for identifiers. Then come
-statuses and texts, files that can't be read or written, a disk that is full, runs that are killed, two runs at once over one chain, and 20
-generated loads. It works in a new folder, takes about a minute, and ends with the line 'N passed, M failed'.
+statuses and texts, files that can't be read or written, a disk that is full, runs that are killed, two runs at once over one chain, 20
+generated loads, and clients of the Network Block Device protocol. It works in a new folder, takes about a minute, and ends with the line 'N passed, M failed'.
 """
+import contextlib
 import os
 import pathlib
 import random
@@ -14,6 +15,7 @@ import re
 import resource
 import shutil
 import signal
+import struct
 import subprocess
 import sys
 import tempfile
@@ -44,8 +46,8 @@ class Folder:
 
     def start(self, *words, **how):
         """The program, started with these words."""
-        pipes = {"stdin": subprocess.PIPE, "stdout": subprocess.PIPE, "stderr": subprocess.PIPE}
-        return subprocess.Popen([*self.before, self.program, *words], cwd=self.path, text=True, **{**pipes, **how})
+        pipes = {"stdin": subprocess.PIPE, "stdout": subprocess.PIPE, "stderr": subprocess.PIPE, "text": True}
+        return subprocess.Popen([*self.before, self.program, *words], cwd=self.path, **{**pipes, **how})
 
     def run(self, *words, script="", **how):
         """How the program ends with these words and this on its standard input: its status, standard output and standard error."""
@@ -312,6 +314,188 @@ def check_loads(program, room):
     folder.check("a load without a seed", ["load"], 2, "", folder.run("--help")[1])
 
 
+# ---- clients of the Network Block Device protocol
+
+
+READ, WRITE, DISCONNECT, FLUSH, TRIM = range(5)
+FORCED = 1
+MB = 1048576
+GREETING = b"NBDMAGICIHAVEOPT\0\3"
+# a client that wants no zeros
+FLAGS = struct.pack(">I", 3)
+
+
+def option(number, data=b""):
+    return b"IHAVEOPT" + struct.pack(">II", number, len(data)) + data
+
+
+def request(kind, cookie, offset=0, length=0, flags=0):
+    return struct.pack(">IHHQQI", 0x25609513, flags, kind, cookie, offset, length)
+
+
+def reply(cookie, data=b"", error=0):
+    return struct.pack(">IIQ", 0x67446698, error, cookie) + data
+
+
+class Client:
+    """A client of the program's, by its pipes. It is given 30 seconds."""
+
+    def __init__(self, folder, *words, **how):
+        self.run = folder.start("nbd", *words, text=False, **how)
+        self.timer = threading.Timer(30, self.run.kill)
+        self.timer.start()
+        self.cookie = 0
+
+    def send(self, data):
+        # where the program has ended, the reply that is missing tells it
+        with contextlib.suppress(BrokenPipeError):
+            self.run.stdin.write(data)
+            self.run.stdin.flush()
+
+    def take(self, count):
+        return self.run.stdout.read(count)
+
+    def begin(self, size):
+        """Names the export by nothing: whether a disk of this size is offered, that can be written, flushed, trimmed, and written with force."""
+        self.send(FLAGS + option(1))
+        return self.take(28) == GREETING + struct.pack(">QH", size, 0x2D)
+
+    def ask(self, kind, offset=0, length=0, data=b"", flags=0):
+        """The error of a request, and the data of a read; None where there is no reply to it."""
+        self.cookie += 1
+        self.send(request(kind, self.cookie, offset, length or len(data), flags) + data)
+        head = self.take(16)
+        if len(head) < 16 or head[:4] + head[8:] != reply(self.cookie)[:4] + reply(self.cookie)[8:]:
+            return None, head
+        error = struct.unpack(">I", head[4:8])[0]
+        return error, self.take(length) if kind == READ and error == 0 else b""
+
+    def end(self, data=request(DISCONNECT, 0)):
+        """Sends the last bytes: the run's status, and what else the client was sent."""
+        out, _ = self.run.communicate(data)
+        self.timer.cancel()
+        return self.run.returncode, out
+
+
+def nbd_chain(folder, size):
+    """A chain of three files over a disk of so many bytes, of which the middle one holds eight sectors of each MB: that disk."""
+    for old in folder.path.glob("*.vhdx"):
+        old.unlink()
+    folder.make("dynamic", "b.vhdx", "--sectors", str(size // 512))
+    folder.make("child", "m.vhdx", "--parent", "b.vhdx")
+    folder.run("steps", "m.vhdx", script="".join(f"write {2048 * i} 8 {i + 1:02x}\n" for i in range(size // MB)))
+    folder.make("child", "c.vhdx", "--parent", "m.vhdx")
+    disk = bytearray(size)
+    for i in range(size // MB):
+        disk[MB * i : MB * i + 4096] = bytes([i + 1]) * 4096
+    return disk
+
+
+def shown_of(folder, first, count):
+    """The bytes of sectors, as a dump shows them."""
+    lines = folder.run("dump", "c.vhdx", str(first), str(count))[1].split("\n")[:-1]
+    return b"".join(bytes.fromhex(line.split(" ")[1]) for line in lines if " " in line and not line.startswith(("refused", "fault")))
+
+
+def nbd_call(client, disk, rng):
+    """A call that looks drawn, of up to 64 KB, on the program and on the model: whether they agree."""
+    kind = rng.choice((READ, READ, WRITE, WRITE, WRITE, TRIM, FLUSH))
+    flags = FORCED if kind in (WRITE, TRIM) and rng.random() < 0.3 else 0
+    length = 512 * rng.randint(1, 128)
+    # every second one near a place where the middle file holds something, so that calls meet
+    offset = 512 * rng.randrange(len(disk) // 512 - 128) if rng.random() < 0.5 else MB * rng.randrange(8) + 512 * rng.randrange(200)
+    if kind == FLUSH:
+        return client.ask(FLUSH) == (0, b"")
+    if kind == READ:
+        return client.ask(READ, offset, length) == (0, bytes(disk[offset : offset + length]))
+    data = rng.randbytes(length) if kind == WRITE else b""
+    if client.ask(kind, offset, length, data, flags) != (0, b""):
+        return False
+    disk[offset : offset + length] = data or bytes(length)
+    return True
+
+
+def check_nbd_rows(folder):
+    """A sector is written and read, behind an option that isn't served or not."""
+    sector = b"\xaa" * 512
+    calls = request(WRITE, 1, 0, 512) + sector + request(READ, 2, 0, 512) + request(DISCONNECT, 3)
+    size = struct.pack(">QH", 1024 * MB, 0x2D)
+    other = struct.pack(">QIII", 0x0003E889045565A9, 7, 0x80000001, 0)
+    for name, asked, told in (("a sector over a pipe", b"", b""), ("behind an option that isn't served", option(7), other)):
+        (folder.path / "d.vhdx").unlink(missing_ok=True)
+        folder.make("dynamic", "d.vhdx", "--sectors", str(SECTORS))
+        status, out = Client(folder, "d.vhdx", "--workers", "0").end(FLAGS + asked + option(1) + calls)
+        wanted = GREETING + told + size + reply(1) + reply(2, sector)
+        tell(name, (status, out, len(wanted)) == (0, wanted, 572 + len(told)), f"{status} {out[:80]} {len(out)}")
+        found = folder.run("dump", "d.vhdx", "0", "1")[1]
+        tell(f"{name}: the dump", found == "0 " + "aa" * 512 + "\n", found[:40])
+    found = Client(folder, "e.vhdx", "--workers", "0").end(FLAGS)
+    tell("a client of a name that leads to no chain", found == (1, b""), repr(found))
+    found = Client(folder, "d.vhdx", "--workers", "0").end(FLAGS + option(2))
+    tell("a client that gives up", found == (0, GREETING + struct.pack(">QIII", 0x0003E889045565A9, 2, 1, 0)), repr(found))
+
+
+def check_nbd_merge(folder, source):
+    """Calls that look drawn while a file of the chain is merged by two workers: each is told what a model has, and so are a dump and a later client."""
+    disk = nbd_chain(folder, 64 * MB)
+    rng = random.Random(source)
+    client = Client(folder, "c.vhdx", "--workers", "2", "--merge", source)
+    tell(f"a client beside a merge of {source} begins", client.begin(len(disk)))
+    wrong = [i for i in range(300) if not nbd_call(client, disk, rng)]
+    tell(f"calls beside a merge of {source}", not wrong, f"the calls {wrong[:5]}")
+    found = client.end()
+    tell(f"a client beside a merge of {source} ends", found == (0, b""), repr(found))
+    chain = folder.run("info", "c.vhdx")[1]
+    tell(f"{source} has left the chain", "retired c.vhdx" in chain if source == "c.vhdx" else "m.vhdx" not in chain, chain)
+    well = all(shown_of(folder, first, 130) == disk[512 * first : 512 * (first + 130)] for first in range(0, 131072 - 130, 6007))
+    tell(f"dumps behind a merge of {source}", well)
+    client = Client(folder, "c.vhdx", "--workers", "0")
+    client.begin(len(disk))
+    halves = [client.ask(READ, 32 * MB * i, 32 * MB) == (0, bytes(disk[32 * MB * i : 32 * MB * (i + 1)])) for i in range(2)]
+    tell("reads of 32 MB", halves == [True, True], repr(halves))
+    errors = [client.ask(READ, 0, 32 * MB + more)[0] for more in (1, 512)] + [client.ask(READ, 64 * MB, 512)[0], client.ask(READ, 1, 512)[0]]
+    errors += [client.ask(WRITE, 64 * MB, data=bytes(512))[0], client.ask(9)[0], client.ask(READ, 64 * MB)[0]]
+    tell("requests that aren't done", errors == [22, 22, 22, 22, 28, 22, 0], repr(errors))
+    tell("a client behind them ends", client.end() == (0, b""))
+
+
+def check_nbd_stops(folder):
+    """A client that is killed in a write, and bytes that are no client's: the run is refused, and what was flushed is there."""
+    nbd_chain(folder, 64 * MB)
+    with subprocess.Popen(["cat"], stdin=subprocess.PIPE, stdout=subprocess.PIPE) as cat:
+        client = Client(folder, "c.vhdx", "--workers", "2", "--merge", "m.vhdx", stdin=cat.stdout)
+        cat.stdout.close()
+        client.send = lambda data: (cat.stdin.write(data), cat.stdin.flush())
+        tell("a client through another process", client.begin(64 * MB))
+        told = [client.ask(WRITE, 512, data=b"\xaa" * 512), client.ask(FLUSH)]
+        client.send(request(WRITE, 9, 1024, 65536) + b"\xbb" * 32768)
+        cat.kill()
+    out, _ = client.run.communicate()
+    client.timer.cancel()
+    tell("a client that is killed in a write", (told, out, client.run.returncode) == ([(0, b"")] * 2, b"", 1), f"{told} {out} {client.run.returncode}")
+    tell("what it leaves", shown_of(folder, 0, 4) == b"\1" * 512 + b"\xaa" * 512 + b"\1" * 1024)
+    tell("and the merge is finished", "m.vhdx" not in folder.run("info", "c.vhdx")[1])
+    rng = random.Random(0)
+    for name, data, told in (
+        ("nothing", b"", GREETING),
+        ("another protocol", b"GET / HTTP/1.1\r\n\r\n", GREETING),
+        ("garbage behind the flags", FLAGS + rng.randbytes(100000), GREETING),
+        ("garbage in place of a request", FLAGS + option(1) + rng.randbytes(100000), GREETING + struct.pack(">QH", 64 * MB, 0x2D)),
+    ):
+        found = Client(folder, "c.vhdx", "--workers", "0").end(data)
+        tell(f"{name} of a client", found == (1, told), repr(found))
+    tell("and the disk is as it was", shown_of(folder, 0, 4) == b"\1" * 512 + b"\xaa" * 512 + b"\1" * 1024)
+
+
+def check_nbd(program, room):
+    folder = Folder(program, room / "nbd")
+    folder.path.mkdir()
+    check_nbd_rows(folder)
+    for source in ("m.vhdx", "c.vhdx"):
+        check_nbd_merge(folder, source)
+    check_nbd_stops(folder)
+
+
 def main():
     if len(sys.argv) != 2:
         raise SystemExit(__doc__)
@@ -335,6 +519,7 @@ def main():
         check_pairs(folder)
         check_child(folder)
         check_loads(program, room)
+        check_nbd(program, room)
     print(f"{sum(results)} passed, {len(results) - sum(results)} failed")
     return 0 if all(results) else 1
 

@@ -46,7 +46,7 @@ fn ask_all<R: Abort>(rt: &R, alloc: Global, table: &Table) {
     }
 }
 
-// In two, since a large constant is checked as a whole.
+// In three, since a large constant is checked as a whole.
 static CALLS: [Table; 3] = [
     ("ranges", history::RANGES),
     ("lines are read", scripts::SCRIPTS),
@@ -56,6 +56,11 @@ static CALLS: [Table; 3] = [
 static WORDS: [Table; 2] = [
     ("lines ask for one thing", words::LINES),
     ("other lines ask for nothing", words::REFUSED),
+];
+
+static CLIENTS: [Table; 2] = [
+    ("lines ask for a client", words::CLIENTS),
+    ("other lines ask for none", words::NO_CLIENTS),
 ];
 
 fn ask_tables<R: Abort>(rt: &R, alloc: Global, tables: &[Table]) {
@@ -68,4 +73,5 @@ fn ask_tables<R: Abort>(rt: &R, alloc: Global, tables: &[Table]) {
 fn tables_of_questions(rt: HostRuntime) {
     ask_tables(&rt, rt.alloc(), &CALLS);
     ask_tables(&rt, rt.alloc(), &WORDS);
+    ask_tables(&rt, rt.alloc(), &CLIENTS);
 }

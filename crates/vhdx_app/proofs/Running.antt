@@ -1,6 +1,7 @@
 -- What a run does, from what its commands do.
-use Rattle.std.proofs.Common.{◌≡◌, ◌≢◌, ◌⊎◌, ℕ, Bool, List, [], Option, Some, None, refl, inl, inr, sym, ap, subst, ◌∙◌}
-use Rattle.std.specs.Prelude.{MatchOption, codes, option_map}
+use Rattle.std.proofs.Common.{◌≡◌, ◌≢◌, ◌⊎◌, ℕ, Bool, true, false, List, [], Option, Some, None, refl, inl, inr, sym, ap, ap₂, subst, ◌∙◌}
+use Rattle.std.specs.Prelude.{MatchOption, codes, option_map, slice_index_or}
+use Rattle.std.specs.Str.{bytes_eq}
 use Rattle.std.proofs.lemmas.Option.{same_Some}
 use Rattle.command_line.specs.Requests.{File, Wish, plain}
 use Rattle.command_line.specs.Requests as wish
@@ -18,12 +19,14 @@ use Rattle.link_rules.proofs.Safe.{none_safely}
 use Rattle.command_base.specs.Folders.{IsReplayedIn, OnlyFollows}
 use Rattle.printing.specs.Sent.{Sent, cut, whole}
 use Rattle.command_base.specs.Ends.{Ends, HasMerge}
-use Rattle.vhdx_app.specs.Runs.{AskMerge, FollowsFirst, IsMerging, IsRun, IsRunAlone, Runs, StartsNoThread, StartsThreads, no_memory, serving, usage}
+use Rattle.vhdx_app.specs.Runs.{AskMerge, FollowsFirst, IsMerging, IsRun, IsRunAlone, IsWant, Runs, RunsNothing, StartsNoThread, StartsThreads, WantsWords, begins_nbd, no_memory, serving, untold, usage}
 use Rattle.script.specs.declared.form.ScriptKind.TheVariants as kinds
 use Rattle.serve_command.specs.Serves as serves
 use Rattle.load_command.specs.Commands.{load_file, load_name}
 use Rattle.load_command.specs.Loads as loads
 use Rattle.load_command.specs.declared.commands.Command.TheVariants.{Make}
+use Rattle.nbd_command.specs.Nbd.{RunsNbd, connection}
+use Rattle.nbd_command.proofs.NbdRuns.{none_runs_so}
 use Rattle.steps_command.specs.Steps as steps
 use Rattle.command_base.specs.Worlds.{World, world}
 use Rattle.printing.specs.declared.status.Status.{Status}
@@ -89,6 +92,7 @@ module _ (words : List (List ℕ)) (told : Option Request) (h : MatchOption told
     where
       by_wish : (v : Wish) → Asks words v → serving (Some v) ≡ Some w → Asks words w
       by_wish (wish.serve l n m) asks e = subst (Asks words) (same_Some (wish.serve l n m) w e) asks
+      by_wish (wish.nbd l n m) asks e = subst (Asks words) (same_Some (wish.nbd l n m) w e) asks
       by_wish (wish.load seed) asks e = subst (Asks words) (same_Some (wish.load seed) w e) asks
       by_wish (wish.dump l first count) asks e = cc
       by_wish (wish.make name file) asks e = cc
@@ -108,6 +112,7 @@ module _ (words : List (List ℕ)) (told : Option Request) (h : MatchOption told
     where
       by_wish : (v : Wish) → StartsThreads v → serving (Some v) ≡ None → ⊥
       by_wish (wish.serve l n m) starts e = cc
+      by_wish (wish.nbd l n m) starts e = cc
       by_wish (wish.load seed) starts e = cc
       by_wish (wish.dump l first count) starts e = starts
       by_wish (wish.make name file) starts e = starts
@@ -180,6 +185,13 @@ no_memory_done : {before after : Option (List ℕ)} {old new : ℕ} {text : List
 no_memory_done (whole is sent same) done = let never : NoMemory ≡ Done = sym is ∙ done in cc
 no_memory_done (cut is n sent rose) done = let never : Fault ≡ Done = sym is ∙ done in cc
 
+-- words that begin with `nbd`, or don't
+none_begins : (words : List (List ℕ)) → begins_nbd words ≡ false → slice_index_or words 0 [] ≡ codes "nbd" → ⊥
+none_begins words other first = let never : true ≡ false = subst (λ w. bytes_eq w (codes "nbd") ≡ false) first other in cc
+
+other_begins : (words : List (List ℕ)) (word : List ℕ) → begins_nbd words ≡ true → bytes_eq word (codes "nbd") ≡ false → slice_index_or words 0 [] ≡ word → ⊥
+other_begins words word is other first = let never : true ≡ false = sym is ∙ ap (λ w. bytes_eq w (codes "nbd")) first ∙ other in cc
+
 module _ (host : Hosted) (drawn : Option (List (List ℕ))) (left : Option (List ℕ)) (rises : ℕ) (sunk after : Option (List ℕ)) (old new : ℕ) (status : Status) (idle : WhereTold host.folder AllIdle) where
   pub sent_ends : (meant : Status) (text : List ℕ) → (meant ≡ Fault → ⊥) → Sent sunk after old new meant text status → {merges : Type 0} → Ends merges (world host drawn left rises sunk old) (world host drawn left rises after new) status
   sent_ends meant text none sent = record {
@@ -189,13 +201,15 @@ module _ (host : Hosted) (drawn : Option (List (List ℕ))) (left : Option (List
     idle = λ fault none f told. idle;
   }
 
-  pub no_memory_runs : Sent sunk after old new NoMemory (codes "no memory\n") status → (w : Wish) → Runs w (world host drawn left rises sunk old) (world host drawn left rises after new) status
-  no_memory_runs sent (wish.dump leaf first count) = record { printed = record { meant = NoMemory; text = codes "no memory\n"; said = refl; sent = sent }; follows = follows_first leaf _ _ status (follows_none leaf host) (λ shown. absurd (no_memory_shown _ _ _ _ _ _ sent shown)) (none_safely (λ f. IsOnWay (contents f) leaf) host) refl refl }
-  no_memory_runs sent (wish.info leaf) = record { printed = record { meant = NoMemory; text = codes "no memory\n"; said = refl; sent = sent }; follows = follows_first leaf _ _ status (follows_none leaf host) (λ shown. absurd (no_memory_shown _ _ _ _ _ _ sent shown)) (none_safely (λ f. IsOnWay (contents f) leaf) host) refl refl }
-  no_memory_runs sent (wish.make name file) = record { printed = record { meant = NoMemory; text = codes "no memory\n"; said = refl; sent = sent }; kept = λ done fault. looks_still file host; others = adds_none name file host; moments = still_making name file host; unread = refl }
-  no_memory_runs sent (wish.steps leaf merge read_only) = steps.unread (unread_runs kinds.Steps leaf ⊥ (world host drawn left rises sunk old) (world host drawn left rises after new) status refl refl NoMemory (codes "no memory\n") sent refl (none_taken left))
-  no_memory_runs sent (wish.serve leaf workers merge) = serves.unread (unread_runs kinds.Serve leaf ⊥ (world host drawn left rises sunk old) (world host drawn left rises after new) status refl refl NoMemory (codes "no memory\n") sent refl (none_taken left))
-  no_memory_runs sent (wish.check name) = record {
+  -- it is told, but where the words begin with `nbd`
+  no_memory_runs : (words : List (List ℕ)) → begins_nbd words ≡ false → Sent sunk after old new NoMemory (codes "no memory\n") status → (w : Wish) → Asks words w → Runs w (world host drawn left rises sunk old) (world host drawn left rises after new) status
+  no_memory_runs words other sent (wish.dump leaf first count) asks = record { printed = record { meant = NoMemory; text = codes "no memory\n"; said = refl; sent = sent }; follows = follows_first leaf _ _ status (follows_none leaf host) (λ shown. absurd (no_memory_shown _ _ _ _ _ _ sent shown)) (none_safely (λ f. IsOnWay (contents f) leaf) host) refl refl }
+  no_memory_runs words other sent (wish.info leaf) asks = record { printed = record { meant = NoMemory; text = codes "no memory\n"; said = refl; sent = sent }; follows = follows_first leaf _ _ status (follows_none leaf host) (λ shown. absurd (no_memory_shown _ _ _ _ _ _ sent shown)) (none_safely (λ f. IsOnWay (contents f) leaf) host) refl refl }
+  no_memory_runs words other sent (wish.make name file) asks = record { printed = record { meant = NoMemory; text = codes "no memory\n"; said = refl; sent = sent }; kept = λ done fault. looks_still file host; others = adds_none name file host; moments = still_making name file host; unread = refl }
+  no_memory_runs words other sent (wish.steps leaf merge read_only) asks = steps.unread (unread_runs kinds.Steps leaf ⊥ (world host drawn left rises sunk old) (world host drawn left rises after new) status refl refl NoMemory (codes "no memory\n") sent refl (none_taken left))
+  no_memory_runs words other sent (wish.serve leaf workers merge) asks = serves.unread (unread_runs kinds.Serve leaf ⊥ (world host drawn left rises sunk old) (world host drawn left rises after new) status refl refl NoMemory (codes "no memory\n") sent refl (none_taken left))
+  no_memory_runs words other sent (wish.nbd leaf workers merge) asks = absurd (none_begins words other asks.command.command)
+  no_memory_runs words other sent (wish.check name) asks = record {
     printed = record { meant = NoMemory; text = codes "no memory\n"; said = refl; sent = sent };
     looks = looks_none name host;
     replayed = λ shown. absurd (no_memory_found _ _ _ _ _ _ sent shown);
@@ -203,7 +217,7 @@ module _ (host : Hosted) (drawn : Option (List (List ℕ))) (left : Option (List
     undrawn = refl;
     unread = refl;
   }
-  no_memory_runs sent (wish.repair name) = record {
+  no_memory_runs words other sent (wish.repair name) asks = record {
     printed = record { meant = NoMemory; text = codes "no memory\n"; said = refl; sent = sent };
     kept = λ refused. absurd (no_memory_not_refused _ _ _ _ _ _ sent refused);
     only = still_repaired name host host refl;
@@ -211,7 +225,7 @@ module _ (host : Hosted) (drawn : Option (List (List ℕ))) (left : Option (List
     drawn = inl refl;
     unread = refl;
   }
-  no_memory_runs sent (wish.load seed) =
+  no_memory_runs words other sent (wish.load seed) asks =
       loads.stopped
       (record {
         done = [];
@@ -226,19 +240,59 @@ module _ (host : Hosted) (drawn : Option (List (List ℕ))) (left : Option (List
             (λ done. no_memory_done sent done);
       })
       refl
-  no_memory_runs sent wish.help = record { printed = record { meant = NoMemory; text = codes "no memory\n"; said = refl; sent = sent }; stays = refl }
-  no_memory_runs sent wish.version = record { printed = record { meant = NoMemory; text = codes "no memory\n"; said = refl; sent = sent }; stays = refl }
+  no_memory_runs words other sent wish.help asks = record { printed = record { meant = NoMemory; text = codes "no memory\n"; said = refl; sent = sent }; stays = refl }
+  no_memory_runs words other sent wish.version asks = record { printed = record { meant = NoMemory; text = codes "no memory\n"; said = refl; sent = sent }; stays = refl }
+
+  -- and it is not where they do
+  untold_runs : (words : List (List ℕ)) → begins_nbd words ≡ true → status ≡ NoMemory → after ≡ sunk → new ≡ old → (w : Wish) → Asks words w → Runs w (world host drawn left rises sunk old) (world host drawn left rises after new) status
+  untold_runs words is meant written faults (wish.dump leaf first count) asks = absurd (other_begins words (codes "dump") is refl asks.command.command)
+  untold_runs words is meant written faults (wish.info leaf) asks = absurd (other_begins words (codes "info") is refl asks.command.command)
+  untold_runs words is meant written faults (wish.make name (wish.fixed sectors block)) asks = absurd (other_begins words (codes "make") is refl asks.0.command.command)
+  untold_runs words is meant written faults (wish.make name (wish.dynamic sectors block)) asks = absurd (other_begins words (codes "make") is refl asks.0.command.command)
+  untold_runs words is meant written faults (wish.make name (wish.child parent block)) asks = absurd (other_begins words (codes "make") is refl asks.0.command.command)
+  untold_runs words is meant written faults (wish.steps leaf merge read_only) asks = absurd (other_begins words (codes "steps") is refl asks.command.command)
+  untold_runs words is meant written faults (wish.serve leaf workers merge) asks = absurd (other_begins words (codes "serve") is refl asks.command.command)
+  untold_runs words is meant written faults (wish.nbd leaf workers merge) asks =
+      subst (RunsNbd leaf merge (world host drawn left rises sunk old) (world host drawn left rises after new)) (sym meant)
+      (none_runs_so leaf merge (world host drawn left rises sunk old) (world host drawn left rises after new) idle (ap₂ (λ w f. connection left rises w f) written faults) refl refl).0
+  untold_runs words is meant written faults (wish.check name) asks = absurd (other_begins words (codes "check") is refl asks.command.command)
+  untold_runs words is meant written faults (wish.repair name) asks = absurd (other_begins words (codes "repair") is refl asks.command.command)
+  untold_runs words is meant written faults (wish.load seed) asks = absurd (other_begins words (codes "load") is refl asks.command.command)
+  untold_runs words is meant written faults wish.help asks = absurd (other_begins words (codes "--help") is refl asks)
+  untold_runs words is meant written faults wish.version asks = absurd (other_begins words (codes "--version") is refl asks)
 
   -- memory ran out for the words
-  pub no_memory_is_run : (words : List (List ℕ)) → Sent sunk after old new NoMemory (codes "no memory\n") status → IsRun words (world host drawn left rises sunk old) (world host drawn left rises after new) status
-  no_memory_is_run words sent = record {
-    asked = λ w asks. no_memory_runs sent w;
-    nothing = λ nothing. no_memory refl sent;
-    ends = sent_ends NoMemory (codes "no memory\n") (λ e. cc) sent;
-  }
+  module _ (words : List (List ℕ)) where
+    abbrev before : World
+    before = world host drawn left rises sunk old
 
-  pub no_memory_alone : (words : List (List ℕ)) → Sent sunk after old new NoMemory (codes "no memory\n") status → IsRunAlone words (world host drawn left rises sunk old) (world host drawn left rises after new) status
-  no_memory_alone words sent = record { alone = λ none. no_memory_is_run words sent; other = λ w asks starts. no_memory refl sent }
+    abbrev now : World
+    now = world host drawn left rises after new
+
+    untold_ends : status ≡ NoMemory → new ≡ old → {merges : Type 0} → Ends merges before now status
+    untold_ends meant faults = record {
+      rose = λ fault. let never : NoMemory ≡ Fault = sym meant ∙ fault in cc;
+      quiet = λ fault. (refl, refl, faults);
+      home = home_still host.folder host.folder idle refl;
+      idle = λ fault none f told. idle;
+    }
+
+    same_now : after ≡ sunk → new ≡ old → now ≡ before
+    same_now written faults = ap₂ (λ w f. world host drawn left rises w f) written faults
+
+    wants : (b : Bool) → begins_nbd words ≡ b → IsWant b sunk old after new status → IsRun words before now status
+    wants true is w = record { asked = untold_runs words is w.0 w.1 w.2; nothing = λ nothing. untold w.0 (same_now w.1 w.2); ends = untold_ends w.0 w.2 }
+    wants false is sent = record { asked = no_memory_runs words is sent; nothing = λ nothing. no_memory refl sent; ends = sent_ends NoMemory (codes "no memory\n") (λ e. cc) sent }
+
+    wants_nothing : (b : Bool) → IsWant b sunk old after new status → RunsNothing before now status
+    wants_nothing true w = untold w.0 (same_now w.1 w.2)
+    wants_nothing false sent = no_memory refl sent
+
+    pub wants_is_run : WantsWords words sunk old after new status → IsRun words before now status
+    wants_is_run w = wants (begins_nbd words) refl w
+
+    pub wants_alone : WantsWords words sunk old after new status → IsRunAlone words before now status
+    wants_alone w = record { alone = λ none. wants_is_run w; other = λ v asks starts. wants_nothing (begins_nbd words) w }
 
 pub usage_ends : (host : Hosted) (drawn : Option (List (List ℕ))) (left : Option (List ℕ)) (rises : ℕ) (sunk : Option (List ℕ)) (old : ℕ) (status : Status) → WhereTold host.folder AllIdle → status ≡ Usage → {merges : Type 0} → Ends merges (world host drawn left rises sunk old) (world host drawn left rises sunk old) status
 usage_ends host drawn left rises sunk old status idle is = record { rose = λ fault. let e : Usage ≡ Fault = sym is ∙ fault in cc; quiet = λ fault. (refl, refl, refl); home = home_still host.folder host.folder idle refl; idle = λ fault none f told. idle }

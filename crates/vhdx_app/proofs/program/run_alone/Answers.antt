@@ -1,10 +1,10 @@
 use Rattle.std.proofs.Common.{Some, ap, refl, ◌∙◌}
 use Rattle.std.specs.Prelude.{option_map}
 use Rattle.command_line.specs.Words.{help_text, version_text}
-use Rattle.command_line.specs.declared.request.Request.TheVariants.{Check, Dump, Info, Load, Make, Help, Repair, Serve, Steps, Version}
+use Rattle.command_line.specs.declared.request.Request.TheVariants.{Check, Dump, Info, Load, Make, Help, Nbd, Repair, Serve, Steps, Version}
 use Rattle.command_base.specs.Worlds.{World, world}
 use Rattle.printing.specs.declared.status.Status.TheVariants.{Done}
-use Rattle.vhdx_app.proofs.Running.{command_ends, made_ends, follows_first, followed_ends, merge_ends, no_memory_alone, none_alone, sent_ends, serve_alone, told_alone, usage_ends}
+use Rattle.vhdx_app.proofs.Running.{command_ends, made_ends, follows_first, followed_ends, merge_ends, none_alone, sent_ends, serve_alone, told_alone, usage_ends, wants_alone}
 use Rattle.command_base.proofs.Home.{home_looked, home_repaired}
 use Rattle.printing.proofs.Saying.{text_sent}
 use Rattle.vhdx_app.proofs.program.run_alone.Goals as goal
@@ -83,7 +83,7 @@ pub returns-in-Ok-None : goal.returns-in-Ok-None
 returns-in-Ok-None g c = none_alone _ _ c.in-Ok-None.ensures c.in-Ok-None.field-0-is _ _ refl (usage_ends _ _ _ _ _ _ _ c.requires refl)
 
 pub returns-in-Err : goal.returns-in-Err
-returns-in-Err g c = no_memory_alone _ _ _ _ _ _ _ _ _ c.requires _ c.out_of_memory.ensures
+returns-in-Err g c = wants_alone _ _ _ _ _ _ _ _ _ c.requires _ c.want_of_words.ensures
 
 pub returns-in-Ok-Some-Serve : goal.returns-in-Ok-Some-Serve
 returns-in-Ok-Some-Serve g c =
@@ -94,3 +94,8 @@ pub returns-in-Ok-Some-Load : goal.returns-in-Ok-Some-Load
 returns-in-Ok-Some-Load g c =
     let asked = c.in-Ok-Some-Load in
     serve_alone _ _ asked.ensures (Load asked.field-0-0-0) (asked.field-0-is ∙ ap Some asked.field-0-0-is) tt _ _ refl
+
+pub returns-in-Ok-Some-Nbd : goal.returns-in-Ok-Some-Nbd
+returns-in-Ok-Some-Nbd g c =
+    let asked = c.in-Ok-Some-Nbd in
+    serve_alone _ _ asked.ensures (Nbd asked.field-0-0-0 asked.field-0-0-1 asked.field-0-0-2) (asked.field-0-is ∙ ap Some asked.field-0-0-is) tt _ _ refl

@@ -1,0 +1,4 @@
+pub mod Statuses
+pub mod Clients
+pub mod Replied
+pub mod NbdRuns

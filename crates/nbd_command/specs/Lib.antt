@@ -1,0 +1,2 @@
+pub mod Nbd
+pub mod Clients
